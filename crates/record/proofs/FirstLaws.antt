@@ -1,0 +1,57 @@
+-- The first number that refuses: of a list, and of the rows of a section.
+use mathlib.Core.Path.{_≡_, refl, sym, ap, _∙_}
+use mathlib.Core.List.{List, [], _∷_, map}
+use Prim.Native.Nat.{ℕ, zero, suc, _+_, _-_, _*_, _<_, _≤_}
+use native.Mathlib.Omega.{arith}
+use lib.ListN.{length}
+use Rattle.record.specs.Rows.{rowsAt}
+use Rattle.record.specs.Refusal.{firstOf, firstIn}
+use Rattle.record.proofs.RowLaws.{rows-none, rows-more, map-rows-same}
+
+pub first-none : firstOf [] ≡ 0
+unfolding firstOf
+first-none = refl
+
+pub first-pass : (n : ℕ) (ns : List ℕ) → n ≡ 0 → firstOf (n ∷ ns) ≡ firstOf ns
+unfolding firstOf
+first-pass zero ns e = refl
+first-pass (suc n) ns e = absurd (omega arith)
+
+pub first-stop : (n : ℕ) (ns : List ℕ) → (n ≡ 0 → ⊥) → firstOf (n ∷ ns) ≡ n
+unfolding firstOf
+first-stop zero ns h = absurd (h refl)
+first-stop (suc n) ns h = refl
+
+-- nothing refuses: neither the first number nor one behind it
+pub first-zero : (n : ℕ) (ns : List ℕ) → firstOf (n ∷ ns) ≡ 0 → (n ≡ 0) × (firstOf ns ≡ 0)
+unfolding firstOf
+first-zero zero ns h = (refl, h)
+first-zero (suc n) ns h = absurd (omega arith)
+
+-- a list of one number
+pub first-one : (n : ℕ) → firstOf (n ∷ []) ≡ n
+unfolding firstOf
+first-one zero = refl
+first-one (suc n) = refl
+
+module _ {A : Type 0} (number : A → ℕ) (row : ℕ → A) (width : ℕ) (xs : List ℕ) where
+  pub first-rows-none : (at : ℕ) → firstIn number (rowsAt row width xs at 0) ≡ 0
+  unfolding firstIn firstOf
+  first-rows-none at = simp (rows-none row width xs at)
+
+  pub first-rows-pass : (at n : ℕ) → 0 < n → at + width ≤ length xs → number (row at) ≡ 0
+      → firstIn number (rowsAt row width xs at n) ≡ firstIn number (rowsAt row width xs (at + width) (n - 1))
+  unfolding firstIn
+  first-rows-pass at n p h e = rw (rows-more row width xs at n p h) (first-pass _ _ e)
+
+  pub first-rows-stop : (at n : ℕ) → 0 < n → at + width ≤ length xs → (number (row at) ≡ 0 → ⊥)
+      → firstIn number (rowsAt row width xs at n) ≡ number (row at)
+  unfolding firstIn
+  first-rows-stop at n p h e = rw (rows-more row width xs at n p h) (first-stop _ _ e)
+
+-- two sections whose rows are numbered alike
+pub first-rows-same : {A B : Type 0} (f : A → ℕ) (row : ℕ → A) (g : B → ℕ) (row′ : ℕ → B) (width : ℕ) (xs : List ℕ)
+    → ((at : ℕ) → f (row at) ≡ g (row′ at)) → (at n : ℕ)
+    → firstIn f (rowsAt row width xs at n) ≡ firstIn g (rowsAt row′ width xs at n)
+unfolding firstIn
+first-rows-same f row g row′ width xs e at n = ap firstOf (map-rows-same f row g row′ width xs e at n)

@@ -1,0 +1,242 @@
+-- A pass over numbers that marks the place of each finds a repeat exactly where there is one, if no two numbers share a place.
+use mathlib.Core.Path.{_≡_, refl, sym, ap, ap₂, _∙_}
+use mathlib.Core.Bool.{Bool, true, false, _||_, _&&_}
+use mathlib.Core.List.{List, [], _∷_, map}
+use Prim.Native.Nat.{ℕ, zero, suc, _+_, _-_, _*_, _/_, _%_, _<_, _≤_}
+use native.Mathlib.Omega.{arith}
+use borrow.Author.Tests.{leb-true, eqb-true, eq-eqb, ne-eqb}
+use lib.Dec.{eqb, ltb, leb}
+use lib.ListN.{length, replicate}
+use Rattle.lists.specs.Lists.{anyOf, allOf, twice}
+use Rattle.lists.proofs.BoolLaws.{cases, clash, and-left, and-right}
+use Rattle.bitset.specs.Bitset.{isMarked, marking}
+use Rattle.bitset.proofs.BitsetLaws.{none-marked, marked-after}
+use Rattle.record.specs.declared.tag.CountryTag.{CountryTag}
+use Rattle.record.specs.Tags.{tagByte, isTag}
+use Rattle.record.specs.declared.head.Head.{Head}
+use Rattle.record.specs.Bytes.{tagAt, idAt}
+use Rattle.record.specs.Head.{headOf, countriesAt, provincesAt}
+use Rattle.record.specs.Rows.{rowsAt, countryAt, provinceAt, PackedCountry, PackedProvince}
+use Rattle.record.specs.Campaign.{countryRows, provinceRows}
+use Rattle.record.specs.Refusal.{firstOf, firstIn, countryNumber, fieldsNumber, tagTwice, idTwiceOrAbove}
+use Rattle.record.proofs.RowLaws.{rows-none, rows-more, map-rows}
+use Rattle.record.proofs.FirstLaws.{first-zero}
+
+-- a number of the list is marked, or stands twice in it
+unfoldable pub repeats : (ℕ → ℕ) → List ℕ → List ℕ → Bool
+repeats place seen ys = anyOf (λ y. isMarked seen (place y)) ys || twice ys
+
+any-none : {A : Type 0} (p : A → Bool) (ys : List A) → ((y : A) → p y ≡ false) → anyOf p ys ≡ false
+any-none p [] h = refl
+any-none p (y ∷ ys) h = simp (h y) (any-none p ys h)
+
+any-or : (p q r : ℕ → Bool) (good : ℕ → Bool) (ys : List ℕ) → ((y : ℕ) → good y ≡ true → r y ≡ p y || q y) → allOf good ys ≡ true
+    → anyOf r ys ≡ anyOf p ys || anyOf q ys
+any-or p q r good [] h g = refl
+any-or p q r good (y ∷ ys) h g =
+    let ih = any-or p q r good ys h (and-right (good y) (allOf good ys) g) in
+    let e = h y (and-left (good y) (allOf good ys) g) in
+    simp (e, ih) (or-four (p y) (q y) (anyOf p ys) (anyOf q ys))
+  where
+    or-four : (a b c d : Bool) → (a || b) || (c || d) ≡ (a || c) || (b || d)
+    or-four true b c d = refl
+    or-four false true true d = refl
+    or-four false true false d = refl
+    or-four false false true d = refl
+    or-four false false false d = refl
+
+eqb-sym : (a b : ℕ) → eqb a b ≡ eqb b a
+eqb-sym a b =
+    cases (eqb b a)
+    (λ h. eq-eqb a b (sym (eqb-true b a h)) ∙ sym h)
+    (λ h. ne-eqb a b (λ e. clash (eqb b a) (eq-eqb b a (sym e)) h) ∙ sym h)
+
+all-true : (ys : List ℕ) → allOf (λ _. true) ys ≡ true
+all-true [] = refl
+all-true (y ∷ ys) = all-true ys
+
+module _ (place : ℕ → ℕ) where
+  pub repeats-start : (n : ℕ) (ys : List ℕ) → repeats place (replicate n 0) ys ≡ twice ys
+  unfolding repeats
+  repeats-start n ys = simp (any-none (λ y. isMarked (replicate n 0) (place y)) ys (λ y. none-marked n (place y)))
+
+  pub repeats-nil : (seen : List ℕ) → repeats place seen [] ≡ false
+  unfolding repeats
+  repeats-nil seen = refl
+
+  pub repeats-hit : (seen : List ℕ) (x : ℕ) (ys : List ℕ) → isMarked seen (place x) ≡ true → repeats place seen (x ∷ ys) ≡ true
+  unfolding repeats
+  repeats-hit seen x ys h = simp h
+
+  pub repeats-mark : (good : ℕ → Bool) (seen : List ℕ) (x : ℕ) (ys : List ℕ)
+      → ((y : ℕ) → good y ≡ true → eqb (place y) (place x) ≡ eqb x y) → allOf good ys ≡ true
+      → isMarked seen (place x) ≡ false → place x < 64 * length seen
+      → repeats place seen (x ∷ ys) ≡ repeats place (marking seen (place x)) ys
+  unfolding repeats
+  repeats-mark good seen x ys apart g h room =
+      let after : (y : ℕ) → good y ≡ true → isMarked (marking seen (place x)) (place y) ≡ eqb x y || isMarked seen (place y) =
+            λ y gy. marked-after seen (place x) (place y) room ∙ ap (λ b. b || isMarked seen (place y)) (apart y gy) in
+      let all = any-or (eqb x) (λ y. isMarked seen (place y)) (λ y. isMarked (marking seen (place x)) (place y)) good ys after g in
+      simp (h, all) (or-swap (anyOf (λ y. isMarked seen (place y)) ys) (anyOf (eqb x) ys) (twice ys))
+    where
+      or-swap : (a b c : Bool) → a || (b || c) ≡ (b || a) || c
+      or-swap true true c = refl
+      or-swap true false c = refl
+      or-swap false true c = refl
+      or-swap false false c = refl
+
+-- ## Places of tags
+
+-- a tag's place, of its word
+abbrev pub placeOf : ℕ → ℕ
+placeOf w = (w / 65536 - 45) * 6084 + (w / 256 % 256 - 45) * 78 + (w % 256 - 45)
+
+pub byte-range : (b : ℕ) → tagByte b ≡ true → (45 ≤ b) × (b ≤ 122)
+unfolding tagByte
+byte-range b h =
+    cases (leb 48 b && leb b 57)
+    (λ d. between 48 57 d (omega arith) (omega arith))
+    (λ d. cases (leb 65 b && leb b 90)
+    (λ u. between 65 90 u (omega arith) (omega arith))
+    (λ u. cases (leb 97 b && leb b 122)
+    (λ l. between 97 122 l (omega arith) (omega arith))
+    (λ l. let e : b ≡ 45 = eqb-true b 45 (simp (d, u, l) at h) in (omega arith, omega arith))))
+  where
+    between : (low high : ℕ) → leb low b && leb b high ≡ true → 45 ≤ low → high ≤ 122 → (45 ≤ b) × (b ≤ 122)
+    between low high t hl hh =
+        let p = leb-true low b (and-left (leb low b) (leb b high) t) in
+        let q = leb-true b high (and-right (leb low b) (leb b high) t) in
+        (omega (arith, p, hl), omega (arith, q, hh))
+
+pub record Bytes (w : ℕ) : Type 0 where
+  pub first : (45 ≤ w / 65536) × (w / 65536 ≤ 122)
+  pub second : (45 ≤ w / 256 % 256) × (w / 256 % 256 ≤ 122)
+  pub third : (45 ≤ w % 256) × (w % 256 ≤ 122)
+
+pub tag-bytes : (t : CountryTag) → isTag t ≡ true → Bytes (t .0)
+unfolding isTag
+tag-bytes t h =
+    let a = tagByte (t .0 / 65536) in
+    let b = tagByte (t .0 / 256 % 256) in
+    let c = tagByte (t .0 % 256) in
+    let ab = and-left (a && b) c h in
+    record {
+      first = byte-range (t .0 / 65536) (and-left a b ab);
+      second = byte-range (t .0 / 256 % 256) (and-right a b ab);
+      third = byte-range (t .0 % 256) (and-right (a && b) c h);
+    }
+
+pub place-small : (w : ℕ) → Bytes w → placeOf w < 474552
+place-small w h = omega (arith, h .first, h .second, h .third)
+
+-- three digits below 78 are told apart by their number
+digits-apart : (a b c x y z : ℕ) → b < 78 → c < 78 → y < 78 → z < 78 → a * 6084 + b * 78 + c ≡ x * 6084 + y * 78 + z → (a ≡ x) × (b ≡ y) × (c ≡ z)
+digits-apart a b c x y z hb hc hy hz e = (omega arith, omega arith, omega arith)
+
+word-parts : (w : ℕ) → w ≡ w / 65536 * 65536 + w / 256 % 256 * 256 + w % 256
+word-parts w = omega arith
+
+less-same : (a b : ℕ) → 45 ≤ a → 45 ≤ b → a - 45 ≡ b - 45 → a ≡ b
+less-same a b p q e = omega arith
+
+place-apart : (v w : ℕ) → Bytes v → Bytes w → placeOf v ≡ placeOf w → v ≡ w
+place-apart v w hv hw e =
+    let d = digits-apart (v / 65536 - 45) (v / 256 % 256 - 45) (v % 256 - 45) (w / 65536 - 45) (w / 256 % 256 - 45) (w % 256 - 45)
+              (omega (arith, hv .second)) (omega (arith, hv .third)) (omega (arith, hw .second)) (omega (arith, hw .third)) e in
+    let a = less-same (v / 65536) (w / 65536) (hv .first .0) (hw .first .0) (d .0) in
+    let b = less-same (v / 256 % 256) (w / 256 % 256) (hv .second .0) (hw .second .0) (d .1) in
+    let c = less-same (v % 256) (w % 256) (hv .third .0) (hw .third .0) (d .2) in
+    word-parts v ∙ ap (λ (x : ℕ). x * 65536 + v / 256 % 256 * 256 + v % 256) a
+    ∙ ap (λ (x : ℕ). w / 65536 * 65536 + x * 256 + v % 256) b
+    ∙ ap (λ (x : ℕ). w / 65536 * 65536 + w / 256 % 256 * 256 + x) c
+    ∙ sym (word-parts w)
+
+pub place-same : (x : ℕ) → isTag (record { 0 = x }) ≡ true → (y : ℕ) → isTag (record { 0 = y }) ≡ true → eqb (placeOf y) (placeOf x) ≡ eqb x y
+place-same x hx y hy =
+    cases (eqb x y)
+    (λ h. let e : x ≡ y = eqb-true x y h in simp h (eq-eqb (placeOf y) (placeOf x) (ap placeOf (sym e))))
+    (λ h. simp h (ne-eqb (placeOf y) (placeOf x) (λ e. clash (eqb x y) (eq-eqb x y (place-apart x y (tag-bytes (record { 0 = x }) hx) (tag-bytes (record { 0 = y }) hy) (sym e))) h)))
+
+-- ## One row of a pass
+
+-- a word that is a tag's
+abbrev pub tagWord : ℕ → Bool
+tagWord w = isTag (record { 0 = w })
+
+module _ (word : ℕ → ℕ) (width : ℕ) (xs : List ℕ) (at n : ℕ) (some : 0 < n) (inside : at + width ≤ length xs) where
+  pub rows-good : allOf tagWord (rowsAt word width xs at n) ≡ true
+      → (tagWord (word at) ≡ true) × (allOf tagWord (rowsAt word width xs (at + width) (n - 1)) ≡ true)
+  rows-good h =
+      let g = sym (ap (allOf tagWord) (rows-more word width xs at n some inside)) ∙ h in
+      (and-left (tagWord (word at)) _ g, and-right (tagWord (word at)) _ g)
+
+  pub rows-hit : (place : ℕ → ℕ) (seen : List ℕ) → isMarked seen (place (word at)) ≡ true
+      → repeats place seen (rowsAt word width xs at n) ≡ true
+  rows-hit place seen h = ap (repeats place seen) (rows-more word width xs at n some inside) ∙ repeats-hit place seen _ _ h
+
+  pub tag-marked : (seen : List ℕ) → length seen ≡ 7415 → allOf tagWord (rowsAt word width xs at n) ≡ true
+      → isMarked seen (placeOf (word at)) ≡ false
+      → repeats placeOf seen (rowsAt word width xs at n)
+        ≡ repeats placeOf (marking seen (placeOf (word at))) (rowsAt word width xs (at + width) (n - 1))
+  tag-marked seen size good h =
+      let g = rows-good good in
+      let small = place-small (word at) (tag-bytes (record { 0 = word at }) (g .0)) in
+      ap (repeats placeOf seen) (rows-more word width xs at n some inside)
+      ∙ repeats-mark placeOf tagWord seen (word at) _ (place-same (word at) (g .0)) (g .1) h (omega (arith, small, size))
+
+  pub number-marked : (seen : List ℕ) → word at < 64 * length seen → isMarked seen (word at) ≡ false
+      → repeats (λ (k : ℕ). k) seen (rowsAt word width xs at n)
+        ≡ repeats (λ (k : ℕ). k) (marking seen (word at)) (rowsAt word width xs (at + width) (n - 1))
+  number-marked seen small h =
+      ap (repeats (λ (k : ℕ). k) seen) (rows-more word width xs at n some inside)
+      ∙ repeats-mark (λ (k : ℕ). k) (λ _. true) seen (word at) _ (λ y _. eqb-sym y (word at)) (all-true (rowsAt word width xs (at + width) (n - 1))) h small
+
+  -- a number above a bound, at this row or behind it
+  pub rows-above : (bound : ℕ) → ltb bound (word at) ≡ true → anyOf (ltb bound) (rowsAt word width xs at n) ≡ true
+  rows-above bound h = ap (anyOf (ltb bound)) (rows-more word width xs at n some inside) ∙ simp h
+
+  pub rows-not-above : (bound : ℕ) → ltb bound (word at) ≡ false
+      → anyOf (ltb bound) (rowsAt word width xs at n) ≡ anyOf (ltb bound) (rowsAt word width xs (at + width) (n - 1))
+  rows-not-above bound h = ap (anyOf (ltb bound)) (rows-more word width xs at n some inside) ∙ simp h
+
+-- ## The rows of a record
+
+-- a country that is not refused has a good tag
+country-tag : (r : PackedCountry) → countryNumber r ≡ 0 → isTag (r .tag) ≡ true
+unfolding countryNumber firstOf
+country-tag r h = cases (isTag (r .tag)) (λ g. g) (λ g. absurd (four (simp g at h)))
+  where
+    four : _≡_ {A = ℕ} 4 0 → ⊥
+    four e = omega arith
+
+pub countries-good : (xs : List ℕ) (at n : ℕ) → firstIn countryNumber (rowsAt (countryAt xs) 12 xs at n) ≡ 0
+    → allOf tagWord (rowsAt (λ (a : ℕ). tagAt xs a .0) 12 xs at n) ≡ true
+unfolding rowsAt firstIn countryAt isTag
+countries-good xs at zero h = refl
+countries-good xs at (suc n) h =
+    cases (leb (at + 12) (length xs))
+    (λ i. let z = first-zero (countryNumber (countryAt xs at)) _ (simp i at h) in simp (i, country-tag (countryAt xs at) (z .0)) (countries-good xs (at + 12) n (z .1)))
+    (λ i. simp i)
+
+pub fields-countries : (xs : List ℕ) → fieldsNumber xs ≡ 0 → firstIn countryNumber (countryRows xs) ≡ 0
+unfolding fieldsNumber
+fields-countries xs h = first-zero _ _ (first-zero _ _ h .1) .0
+
+any-map : {A B : Type 0} (p : B → Bool) (f : A → B) (l : List A) → anyOf (λ (x : A). p (f x)) l ≡ anyOf p (map f l)
+any-map p f [] = refl
+any-map p f (x ∷ l) = ap (λ b. p (f x) || b) (any-map p f l)
+
+pub tag-twice-told : (xs : List ℕ) (h : Head) → h ≡ headOf xs
+    → twice (rowsAt (λ (a : ℕ). tagAt xs a .0) 12 xs (countriesAt h) (h .countries)) ≡ tagTwice xs
+unfolding tagTwice countryAt
+tag-twice-told xs h e = rw e (ap twice (sym (map-rows (λ (r : PackedCountry). r .tag .0) (countryAt xs) 12 xs (countriesAt (headOf xs)) (headOf xs .countries))))
+
+pub id-twice-told : (xs : List ℕ) (h : Head) (at : ℕ) → h ≡ headOf xs → at ≡ provincesAt h
+    → twice (rowsAt (λ (a : ℕ). idAt xs a .0) 7 xs at (h .provinces)) || anyOf (ltb (h .provinces)) (rowsAt (λ (a : ℕ). idAt xs a .0) 7 xs at (h .provinces))
+      ≡ idTwiceOrAbove xs
+unfolding idTwiceOrAbove provinceAt
+id-twice-told xs h at e p =
+    let ids = map-rows (λ (r : PackedProvince). r .id .0) (provinceAt xs) 7 xs (provincesAt (headOf xs)) (headOf xs .provinces) in
+    rw (p, e)
+    (sym (ap₂ _||_ (ap twice ids)
+    (any-map (ltb (headOf xs .provinces)) (λ (r : PackedProvince). r .id .0) (provinceRows xs) ∙ ap (anyOf (ltb (headOf xs .provinces))) ids)))

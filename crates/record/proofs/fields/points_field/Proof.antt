@@ -1,0 +1,37 @@
+use mathlib.Core.Path.{_≡_, refl, sym, ap, _∙_}
+use Prim.Native.Nat.{ℕ, _+_, _*_, _≤_}
+use lib.ListN.{length}
+use mathlib.Core.List.{List}
+use Rattle.record.proofs.HeadLaws.{section-told}
+use Rattle.record.specs.declared.head.Head.{Head}
+use Rattle.record.specs.Rows.{rowsAt, pointAt}
+use Rattle.record.specs.Refusal.{firstIn, yearNumber}
+use Rattle.record.specs.Head.{pointsAt}
+use Rattle.record.specs.declared.rows.Point.{Point}
+use borrow.Author.Needs.{needs}
+use Rattle.record.proofs.fields.points_field.Statement.{statement}
+use Rattle.record.proofs.fields.points_field.Tie as tie
+use Rattle.record.proofs.fields.points_field.Reads as reads
+use Rattle.record.proofs.fields.points_field.Lts as lts
+use Rattle.record.proofs.fields.points_number.Reads as points-number-reads
+use Rattle.record.proofs.head.points_at.Reads as points-at-reads
+
+points-at-requires : tie.Need-points-at-requires
+points-at-requires c κs = search needs
+
+cast-points-number : tie.Need-cast-points-number
+cast-points-number c = search needs
+
+points-number-requires : tie.Need-points-number-requires
+points-number-requires c κs = search needs
+
+returns : tie.Need-returns
+returns c = 
+    let s0 = c .before .before .before .before in
+    let g = s0 .args in
+    c .points-number .ensures
+    ∙ section-told (firstIn (λ (p : Point). yearNumber (p .year))) (pointAt (g .s .now)) 6 (g .s .now) (λ h. pointsAt h) (λ h. h .points) (g .h) _ (s0 .pre .head) (c .before .before .points-at .ensures)
+
+pub points-field-spec : {M : Type 1} → statement M
+points-field-spec =
+    tie.close (tie.spec points-at-requires cast-points-number points-number-requires returns)

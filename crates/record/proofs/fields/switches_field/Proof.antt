@@ -1,0 +1,41 @@
+use mathlib.Core.Path.{_≡_, refl, sym, ap, _∙_}
+use Prim.Native.Nat.{ℕ, _+_, _*_, _≤_}
+use lib.ListN.{length}
+use mathlib.Core.List.{List}
+use Rattle.record.proofs.HeadLaws.{section-told}
+use Rattle.record.proofs.FirstLaws.{first-rows-same}
+use Rattle.record.specs.declared.head.Head.{Head}
+use Rattle.record.specs.Rows.{rowsAt, switchAt}
+use Rattle.record.specs.Refusal.{firstIn, switchNumber, ownerEventNumber}
+use Rattle.record.specs.Head.{switchesAt}
+use Rattle.record.specs.Rows.{ownerEventAt}
+use borrow.Author.Needs.{needs}
+use Rattle.record.proofs.fields.switches_field.Statement.{statement}
+use Rattle.record.proofs.fields.switches_field.Tie as tie
+use Rattle.record.proofs.fields.switches_field.Reads as reads
+use Rattle.record.proofs.fields.switches_field.Lts as lts
+use Rattle.record.proofs.fields.dated_rows_number.Reads as dated-rows-number-reads
+use Rattle.record.proofs.head.switches_at.Reads as switches-at-reads
+
+switches-at-requires : tie.Need-switches-at-requires
+switches-at-requires c κs = search needs
+
+cast-dated-rows-number : tie.Need-cast-dated-rows-number
+cast-dated-rows-number c = search needs
+
+dated-rows-number-requires : tie.Need-dated-rows-number-requires
+dated-rows-number-requires c κs = search needs
+
+returns : tie.Need-returns
+unfolding switchNumber ownerEventNumber switchAt ownerEventAt
+returns c = 
+    let s0 = c .before .before .before .before in
+    let g = s0 .args in
+    c .dated-rows-number .ensures
+    ∙ first-rows-same (ownerEventNumber) (ownerEventAt (g .s .now)) (switchNumber) (switchAt (g .s .now)) 7 (g .s .now) (λ (a : ℕ). refl) _ _
+    ∙ section-told (firstIn (switchNumber)) (switchAt (g .s .now)) 7 (g .s .now) (λ h. switchesAt h) (λ h. h .switches) (g .h) _ (s0 .pre .head) (c .before .before .switches-at .ensures)
+
+pub switches-field-spec : {M : Type 1} → statement M
+switches-field-spec =
+    tie.close
+    (tie.spec switches-at-requires cast-dated-rows-number dated-rows-number-requires returns)

@@ -1,0 +1,13 @@
+use mathlib.Core.Path.{_≡_, refl, sym, ap, _∙_}
+use Rattle.record.specs.Head.{withinLimits}
+use Rattle.record.proofs.head.within_limits.Statement.{statement}
+use Rattle.record.proofs.head.within_limits.Tie as tie
+use Rattle.record.proofs.head.within_limits.Reads as reads
+use Rattle.record.proofs.head.within_limits.Lts as lts
+
+returns : tie.Need-returns
+unfolding withinLimits
+returns c = refl
+
+pub within-limits-spec : {M : Type 1} → statement M
+within-limits-spec = tie.close (tie.spec returns)

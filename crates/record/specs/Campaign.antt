@@ -1,0 +1,127 @@
+-- 01, The packed record: the campaign that a record holds. Sections are grouped in the order of the rows that own them.
+use mathlib.Core.Bool.{Bool}
+use mathlib.Core.List.{List, [], _∷_}
+use Prim.Native.Nat.{ℕ}
+use lib.IntN.{ℤ}
+use lib.ListN.{take, drop}
+use Rattle.record.specs.declared.tag.CountryTag.{CountryTag}
+use Rattle.record.specs.declared.date.Eu4Date.{Eu4Date}
+use Rattle.record.specs.declared.head.Head.{Head}
+use Rattle.record.specs.declared.rows.ProvinceId.{ProvinceId}
+use Rattle.record.specs.declared.rows.Switch.{Switch}
+use Rattle.record.specs.declared.rows.OwnerEvent.{OwnerEvent}
+use Rattle.record.specs.declared.rows.WarEvent.{WarEvent}
+use Rattle.record.specs.declared.rows.Point.{Point}
+use Rattle.record.specs.Bytes.{bit, le16, tagAt}
+use Rattle.record.specs.Head.{headOf, countriesAt, previousAt, switchesAt, provincesAt, eventsAt, warsAt, warEventsAt, ledgersAt, pointsAt, stringsAt}
+use Rattle.record.specs.Rows.{rowsAt, PackedCountry, countryAt, switchAt, PackedProvince, provinceAt, ownerEventAt, warEventAt, PackedLedger, ledgerAt, pointAt, stringsFrom}
+
+-- ## The sections, flat
+
+abbrev pub countryRows : List ℕ → List PackedCountry
+countryRows xs = rowsAt (countryAt xs) 12 xs (countriesAt (headOf xs)) (headOf xs .countries)
+
+abbrev pub previousTags : List ℕ → List CountryTag
+previousTags xs = rowsAt (tagAt xs) 3 xs (previousAt (headOf xs)) (headOf xs .previous)
+
+abbrev pub switchRows : List ℕ → List Switch
+switchRows xs = rowsAt (switchAt xs) 7 xs (switchesAt (headOf xs)) (headOf xs .switches)
+
+abbrev pub provinceRows : List ℕ → List PackedProvince
+provinceRows xs = rowsAt (provinceAt xs) 7 xs (provincesAt (headOf xs)) (headOf xs .provinces)
+
+abbrev pub ownerEvents : List ℕ → List OwnerEvent
+ownerEvents xs = rowsAt (ownerEventAt xs) 7 xs (eventsAt (headOf xs)) (headOf xs .events)
+
+-- A war's row is the count of its events.
+abbrev pub warRows : List ℕ → List ℕ
+warRows xs = rowsAt (le16 xs) 2 xs (warsAt (headOf xs)) (headOf xs .wars)
+
+abbrev pub warEvents : List ℕ → List WarEvent
+warEvents xs = rowsAt (warEventAt xs) 8 xs (warEventsAt (headOf xs)) (headOf xs .«war_events»)
+
+abbrev pub ledgerRows : List ℕ → List PackedLedger
+ledgerRows xs = rowsAt (ledgerAt xs) 5 xs (ledgersAt (headOf xs)) (headOf xs .ledgers)
+
+abbrev pub points : List ℕ → List Point
+points xs = rowsAt (pointAt xs) 6 xs (pointsAt (headOf xs)) (headOf xs .points)
+
+abbrev pub strings : List ℕ → List (List ℕ)
+strings xs = stringsFrom xs (stringsAt (headOf xs)) (headOf xs .strings)
+
+-- ## Rows with what they own
+
+-- A country's flags: bit 0 human, 1 was_player, 2 has_switched_nation.
+pub record Country : Type 0 where
+  pub tag : CountryTag
+  pub human : Bool
+  pub wasPlayer : Bool
+  pub hasSwitchedNation : Bool
+  pub cities : ℤ
+  pub previous : List CountryTag
+  pub switches : List Switch
+
+pub record Province : Type 0 where
+  pub id : ProvinceId
+  pub owner : CountryTag
+  pub events : List OwnerEvent
+
+pub record Ledger : Type 0 where
+  pub tag : CountryTag
+  pub points : List Point
+
+-- Each row takes its own from the front of the section that it owns, and leaves the rest to the rows behind it.
+unfoldable pub groupCountries : List PackedCountry → List CountryTag → List Switch → List Country
+groupCountries [] ps ss = []
+groupCountries (r ∷ rs) ps ss =
+    record {
+      tag = r .tag;
+      human = bit 0 (r .flags);
+      wasPlayer = bit 1 (r .flags);
+      hasSwitchedNation = bit 2 (r .flags);
+      cities = r .cities;
+      previous = take (r .previous) ps;
+      switches = take (r .switches) ss;
+    }
+    ∷ groupCountries rs (drop (r .previous) ps) (drop (r .switches) ss)
+
+unfoldable pub groupProvinces : List PackedProvince → List OwnerEvent → List Province
+groupProvinces [] es = []
+groupProvinces (r ∷ rs) es =
+    record { id = r .id; owner = r .owner; events = take (r .events) es } ∷ groupProvinces rs (drop (r .events) es)
+
+unfoldable pub groupWars : List ℕ → List WarEvent → List (List WarEvent)
+groupWars [] es = []
+groupWars (n ∷ ns) es = take n es ∷ groupWars ns (drop n es)
+
+unfoldable pub groupLedgers : List PackedLedger → List Point → List Ledger
+groupLedgers [] ps = []
+groupLedgers (r ∷ rs) ps = record { tag = r .tag; points = take (r .points) ps } ∷ groupLedgers rs (drop (r .points) ps)
+
+-- ## The campaign
+
+-- The record's flags: bit 0 ironman, bit 1 multiplayer.
+pub record Campaign : Type 0 where
+  pub ironman : Bool
+  pub multiplayer : Bool
+  pub start : Eu4Date
+  pub current : Eu4Date
+  pub countries : List Country
+  pub provinces : List Province
+  pub wars : List (List WarEvent)
+  pub ledgers : List Ledger
+  pub strings : List (List ℕ)
+
+unfoldable pub campaignOf : List ℕ → Campaign
+campaignOf xs =
+    record {
+      ironman = bit 0 (headOf xs .flags);
+      multiplayer = bit 1 (headOf xs .flags);
+      start = headOf xs .start;
+      current = headOf xs .current;
+      countries = groupCountries (countryRows xs) (previousTags xs) (switchRows xs);
+      provinces = groupProvinces (provinceRows xs) (ownerEvents xs);
+      wars = groupWars (warRows xs) (warEvents xs);
+      ledgers = groupLedgers (ledgerRows xs) (points xs);
+      strings = strings xs;
+    }

@@ -1,0 +1,51 @@
+-- 01, The packed record: dates. A date is year×10000 + month×100 + day; date order is number order.
+use mathlib.Core.Bool.{Bool, true, false, _&&_}
+use mathlib.Core.List.{List, [], _∷_}
+use Prim.Native.Nat.{ℕ, _/_, _%_}
+use lib.Dec.{leb, ltb}
+use lib.ListN.{getD}
+use Rattle.record.specs.declared.date.Eu4Date.{Eu4Date}
+use Rattle.record.specs.declared.date.Dated.{Dated}
+use Rattle.record.specs.declared.date.Dated.the-variants.{Date, NoDate}
+
+abbrev pub year : Eu4Date → ℕ
+year d = d .0 / 10000
+
+abbrev pub month : Eu4Date → ℕ
+month d = d .0 / 100 % 100
+
+abbrev pub day : Eu4Date → ℕ
+day d = d .0 % 100
+
+-- The days of each month, without leap days; number 0 stands for no month.
+abbrev pub monthTable : List ℕ
+monthTable = 0 ∷ 31 ∷ 28 ∷ 31 ∷ 30 ∷ 31 ∷ 30 ∷ 31 ∷ 31 ∷ 30 ∷ 31 ∷ 30 ∷ 31 ∷ []
+
+-- How many days a month has; none for a number that is no month's.
+abbrev pub monthDays : ℕ → ℕ
+monthDays m = getD monthTable m 0
+
+-- A good date: year 1 to 9999, a day of its month.
+unfoldable pub goodDate : Eu4Date → Bool
+goodDate d = leb 1 (year d) && leb (year d) 9999 && (leb 1 (day d) && leb (day d) (monthDays (month d)))
+
+-- Date order is number order.
+abbrev pub notAfter : Eu4Date → Eu4Date → Bool
+notAfter a b = leb (a .0) (b .0)
+
+abbrev pub earlier : Eu4Date → Eu4Date → Bool
+earlier a b = ltb (a .0) (b .0)
+
+-- The answer of reading a word as a date, by case.
+abbrev pub pickDated : Bool → Eu4Date → Dated
+pickDated true d = Date d
+pickDated false d = NoDate
+
+-- A 32-bit word, read as a date.
+unfoldable pub dateOfWord : ℕ → Dated
+dateOfWord w = pickDated (goodDate (record { 0 = w })) (record { 0 = w })
+
+-- 5: a bad date.
+abbrev pub datedNumber : Dated → ℕ
+datedNumber (Date d) = 0
+datedNumber NoDate = 5

@@ -1,0 +1,52 @@
+-- 01, The packed record: country tags, by the rule of `CountryTag::create`. A tag's word is a×65536 + b×256 + c of its three bytes.
+use mathlib.Core.Bool.{Bool, true, false, _||_, _&&_}
+use mathlib.Core.List.{List}
+use Prim.Native.Nat.{ℕ, _+_, _*_, _/_, _%_}
+use lib.Dec.{eqb, leb}
+use lib.ListN.{length, getD}
+use Rattle.record.specs.declared.tag.CountryTag.{CountryTag}
+use Rattle.record.specs.declared.tag.Created.{Created}
+use Rattle.record.specs.declared.tag.Created.the-variants.{Tag, NoTag}
+
+-- A tag's byte is an ASCII digit, letter or `-`. (02 K2 adds the underscore here and nowhere else.)
+unfoldable pub tagByte : ℕ → Bool
+tagByte b = leb 48 b && leb b 57 || leb 65 b && leb b 90 || leb 97 b && leb b 122 || eqb b 45
+
+-- The tag of three bytes.
+abbrev pub tagOf : ℕ → ℕ → ℕ → CountryTag
+tagOf a b c = record { 0 = a * 65536 + b * 256 + c }
+
+-- `NONE` is `---`, a tag like any other.
+abbrev pub none : CountryTag
+none = tagOf 45 45 45
+
+-- A word is a tag's word when its three bytes are tag bytes.
+unfoldable pub isTag : CountryTag → Bool
+isTag t = tagByte (t .0 / 65536) && tagByte (t .0 / 256 % 256) && tagByte (t .0 % 256)
+
+-- Two tags are the same tag when their words are.
+abbrev pub sameTag : CountryTag → CountryTag → Bool
+sameTag a b = eqb (a .0) (b .0)
+
+-- A word that may be a tag's: `Tag` when it is one.
+abbrev pub pickCreated : Bool → CountryTag → Created
+pickCreated true t = Tag t
+pickCreated false t = NoTag
+
+unfoldable pub tested : CountryTag → Created
+tested t = pickCreated (isTag t) t
+
+-- `CountryTag::create`: exactly three bytes, each a tag byte.
+unfoldable pub created : List ℕ → Created
+created s =
+    let t = tagOf (getD s 0 0) (getD s 1 0) (getD s 2 0) in
+    pickCreated (eqb (length s) 3 && isTag t) t
+
+-- A 32-bit word of a row, read as a tag.
+abbrev pub tagOfWord : ℕ → Created
+tagOfWord w = tested (record { 0 = w })
+
+-- 4: a tag byte other than an ASCII letter, digit or `-`.
+abbrev pub createdNumber : Created → ℕ
+createdNumber (Tag t) = 0
+createdNumber NoTag = 4

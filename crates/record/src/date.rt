@@ -1,0 +1,71 @@
+ghost use mathlib.Core.Path.{_≡_};
+ghost use Rattle.record.specs.Dates.{monthDays, goodDate, dateOfWord, notAfter, earlier};
+ghost use Rattle.record.specs.Dates.{year as yearOf};
+
+// A date as year*10000 + month*100 + day: number order is date order.
+pub struct Eu4Date(pub(crate) u32);
+
+pub enum Dated {
+    Date(Eu4Date),
+    NoDate,
+}
+
+const MONTH_DAYS: [u32; 13] = [0, 31, 28, 31, 30, 31, 30, 31, 31, 30, 31, 30, 31];
+
+// How many days a month has, without leap days; 0 for a number that is no month's.
+fn month_days(m: u32) -> u32
+    ensures { λ r. ⌜ r ≡ monthDays m ⌝ }
+{
+    if 12 < m {
+        return 0;
+    }
+    MONTH_DAYS[m as usize]
+}
+
+impl Eu4Date {
+    // Whether the number is a date: year 1 to 9999, a month, and a day of it.
+    pub(crate) fn good(self) -> bool
+        ensures { λ r. ⌜ r ≡ goodDate self ⌝ }
+    {
+        let d = self.0;
+        let year = d / 10000;
+        let day = d % 100;
+        (1 <= year) & (year <= 9999) & ((1 <= day) & (day <= month_days(d / 100 % 100)))
+    }
+
+    // The date that a row's word holds; a word that is no date's is refused.
+    pub fn of_word(w: u32) -> Dated
+        ensures { λ r. ⌜ r ≡ dateOfWord w ⌝ }
+    {
+        if Eu4Date(w).good() {
+            Dated::Date(Eu4Date(w))
+        } else {
+            Dated::NoDate
+        }
+    }
+
+    // The word that a row holds for this date.
+    pub fn word(self) -> u32
+        ensures { λ r. ⌜ r ≡ self .0 ⌝ }
+    {
+        self.0
+    }
+
+    pub fn year(self) -> u32
+        ensures { λ r. ⌜ r ≡ yearOf self ⌝ }
+    {
+        self.0 / 10000
+    }
+
+    pub fn not_after(self, other: Eu4Date) -> bool
+        ensures { λ r. ⌜ r ≡ notAfter self other ⌝ }
+    {
+        self.0 <= other.0
+    }
+
+    pub fn earlier(self, other: Eu4Date) -> bool
+        ensures { λ r. ⌜ r ≡ earlier self other ⌝ }
+    {
+        self.0 < other.0
+    }
+}

@@ -1,0 +1,269 @@
+// Numbers 4, 5, 6 and 9: the first bad field in file order.
+use crate::bytes;
+use crate::date::Eu4Date;
+use crate::head;
+use crate::head::Head;
+use crate::tag::CountryTag;
+ghost use mathlib.Core.Path.{_≡_};
+ghost use Prim.Native.Nat.{_+_, _*_, _<_, _≤_};
+ghost use lib.ListN.{length};
+ghost use Rattle.record.specs.Bytes.{tagAt, dateAt, le16};
+ghost use Rattle.record.specs.Laid.{Laid};
+ghost use Rattle.record.specs.Campaign.{countryRows, previousTags, switchRows, provinceRows, ownerEvents, warEvents, ledgerRows, points};
+ghost use Rattle.record.specs.Rows.{rowsAt, countryAt, ownerEventAt, warEventAt, pointAt};
+ghost use Rattle.record.specs.Refusal.{firstIn, tagNumber, dateNumber, kindNumber, yearNumber, countryNumber};
+ghost use Rattle.record.specs.Refusal.{switchNumber, ownerEventNumber, warEventNumber, headNumber, fieldsNumber};
+
+fn tag_number(t: CountryTag) -> u32
+    ensures { λ r. ⌜ r ≡ tagNumber t ⌝ }
+{
+    if t.good() { 0 } else { 4 }
+}
+
+fn date_number(d: Eu4Date) -> u32
+    ensures { λ r. ⌜ r ≡ dateNumber d ⌝ }
+{
+    if d.good() { 0 } else { 5 }
+}
+
+// The tags at offset k of n rows.
+fn tags_number(s: &[u8], at: usize, width: usize, k: usize, n: usize) -> u32
+    requires { ⌜ (at + width * n ≤ length (now s)) × (k + 3 ≤ width) ⌝ }
+    ensures { λ r. ⌜ r ≡ firstIn (λ t. tagNumber t) (rowsAt (λ a. tagAt (now (s .entry)) (a + k)) width (now (s .entry)) at n) ⌝ }
+{
+    let mut a = at;
+    let mut left = n;
+    while 0 < left {
+        let number = tag_number(bytes::tag_at(s, a + k));
+        if number != 0 {
+            return number;
+        }
+        a += width;
+        left -= 1;
+    }
+    0
+}
+
+// A country's tag, then its flags, of which a mask finds the undefined.
+fn country_number(s: &[u8], at: usize) -> u32
+    requires { ⌜ at + 12 ≤ length (now s) ⌝ }
+    ensures { λ r. ⌜ r ≡ countryNumber (countryAt (now (s .entry)) at) ⌝ }
+{
+    if !bytes::tag_at(s, at).good() {
+        return 4;
+    }
+    if bytes::country_flags_defined(bytes::byte(s, at + 3)) { 0 } else { 6 }
+}
+
+fn countries_number(s: &[u8], at: usize, n: usize) -> u32
+    requires { ⌜ at + 12 * n ≤ length (now s) ⌝ }
+    ensures { λ r. ⌜ r ≡ firstIn countryNumber (rowsAt (countryAt (now (s .entry))) 12 (now (s .entry)) at n) ⌝ }
+{
+    let mut a = at;
+    let mut left = n;
+    while 0 < left {
+        let number = country_number(s, a);
+        if number != 0 {
+            return number;
+        }
+        a += 12;
+        left -= 1;
+    }
+    0
+}
+
+// A date, then a tag: a switch or an owner event.
+fn dated_number(s: &[u8], at: usize) -> u32
+    requires { ⌜ at + 7 ≤ length (now s) ⌝ }
+    ensures { λ r. ⌜ r ≡ ownerEventNumber (ownerEventAt (now (s .entry)) at) ⌝ }
+{
+    if !bytes::date_at(s, at).good() {
+        return 5;
+    }
+    tag_number(bytes::tag_at(s, at + 4))
+}
+
+fn dated_rows_number(s: &[u8], at: usize, n: usize) -> u32
+    requires { ⌜ at + 7 * n ≤ length (now s) ⌝ }
+    ensures { λ r. ⌜ r ≡ firstIn ownerEventNumber (rowsAt (ownerEventAt (now (s .entry))) 7 (now (s .entry)) at n) ⌝ }
+{
+    let mut a = at;
+    let mut left = n;
+    while 0 < left {
+        let number = dated_number(s, a);
+        if number != 0 {
+            return number;
+        }
+        a += 7;
+        left -= 1;
+    }
+    0
+}
+
+// A war event's date, kind and tag.
+fn war_event_number(s: &[u8], at: usize) -> u32
+    requires { ⌜ at + 8 ≤ length (now s) ⌝ }
+    ensures { λ r. ⌜ r ≡ warEventNumber (warEventAt (now (s .entry)) at) ⌝ }
+{
+    if !bytes::date_at(s, at).good() {
+        return 5;
+    }
+    if 4 < bytes::byte(s, at + 4) {
+        return 6;
+    }
+    tag_number(bytes::tag_at(s, at + 5))
+}
+
+fn war_events_number(s: &[u8], at: usize, n: usize) -> u32
+    requires { ⌜ at + 8 * n ≤ length (now s) ⌝ }
+    ensures { λ r. ⌜ r ≡ firstIn warEventNumber (rowsAt (warEventAt (now (s .entry))) 8 (now (s .entry)) at n) ⌝ }
+{
+    let mut a = at;
+    let mut left = n;
+    while 0 < left {
+        let number = war_event_number(s, a);
+        if number != 0 {
+            return number;
+        }
+        a += 8;
+        left -= 1;
+    }
+    0
+}
+
+fn point_number(s: &[u8], at: usize) -> u32
+    requires { ⌜ at + 6 ≤ length (now s) ⌝ }
+    ensures { λ r. ⌜ r ≡ yearNumber (pointAt (now (s .entry)) at .year) ⌝ }
+{
+    if bytes::u16_at(s, at) <= 9999 { 0 } else { 9 }
+}
+
+fn points_number(s: &[u8], at: usize, n: usize) -> u32
+    requires { ⌜ at + 6 * n ≤ length (now s) ⌝ }
+    ensures { λ r. ⌜ r ≡ firstIn (λ p. yearNumber (p .year)) (rowsAt (pointAt (now (s .entry))) 6 (now (s .entry)) at n) ⌝ }
+{
+    let mut a = at;
+    let mut left = n;
+    while 0 < left {
+        let number = point_number(s, a);
+        if number != 0 {
+            return number;
+        }
+        a += 6;
+        left -= 1;
+    }
+    0
+}
+
+// The head's flags and dates.
+fn head_number(h: Head) -> u32
+    requires { ⌜ h .flags < 256 ⌝ }
+    ensures { λ r. ⌜ r ≡ headNumber h ⌝ }
+{
+    let start = h.start;
+    let current = h.current;
+    if !bytes::head_flags_defined(h.flags) {
+        return 6;
+    }
+    if !start.good() {
+        return 5;
+    }
+    date_number(current)
+}
+
+// Each section in its place.
+fn countries_field(s: &[u8], h: Head) -> u32
+    requires { ⌜ Laid (now s) h ⌝ }
+    ensures { λ r. ⌜ r ≡ firstIn countryNumber (countryRows (now (s .entry))) ⌝ }
+{
+    countries_number(s, head::COUNTRIES_AT, h.countries as usize)
+}
+
+fn previous_field(s: &[u8], h: Head) -> u32
+    requires { ⌜ Laid (now s) h ⌝ }
+    ensures { λ r. ⌜ r ≡ firstIn (λ t. tagNumber t) (previousTags (now (s .entry))) ⌝ }
+{
+    tags_number(s, head::previous_at(h), 3, 0, h.previous as usize)
+}
+
+fn switches_field(s: &[u8], h: Head) -> u32
+    requires { ⌜ Laid (now s) h ⌝ }
+    ensures { λ r. ⌜ r ≡ firstIn switchNumber (switchRows (now (s .entry))) ⌝ }
+{
+    dated_rows_number(s, head::switches_at(h), h.switches as usize)
+}
+
+fn provinces_field(s: &[u8], h: Head) -> u32
+    requires { ⌜ Laid (now s) h ⌝ }
+    ensures { λ r. ⌜ r ≡ firstIn (λ r. tagNumber (r .owner)) (provinceRows (now (s .entry))) ⌝ }
+{
+    tags_number(s, head::provinces_at(h), 7, 2, h.provinces as usize)
+}
+
+fn events_field(s: &[u8], h: Head) -> u32
+    requires { ⌜ Laid (now s) h ⌝ }
+    ensures { λ r. ⌜ r ≡ firstIn ownerEventNumber (ownerEvents (now (s .entry))) ⌝ }
+{
+    dated_rows_number(s, head::events_at(h), h.events as usize)
+}
+
+fn wars_field(s: &[u8], h: Head) -> u32
+    requires { ⌜ Laid (now s) h ⌝ }
+    ensures { λ r. ⌜ r ≡ firstIn warEventNumber (warEvents (now (s .entry))) ⌝ }
+{
+    war_events_number(s, head::war_events_at(h), h.war_events as usize)
+}
+
+fn ledgers_field(s: &[u8], h: Head) -> u32
+    requires { ⌜ Laid (now s) h ⌝ }
+    ensures { λ r. ⌜ r ≡ firstIn (λ r. tagNumber (r .tag)) (ledgerRows (now (s .entry))) ⌝ }
+{
+    tags_number(s, head::ledgers_at(h), 5, 0, h.ledgers as usize)
+}
+
+fn points_field(s: &[u8], h: Head) -> u32
+    requires { ⌜ Laid (now s) h ⌝ }
+    ensures { λ r. ⌜ r ≡ firstIn (λ p. yearNumber (p .year)) (points (now (s .entry))) ⌝ }
+{
+    points_number(s, head::points_at(h), h.points as usize)
+}
+
+// The head's fields, then each section's in the order of the file.
+pub(crate) fn fields_number(s: &[u8], h: Head) -> u32
+    requires { ⌜ (Laid (now s) h) × (h .flags < 256) ⌝ }
+    ensures { λ r. ⌜ r ≡ fieldsNumber (now (s .entry)) ⌝ }
+{
+    let number = head_number(h);
+    if number != 0 {
+        return number;
+    }
+    let number = countries_field(s, h);
+    if number != 0 {
+        return number;
+    }
+    let number = previous_field(s, h);
+    if number != 0 {
+        return number;
+    }
+    let number = switches_field(s, h);
+    if number != 0 {
+        return number;
+    }
+    let number = provinces_field(s, h);
+    if number != 0 {
+        return number;
+    }
+    let number = events_field(s, h);
+    if number != 0 {
+        return number;
+    }
+    let number = wars_field(s, h);
+    if number != 0 {
+        return number;
+    }
+    let number = ledgers_field(s, h);
+    if number != 0 {
+        return number;
+    }
+    points_field(s, h)
+}

@@ -1,0 +1,42 @@
+// The check of a record: its refusal number, 0 when it is accepted.
+use crate::fields;
+use crate::head;
+use crate::sizes;
+use crate::repeats;
+ghost use mathlib.Core.Path.{_≡_};
+ghost use Rattle.record.specs.Refusal.{opens, refusal};
+
+fn opens_record(s: &[u8]) -> bool
+    ensures { λ r. ⌜ r ≡ opens (now (s .entry)) ⌝ }
+{
+    if s.len() < 44 {
+        return false;
+    }
+    (s[0] == 65) & (s[1] == 84) & (s[2] == 76)
+}
+
+// The refusal number of a record by the order 1, 2, 3; then 4, 5, 6, 9; then 7, 8; 0 for a record that is accepted. Any bytes may be given.
+pub fn check(s: &[u8]) -> u32
+    ensures { λ r. ⌜ r ≡ refusal (now (s .entry)) ⌝ }
+{
+    if !opens_record(s) {
+        return 1;
+    }
+    let h = head::read_head(s);
+    if h.version != 1 {
+        return 2;
+    }
+    if !sizes::sizes_agree(s, h) {
+        return 3;
+    }
+    let field = fields::fields_number(s, h);
+    if field != 0 {
+        return field;
+    }
+    if repeats::repeated(s, h) {
+        return 7;
+    }
+    let start = h.start;
+    let current = h.current;
+    if current.earlier(start) { 8 } else { 0 }
+}

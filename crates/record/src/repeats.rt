@@ -1,0 +1,82 @@
+// Number 7: a country tag or a province id twice, or an id above P. Marks in a bit set find a repeat in one pass.
+use crate::bytes;
+use crate::head;
+use crate::head::Head;
+use crate::tag::CountryTag;
+ghost use mathlib.Core.Path.{_≡_};
+ghost use mathlib.Core.Bool.{true, _||_};
+ghost use Prim.Native.Nat.{ℕ, _+_, _-_, _*_, _/_, _%_, _<_, _≤_};
+ghost use lib.Dec.{ltb};
+ghost use lib.ListN.{length};
+ghost use Rattle.lists.specs.Lists.{anyOf, allOf, twice};
+ghost use Rattle.record.specs.Tags.{isTag};
+ghost use Rattle.record.specs.Bytes.{tagAt, idAt};
+ghost use Rattle.record.specs.Rows.{rowsAt};
+ghost use Rattle.record.specs.Laid.{Laid};
+ghost use Rattle.record.specs.Campaign.{countryRows};
+ghost use Rattle.record.specs.Refusal.{firstIn, countryNumber, tagTwice, idTwiceOrAbove};
+
+// A tag's place among all tags. The tag bytes lie from 45 to 122, so that each has 78 places.
+fn place(t: CountryTag) -> usize
+    requires { ⌜ isTag t ≡ true ⌝ }
+    ensures { λ r. ⌜ r ≡ (t .0 / 65536 - 45) * 6084 + (t .0 / 256 % 256 - 45) * 78 + (t .0 % 256 - 45) ⌝ }
+{
+    let w = t.0;
+    let a = w / 65536 - 45;
+    let b = w / 256 % 256 - 45;
+    let c = w % 256 - 45;
+    (a * 6084 + b * 78 + c) as usize
+}
+
+// Whether a tag stands twice among n countries, whose tags are good.
+fn tag_twice(s: &[u8], at: usize, n: usize) -> bool
+    requires { ⌜ at + 12 * n ≤ length (now s) ⌝ }
+    requires { ⌜ allOf (λ w. isTag (record { 0 = w })) (rowsAt (λ a. tagAt (now s) a .0) 12 (now s) at n) ≡ true ⌝ }
+    ensures { λ r. ⌜ r ≡ twice (rowsAt (λ a. tagAt (now (s .entry)) a .0) 12 (now (s .entry)) at n) ⌝ }
+{
+    let mut seen = [0u64; 7415];
+    let mut a = at;
+    let mut left = n;
+    while 0 < left {
+        let p = place(bytes::tag_at(s, a));
+        if bitset::marked(&seen, p) {
+            return true;
+        }
+        bitset::mark(&mut seen, p);
+        a += 12;
+        left -= 1;
+    }
+    false
+}
+
+// Whether an id stands twice among n provinces, or is above n.
+fn id_twice_or_above(s: &[u8], at: usize, n: usize) -> bool
+    requires { ⌜ (at + 7 * n ≤ length (now s)) × (n ≤ 8000) ⌝ }
+    ensures { λ r. ⌜ r ≡ twice (rowsAt (λ a. idAt (now (s .entry)) a .0) 7 (now (s .entry)) at n) || anyOf (ltb n) (rowsAt (λ a. idAt (now (s .entry)) a .0) 7 (now (s .entry)) at n) ⌝ }
+{
+    let mut seen = [0u64; 126];
+    let mut a = at;
+    let mut left = n;
+    while 0 < left {
+        let id = bytes::u16_at(s, a) as usize;
+        if n < id {
+            return true;
+        }
+        if bitset::marked(&seen, id) {
+            return true;
+        }
+        bitset::mark(&mut seen, id);
+        a += 7;
+        left -= 1;
+    }
+    false
+}
+
+// Whether anything stands twice that may not, or an id is above the number of provinces. The countries' fields are good.
+pub(crate) fn repeated(s: &[u8], h: Head) -> bool
+    requires { ⌜ (Laid (now s) h) × (firstIn countryNumber (countryRows (now s)) ≡ 0) ⌝ }
+    ensures { λ r. ⌜ r ≡ tagTwice (now (s .entry)) || idTwiceOrAbove (now (s .entry)) ⌝ }
+{
+    tag_twice(s, head::COUNTRIES_AT, h.countries as usize)
+        | id_twice_or_above(s, head::provinces_at(h), h.provinces as usize)
+}

@@ -1,0 +1,108 @@
+//! Compares the proved `check` with the independent checker on many records.
+//!
+//! `differential [CALLS] [SEED]`; one difference ends the run, its record in difference.atl.
+
+use std::env;
+use std::process::ExitCode;
+
+use chronicle_host::cases::Cases;
+use chronicle_host::damage::Target;
+use chronicle_host::generate::{campaign, Knobs, Random};
+use chronicle_host::pack::pack;
+use chronicle_host::{check, number, reference, sample};
+
+const DIFFERENCE: &str = "difference.atl";
+
+fn main() -> ExitCode {
+    let Some((calls, seed)) = arguments() else {
+        eprintln!("usage: differential [CALLS] [SEED]");
+        return ExitCode::FAILURE;
+    };
+    let mut run = Run::default();
+    let outcome = run.sweeps(calls, seed).and_then(|()| run.draws(calls, seed));
+    if let Err(message) = outcome {
+        eprintln!("{message}");
+        return ExitCode::FAILURE;
+    }
+    run.report(seed)
+}
+
+fn arguments() -> Option<(u64, u64)> {
+    let mut arguments = env::args().skip(1);
+    let mut next = |default| match arguments.next() {
+        Some(text) => text.parse().ok(),
+        None => Some(default),
+    };
+    let given = (next(1_000_000)?, next(1)?);
+    arguments.next().is_none().then_some(given)
+}
+
+/// How many records were tried, and how often each number came.
+#[derive(Default)]
+struct Run {
+    calls: u64,
+    seen: [u64; 10],
+}
+
+impl Run {
+    /// Every damage to the worked record, then to drawn ones, for a fifth of the calls.
+    fn sweeps(&mut self, calls: u64, seed: u64) -> Result<(), String> {
+        let mut random = Random::new(seed);
+        let mut record = sample::WORKED.to_vec();
+        while self.calls < calls / 5 {
+            let target = Target::new(record);
+            self.compare(target.record())?;
+            let mut damaged = Vec::new();
+            for damage in target.sweep() {
+                if self.calls >= calls / 5 {
+                    break;
+                }
+                damaged.clear();
+                damaged.extend_from_slice(target.record());
+                damage.apply(&mut damaged);
+                self.compare(&damaged)?;
+            }
+            record = pack(&campaign(&mut random, &Knobs::small()));
+        }
+        Ok(())
+    }
+
+    fn draws(&mut self, calls: u64, seed: u64) -> Result<(), String> {
+        let mut cases = Cases::new(seed);
+        while self.calls < calls {
+            self.compare(&cases.draw().record)?;
+        }
+        Ok(())
+    }
+
+    fn compare(&mut self, record: &[u8]) -> Result<(), String> {
+        let proved = number(check(record));
+        let independent = reference::refusal_number(record);
+        self.calls += 1;
+        self.seen[usize::from(independent)] += 1;
+        if proved == independent {
+            return Ok(());
+        }
+        let stored = match std::fs::write(DIFFERENCE, record) {
+            Ok(()) => format!("the record is in {DIFFERENCE}"),
+            Err(error) => format!("{DIFFERENCE} could not be written: {error}"),
+        };
+        Err(format!(
+            "call {}: check gives {proved}, the independent checker {independent}; {stored}",
+            self.calls
+        ))
+    }
+
+    fn report(&self, seed: u64) -> ExitCode {
+        println!("{} calls, seed {seed}, no difference", self.calls);
+        for (number, seen) in self.seen.iter().enumerate() {
+            let share = 100.0 * *seen as f64 / self.calls.max(1) as f64;
+            println!("{number:>3} {seen:>10}  {share:4.1} %");
+        }
+        if self.seen.contains(&0) {
+            eprintln!("some number never came: the run says too little");
+            return ExitCode::FAILURE;
+        }
+        ExitCode::SUCCESS
+    }
+}

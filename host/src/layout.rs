@@ -1,0 +1,213 @@
+//! Where things lie in a packed record: 01's row widths, limits and head offsets, said once.
+
+use std::ops::Range;
+
+/// Bytes of the head.
+pub const HEAD: usize = 44;
+/// Bytes of a country row.
+pub const COUNTRY: usize = 12;
+/// Bytes of a previous tag.
+pub const PREVIOUS_TAG: usize = 3;
+/// Bytes of a switch.
+pub const SWITCH: usize = 7;
+/// Bytes of a province row.
+pub const PROVINCE: usize = 7;
+/// Bytes of an owner event.
+pub const OWNER_EVENT: usize = 7;
+/// Bytes of a war row.
+pub const WAR: usize = 2;
+/// Bytes of a war event.
+pub const WAR_EVENT: usize = 8;
+/// Bytes of a ledger name.
+pub const LEDGER_NAME: usize = 5;
+/// Bytes of a ledger point.
+pub const POINT: usize = 6;
+
+/// Offset of the head's flags.
+pub const FLAGS_AT: usize = 5;
+/// Offset of the start date.
+pub const START_AT: usize = 6;
+/// Offset of the current date.
+pub const CURRENT_AT: usize = 10;
+
+/// The ten counts of the head.
+#[derive(Clone, Copy, Debug, Default, PartialEq, Eq)]
+pub struct Counts {
+    /// C
+    pub countries: usize,
+    /// P
+    pub provinces: usize,
+    /// A
+    pub previous_tags: usize,
+    /// B
+    pub switches: usize,
+    /// E
+    pub owner_events: usize,
+    /// N
+    pub strings: usize,
+    /// W
+    pub wars: usize,
+    /// V
+    pub war_events: usize,
+    /// G
+    pub ledger_names: usize,
+    /// Y
+    pub points: usize,
+}
+
+/// The largest counts a record may have.
+pub const LIMITS: Counts = Counts {
+    countries: 2_000,
+    provinces: 8_000,
+    previous_tags: 20_000,
+    switches: 20_000,
+    owner_events: 60_000,
+    strings: 1_000,
+    wars: 5_000,
+    war_events: 100_000,
+    ledger_names: 2_000,
+    points: 1_000_000,
+};
+
+/// Each count of the head: its letter in 01, offset, width and limit.
+pub const HEAD_COUNTS: [(char, usize, usize, usize); 10] = [
+    ('C', 14, 2, LIMITS.countries),
+    ('P', 16, 2, LIMITS.provinces),
+    ('A', 18, 4, LIMITS.previous_tags),
+    ('B', 22, 4, LIMITS.switches),
+    ('E', 26, 4, LIMITS.owner_events),
+    ('N', 30, 2, LIMITS.strings),
+    ('W', 32, 2, LIMITS.wars),
+    ('V', 34, 4, LIMITS.war_events),
+    ('G', 38, 2, LIMITS.ledger_names),
+    ('Y', 40, 4, LIMITS.points),
+];
+
+/// Where each section lies; the strings run from `strings` to the end of the record.
+#[derive(Clone, Debug, PartialEq, Eq)]
+#[allow(missing_docs)]
+pub struct Sections {
+    pub countries: Range<usize>,
+    pub previous_tags: Range<usize>,
+    pub switches: Range<usize>,
+    pub provinces: Range<usize>,
+    pub owner_events: Range<usize>,
+    pub wars: Range<usize>,
+    pub war_events: Range<usize>,
+    pub ledger_names: Range<usize>,
+    pub points: Range<usize>,
+    pub strings: usize,
+}
+
+impl Counts {
+    /// Counts by 01's letters; those not named are 0.
+    ///
+    /// # Panics
+    ///
+    /// If a letter is none of 01's.
+    ///
+    /// ```
+    /// use chronicle_host::layout::Counts;
+    ///
+    /// let counts = Counts::of(&[('C', 2), ('B', 1)]);
+    /// assert_eq!((counts.countries, counts.switches, counts.points), (2, 1, 0));
+    /// ```
+    pub fn of(named: &[(char, usize)]) -> Counts {
+        let mut counts = Counts::default();
+        for &(letter, count) in named {
+            *counts.named(letter) = count;
+        }
+        counts
+    }
+
+    fn named(&mut self, letter: char) -> &mut usize {
+        match letter {
+            'C' => &mut self.countries,
+            'P' => &mut self.provinces,
+            'A' => &mut self.previous_tags,
+            'B' => &mut self.switches,
+            'E' => &mut self.owner_events,
+            'N' => &mut self.strings,
+            'W' => &mut self.wars,
+            'V' => &mut self.war_events,
+            'G' => &mut self.ledger_names,
+            'Y' => &mut self.points,
+            _ => panic!("01 has no count {letter}"),
+        }
+    }
+
+    /// The counts as the head gives them, not yet held against the limits.
+    ///
+    /// ```
+    /// use chronicle_host::{layout::Counts, sample};
+    ///
+    /// let counts = Counts::read(sample::WORKED.first_chunk().unwrap());
+    /// assert_eq!((counts.countries, counts.provinces, counts.switches), (2, 2, 1));
+    /// ```
+    pub fn read(head: &[u8; HEAD]) -> Counts {
+        let short = |at: usize| usize::from(u16::from_le_bytes([head[at], head[at + 1]]));
+        let long = |at: usize| short(at) | short(at + 2) << 16;
+        Counts {
+            countries: short(14),
+            provinces: short(16),
+            previous_tags: long(18),
+            switches: long(22),
+            owner_events: long(26),
+            strings: short(30),
+            wars: short(32),
+            war_events: long(34),
+            ledger_names: short(38),
+            points: long(40),
+        }
+    }
+
+    /// Whether no count is above its limit.
+    ///
+    /// ```
+    /// use chronicle_host::layout::{Counts, LIMITS};
+    ///
+    /// assert!(LIMITS.within_limits());
+    /// assert!(!Counts { wars: 5_001, ..LIMITS }.within_limits());
+    /// ```
+    pub fn within_limits(&self) -> bool {
+        self.countries <= LIMITS.countries
+            && self.provinces <= LIMITS.provinces
+            && self.previous_tags <= LIMITS.previous_tags
+            && self.switches <= LIMITS.switches
+            && self.owner_events <= LIMITS.owner_events
+            && self.strings <= LIMITS.strings
+            && self.wars <= LIMITS.wars
+            && self.war_events <= LIMITS.war_events
+            && self.ledger_names <= LIMITS.ledger_names
+            && self.points <= LIMITS.points
+    }
+
+    /// Where the sections lie in a record with these counts.
+    ///
+    /// ```
+    /// use chronicle_host::layout::{Counts, LIMITS};
+    ///
+    /// assert_eq!(Counts::default().sections().strings, 44);
+    /// assert_eq!(LIMITS.sections().strings, 7_520_044);
+    /// ```
+    pub fn sections(&self) -> Sections {
+        let mut end = HEAD;
+        let mut section = |rows: usize, width: usize| {
+            let start = end;
+            end += rows * width;
+            start..end
+        };
+        Sections {
+            countries: section(self.countries, COUNTRY),
+            previous_tags: section(self.previous_tags, PREVIOUS_TAG),
+            switches: section(self.switches, SWITCH),
+            provinces: section(self.provinces, PROVINCE),
+            owner_events: section(self.owner_events, OWNER_EVENT),
+            wars: section(self.wars, WAR),
+            war_events: section(self.war_events, WAR_EVENT),
+            ledger_names: section(self.ledger_names, LEDGER_NAME),
+            points: section(self.points, POINT),
+            strings: end,
+        }
+    }
+}
