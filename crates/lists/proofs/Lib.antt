@@ -1,1 +1,2 @@
 pub mod BoolLaws
+pub mod TableLaws

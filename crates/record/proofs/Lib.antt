@@ -2,5 +2,6 @@ pub mod FlagLaws
 pub mod RowLaws
 pub mod FirstLaws
 pub mod SizeLaws
+pub mod TagLaws
 pub mod RepeatLaws
 pub mod HeadLaws

@@ -10,16 +10,20 @@ pub enum Dated {
     NoDate,
 }
 
-const MONTH_DAYS: [u32; 13] = [0, 31, 28, 31, 30, 31, 30, 31, 31, 30, 31, 30, 31];
+// Two bits for each month, the lowest for month 0: how many days it has more than 28.
+const OVER_28: u32 = 62648012;
 
 // How many days a month has, without leap days; 0 for a number that is no month's.
 fn month_days(m: u32) -> u32
     ensures { λ r. ⌜ r ≡ monthDays m ⌝ }
 {
+    if m < 1 {
+        return 0;
+    }
     if 12 < m {
         return 0;
     }
-    MONTH_DAYS[m as usize]
+    28 + (OVER_28 >> (2 * m)) % 4
 }
 
 impl Eu4Date {
@@ -28,9 +32,10 @@ impl Eu4Date {
         ensures { λ r. ⌜ r ≡ goodDate self ⌝ }
     {
         let d = self.0;
-        let year = d / 10000;
+        let months = d / 100;
+        let year = months / 100;
         let day = d % 100;
-        (1 <= year) & (year <= 9999) & ((1 <= day) & (day <= month_days(d / 100 % 100)))
+        (1 <= year) & (year <= 9999) & ((1 <= day) & (day <= month_days(months % 100)))
     }
 
     // The date that a row's word holds; a word that is no date's is refused.

@@ -1,5 +1,5 @@
 use native.Mathlib.Omega.{arith}
-use Rattle.record.proofs.RepeatLaws.{tag-bytes}
+use Rattle.record.proofs.TagLaws.{tag-bytes}
 use borrow.Author.Needs.{needs}
 use Rattle.record.proofs.repeats.place.Statement.{statement}
 use Rattle.record.proofs.repeats.place.Tie as tie

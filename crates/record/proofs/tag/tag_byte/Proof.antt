@@ -1,11 +1,9 @@
+-- The code is the rule, without a branch.
 use mathlib.Core.Path.{refl}
 use Rattle.record.specs.Tags.{tagByte}
 use Rattle.record.proofs.tag.tag_byte.Statement.{statement}
 use Rattle.record.proofs.tag.tag_byte.Tie as tie
-use Rattle.record.proofs.tag.tag_byte.Reads as reads
-use Rattle.record.proofs.tag.tag_byte.Lts as lts
 
--- src/tag.rt:14:1
 returns : tie.Need-returns
 unfolding tagByte
 returns c = refl
