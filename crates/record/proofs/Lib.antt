@@ -1,5 +1,7 @@
 pub mod FlagLaws
 pub mod RowLaws
+pub mod RunLaws
+pub mod CampaignLaws
 pub mod FirstLaws
 pub mod SizeLaws
 pub mod TagLaws

@@ -1,14 +1,14 @@
--- Rows at an offset: one at a time, the first so many, and those behind them.
+-- Rows at an offset: one at a time, the first so many, and those behind them; and one field of each row.
 use mathlib.Core.Path.{_≡_, refl, sym, ap, ap₂, _∙_}
-use mathlib.Core.Bool.{Bool, true, false, cond}
+use mathlib.Core.Bool.{Bool, true, false}
 use mathlib.Core.List.{List, [], _∷_, map}
 use Prim.Native.Nat.{ℕ, zero, suc, _+_, _-_, _*_, _<_, _≤_, min}
+use native.Mathlib.Nat.{add-zero, mul-zero, mul-suc, sub-zero, suc-sub-suc, zero-min, min-zero, suc-min-suc}
 use native.Mathlib.Omega.{arith}
-use native.Mathlib.Decide.{decLt}
+use native.Mathlib.Decide.{decLe}
 use borrow.Author.Tests.{le-leb, lt-leb}
 use lib.Dec.{leb}
 use lib.ListN.{length, take, drop}
-use native.Mathlib.Nat.{mul-suc}
 use Rattle.lists.proofs.BoolLaws.{cases}
 use Rattle.record.specs.Rows.{rowsAt}
 
@@ -17,16 +17,52 @@ module _ {A : Type 0} (row : ℕ → A) (width : ℕ) (xs : List ℕ) where
   unfolding rowsAt
   rows-none at = refl
 
-  -- no row stands whole past the end
-  pub rows-past : (at n : ℕ) → length xs < at + width → rowsAt row width xs at n ≡ []
+  -- none is left, or the next one does not stand whole
+  pub rows-end : (at n : ℕ) → (0 < n → length xs < at + width) → rowsAt row width xs at n ≡ []
   unfolding rowsAt
-  rows-past at zero h = refl
-  rows-past at (suc n) h = simp (lt-leb _ _ h)
+  rows-end at zero h = refl
+  rows-end at (suc n) h = let past : length xs < at + width = h (omega arith) in simp (lt-leb _ _ past)
+
+  pub rows-past : (at n : ℕ) → length xs < at + width → rowsAt row width xs at n ≡ []
+  rows-past at n h = rows-end at n (λ _. h)
 
   pub rows-more : (at n : ℕ) → 0 < n → at + width ≤ length xs → rowsAt row width xs at n ≡ row at ∷ rowsAt row width xs (at + width) (n - 1)
   unfolding rowsAt
   rows-more at zero p h = absurd (omega arith)
   rows-more at (suc n) p h = let f : suc n - 1 ≡ n = omega arith in simp (le-leb _ _ h, f)
+
+  pub rows-take : (at n m : ℕ) → take n (rowsAt row width xs at m) ≡ rowsAt row width xs at (min n m)
+  unfolding rowsAt
+  rows-take at zero m = rw zero-min
+  rows-take at (suc n) zero = rw min-zero
+  rows-take at (suc n) (suc m) =
+      rw suc-min-suc
+      (elim (decLe (at + width) (length xs)) as
+      (λ _. take (suc n) (rowsAt row width xs at (suc m)) ≡ rowsAt row width xs at (suc (min n m))) [
+        | yes h ↦ simp (le-leb _ _ h, rows-take (at + width) n m)
+        | no h ↦ let past : length xs < at + width = omega arith in simp (lt-leb _ _ past)
+      ])
+
+  -- behind the first n rows, where those end inside the bytes
+  pub rows-drop : (at n m : ℕ) → at + width * n ≤ length xs → drop n (rowsAt row width xs at m) ≡ rowsAt row width xs (at + width * n) (m - n)
+  unfolding rowsAt
+  rows-drop at zero m h = rw (mul-zero, add-zero, sub-zero)
+  rows-drop at (suc n) zero h = let none : 0 - suc n ≡ 0 = omega arith in rw none
+  rows-drop at (suc n) (suc m) h =
+      let next : at + width * suc n ≡ at + width + width * n = omega (arith, mul-suc width n) in
+      let inside : at + width ≤ length xs = omega arith in
+      rw (next, suc-sub-suc) (simp (le-leb _ _ inside) (rows-drop (at + width) n m (omega arith)))
+
+  -- and nothing, where they end past them
+  pub rows-drop-past : (at n m : ℕ) → length xs < at + width * n → drop n (rowsAt row width xs at m) ≡ []
+  unfolding rowsAt
+  rows-drop-past at zero m h = rows-past at m (omega (arith, mul-zero width))
+  rows-drop-past at (suc n) zero h = refl
+  rows-drop-past at (suc n) (suc m) h =
+      elim (decLe (at + width) (length xs)) as (λ _. drop (suc n) (rowsAt row width xs at (suc m)) ≡ []) [
+        | yes p ↦ simp (le-leb _ _ p) (rows-drop-past (at + width) n m (omega (arith, mul-suc width n)))
+        | no p ↦ let past : length xs < at + width = omega arith in simp (lt-leb _ _ past)
+      ]
 
 -- a number of each row, of two sections whose rows agree in it
 pub map-rows-same : {A B C : Type 0} (f : A → C) (row : ℕ → A) (g : B → C) (row′ : ℕ → B) (width : ℕ) (xs : List ℕ)

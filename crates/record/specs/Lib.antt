@@ -6,3 +6,4 @@ pub mod Laid
 pub mod Rows
 pub mod Campaign
 pub mod Refusal
+pub mod Cursors

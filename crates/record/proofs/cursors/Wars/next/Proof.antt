@@ -1,0 +1,67 @@
+-- `Wars::next` meets its contract. Where the test finds no row, nothing is left. Where it finds one, the row stands whole, so each read is
+-- inside; its count takes the war's events from the front of the run of events, and leaves the rest to the wars behind it. Assumes nothing.
+use native.Mathlib.Omega.{arith}
+use borrow.Author.Needs.{needs}
+use lib.ListN.{length}
+use Rattle.record.specs.Bytes.{le16}
+use Rattle.record.specs.Rows.{warEventAt}
+use Rattle.record.specs.Campaign.{groupWars}
+use Rattle.record.proofs.RunLaws.{Whole, whole, run-end, run-more, run-take, run-drop}
+use Rattle.record.proofs.cursors.Wars.next.Statement.{statement}
+use Rattle.record.proofs.cursors.Wars.next.Tie as tie
+
+has-requires : tie.Need-has-requires
+has-requires c κs = search needs
+
+returns : tie.Need-returns
+unfolding groupWars
+returns c = rw (run-end (le16 _) _ _ _ (c .before .has .ensures) (c .if1 .taken))
+
+-- the row that the test found
+row-whole : (c : tie.Else1) → Whole (length (c .before .before .before .before .args .s .now)) 2 (c .before .before .before .before .args .self .rows)
+row-whole c = whole _ _ _ (c .before .has .ensures) (c .if1 .left)
+
+u16-at-requires : tie.Need-u16-at-requires
+u16-at-requires c κs = omega (arith, row-whole c)
+
+cast-n : tie.Need-cast-n
+cast-n c = search needs
+
+past-requires : tie.Need-past-requires
+past-requires c κs = omega (arith, row-whole (c .before .before))
+
+skip-requires : tie.Need-skip-requires
+skip-requires c κs = search needs
+
+first-requires : tie.Need-first-requires
+first-requires c κs = search needs
+
+returns-2 : tie.Need-returns-2
+unfolding groupWars
+returns-2 c =
+    let found = c .before .before .before .before .before in
+    let xs = found .before .before .before .before .args .s .now in
+    rw (
+      run-more (le16 xs) _ xs _ (found .before .has .ensures) (found .if1 .left),
+      run-take (warEventAt xs),
+      run-drop (warEventAt xs) 8 _ _ _ (omega arith),
+    )
+    (rw (
+      c .before .before .past .ensures,
+      c .before .skip .ensures,
+      c .first .ensures,
+      c .before .before .before .before .u16-at .ensures .same,
+    ))
+
+pub next-spec : {M : Type 1} → statement M
+next-spec =
+    tie.close
+    (tie.spec
+    has-requires
+    returns
+    u16-at-requires
+    cast-n
+    past-requires
+    skip-requires
+    first-requires
+    returns-2)
