@@ -7,3 +7,5 @@ pub mod SizeLaws
 pub mod TagLaws
 pub mod RepeatLaws
 pub mod HeadLaws
+pub mod AcceptLaws
+pub mod OpenedLaws

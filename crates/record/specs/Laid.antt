@@ -1,14 +1,41 @@
--- A condition between the inner steps of the check; no public promise cites it.
+-- Conditions and answers of inner steps; no public promise cites them.
 use mathlib.Core.Path.{_≡_}
 use mathlib.Core.Bool.{true}
 use mathlib.Core.List.{List}
 use Prim.Native.Nat.{ℕ, _≤_}
 use lib.ListN.{length}
 use Rattle.record.specs.declared.head.Head.{Head}
-use Rattle.record.specs.Head.{headOf, withinLimits, stringsAt}
+use Rattle.record.specs.declared.cursors.Run.{Run}
+use Rattle.record.specs.declared.opened.Record.{Record}
+use Rattle.record.specs.Bytes.{bit}
+use Rattle.record.specs.Head.{headOf, withinLimits, countriesAt, previousAt, switchesAt, provincesAt, eventsAt, warsAt, warEventsAt, ledgersAt, pointsAt, stringsAt}
 
 -- The head of these bytes, with counts within their limits and sections that end inside the bytes.
 pub record Laid (xs : List ℕ) (h : Head) : Type 0 where
   pub head : h ≡ headOf xs
   pub limits : withinLimits h ≡ true
   pub inside : stringsAt h ≤ length xs
+
+-- So many rows from an offset on.
+abbrev pub runAt : ℕ → ℕ → Run
+runAt at n = record { at = at; left = n }
+
+-- The cursors that a head lays out.
+unfoldable pub recordAt : Head → Record
+recordAt h =
+    record {
+      ironman = bit 0 (h .flags);
+      multiplayer = bit 1 (h .flags);
+      start = h .start;
+      current = h .current;
+      countries =
+        record {
+          rows = runAt (countriesAt h) (h .countries);
+          previous = runAt (previousAt h) (h .previous);
+          switches = runAt (switchesAt h) (h .switches);
+        };
+      provinces = record { rows = runAt (provincesAt h) (h .provinces); events = runAt (eventsAt h) (h .events) };
+      wars = record { rows = runAt (warsAt h) (h .wars); events = runAt (warEventsAt h) (h .«war_events») };
+      ledgers = record { rows = runAt (ledgersAt h) (h .ledgers); points = runAt (pointsAt h) (h .points) };
+      strings = record { 0 = runAt (stringsAt h) (h .strings) };
+    }

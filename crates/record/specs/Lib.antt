@@ -7,3 +7,4 @@ pub mod Rows
 pub mod Campaign
 pub mod Refusal
 pub mod Cursors
+pub mod Opened

@@ -9,8 +9,12 @@ mod sizes;
 mod fields;
 mod repeats;
 mod refusal;
+mod opened;
 
 pub use refusal::check;
+pub use opened::open_record;
+pub use opened::Opened;
+pub use opened::Record;
 pub use tag::CountryTag;
 pub use tag::Created;
 pub use date::Eu4Date;

@@ -1,0 +1,28 @@
+use Rattle.record.specs.Laid.{recordAt}
+use borrow.Author.Needs.{needs}
+use Rattle.record.proofs.opened.ledgers_from.Statement.{statement}
+use Rattle.record.proofs.opened.ledgers_from.Tie as tie
+use Rattle.record.proofs.opened.ledgers_from.Reads as reads
+use Rattle.record.proofs.opened.ledgers_from.Lts as lts
+use Rattle.record.proofs.head.ledgers_at.Reads as ledgers-at-reads
+use Rattle.record.proofs.head.points_at.Reads as points-at-reads
+
+ledgers-at-requires : tie.Need-ledgers-at-requires
+ledgers-at-requires c κs = search needs
+
+cast-t3 : tie.Need-cast-t3
+cast-t3 c = search needs
+
+points-at-requires : tie.Need-points-at-requires
+points-at-requires c κs = search needs
+
+cast-t6 : tie.Need-cast-t6
+cast-t6 c = search needs
+
+returns : tie.Need-returns
+unfolding recordAt
+returns c = cc
+
+pub ledgers-from-spec : {M : Type 1} → statement M
+ledgers-from-spec =
+    tie.close (tie.spec ledgers-at-requires cast-t3 points-at-requires cast-t6 returns)

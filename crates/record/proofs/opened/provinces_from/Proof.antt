@@ -1,0 +1,28 @@
+use Rattle.record.specs.Laid.{recordAt}
+use borrow.Author.Needs.{needs}
+use Rattle.record.proofs.opened.provinces_from.Statement.{statement}
+use Rattle.record.proofs.opened.provinces_from.Tie as tie
+use Rattle.record.proofs.opened.provinces_from.Reads as reads
+use Rattle.record.proofs.opened.provinces_from.Lts as lts
+use Rattle.record.proofs.head.events_at.Reads as events-at-reads
+use Rattle.record.proofs.head.provinces_at.Reads as provinces-at-reads
+
+provinces-at-requires : tie.Need-provinces-at-requires
+provinces-at-requires c κs = search needs
+
+cast-t3 : tie.Need-cast-t3
+cast-t3 c = search needs
+
+events-at-requires : tie.Need-events-at-requires
+events-at-requires c κs = search needs
+
+cast-t6 : tie.Need-cast-t6
+cast-t6 c = search needs
+
+returns : tie.Need-returns
+unfolding recordAt
+returns c = cc
+
+pub provinces-from-spec : {M : Type 1} → statement M
+provinces-from-spec =
+    tie.close (tie.spec provinces-at-requires cast-t3 events-at-requires cast-t6 returns)

@@ -1,0 +1,20 @@
+use Rattle.record.specs.Laid.{recordAt}
+use borrow.Author.Needs.{needs}
+use Rattle.record.proofs.opened.strings_from.Statement.{statement}
+use Rattle.record.proofs.opened.strings_from.Tie as tie
+use Rattle.record.proofs.opened.strings_from.Reads as reads
+use Rattle.record.proofs.opened.strings_from.Lts as lts
+use Rattle.record.proofs.head.strings_at.Reads as strings-at-reads
+
+strings-at-requires : tie.Need-strings-at-requires
+strings-at-requires c κs = search needs
+
+cast-t3 : tie.Need-cast-t3
+cast-t3 c = search needs
+
+returns : tie.Need-returns
+unfolding recordAt
+returns c = cc
+
+pub strings-from-spec : {M : Type 1} → statement M
+strings-from-spec = tie.close (tie.spec strings-at-requires cast-t3 returns)

@@ -1,0 +1,28 @@
+use Rattle.record.specs.Laid.{recordAt}
+use borrow.Author.Needs.{needs}
+use Rattle.record.proofs.opened.wars_from.Statement.{statement}
+use Rattle.record.proofs.opened.wars_from.Tie as tie
+use Rattle.record.proofs.opened.wars_from.Reads as reads
+use Rattle.record.proofs.opened.wars_from.Lts as lts
+use Rattle.record.proofs.head.war_events_at.Reads as war-events-at-reads
+use Rattle.record.proofs.head.wars_at.Reads as wars-at-reads
+
+wars-at-requires : tie.Need-wars-at-requires
+wars-at-requires c κs = search needs
+
+cast-t3 : tie.Need-cast-t3
+cast-t3 c = search needs
+
+war-events-at-requires : tie.Need-war-events-at-requires
+war-events-at-requires c κs = search needs
+
+cast-t6 : tie.Need-cast-t6
+cast-t6 c = search needs
+
+returns : tie.Need-returns
+unfolding recordAt
+returns c = cc
+
+pub wars-from-spec : {M : Type 1} → statement M
+wars-from-spec =
+    tie.close (tie.spec wars-at-requires cast-t3 war-events-at-requires cast-t6 returns)

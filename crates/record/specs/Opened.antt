@@ -1,0 +1,39 @@
+-- An opened record: refused by its number exactly when its check refuses it, else its campaign, through cursors.
+use mathlib.Core.Path.{_≡_}
+use mathlib.Core.List.{List}
+use Prim.Native.Nat.{ℕ}
+use lib.ListN.{length}
+use Rattle.record.specs.declared.opened.Record.{Record}
+use Rattle.record.specs.declared.opened.Opened.{Opened}
+use Rattle.record.specs.declared.opened.Opened.the-variants.{Accepted, Refused}
+use Rattle.record.specs.Campaign.{campaignOf}
+use Rattle.record.specs.Cursors.{countriesLeft, provincesLeft, warsLeft, ledgersLeft, stringsLeft}
+use Rattle.record.specs.Refusal.{refusal}
+
+-- 01's number for each case of the answer.
+abbrev pub openedNumber : Opened → ℕ
+openedNumber (Accepted r) = 0
+openedNumber (Refused n) = n
+
+-- The record tells its campaign: flags, dates, and of each section a cursor that has left exactly the campaign's rows.
+pub record Tells (xs : List ℕ) (r : Record) : Type 0 where
+  pub ironman : r .ironman ≡ campaignOf xs .ironman
+  pub multiplayer : r .multiplayer ≡ campaignOf xs .multiplayer
+  pub start : r .start ≡ campaignOf xs .start
+  pub current : r .current ≡ campaignOf xs .current
+  pub countries : countriesLeft xs (r .countries) ≡ campaignOf xs .countries
+  pub provinces : provincesLeft xs (r .provinces) ≡ campaignOf xs .provinces
+  pub wars : warsLeft xs (r .wars) ≡ campaignOf xs .wars
+  pub ledgers : ledgersLeft xs (r .ledgers) ≡ campaignOf xs .ledgers
+  pub strings : stringsLeft xs (r .strings) ≡ campaignOf xs .strings
+  pub countryCount : r .countries .rows .left ≡ length (campaignOf xs .countries)
+  pub provinceCount : r .provinces .rows .left ≡ length (campaignOf xs .provinces)
+
+-- What an accepted record's rows are; a refused one has none.
+abbrev pub Rows : List ℕ → Opened → Type 0
+Rows xs (Accepted r) = Tells xs r
+Rows xs (Refused n) = Unit {0}
+
+pub record RightlyOpened (xs : List ℕ) (r : Opened) : Type 0 where
+  pub number : openedNumber r ≡ refusal xs
+  pub rows : Rows xs r
