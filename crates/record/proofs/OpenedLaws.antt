@@ -29,11 +29,11 @@ tells xs l =
       ledgers = refl;
       strings = refl;
       countryCount =
-        sym (countries-length (countryRows xs) (previousTags xs) (switchRows xs)
-        ∙ rows-all (countryAt xs) 12 xs (countriesAt (headOf xs)) (headOf xs .countries) (omega (arith, l .inside)));
+          sym (countries-length (countryRows xs) (previousTags xs) (switchRows xs)
+          ∙ rows-all (countryAt xs) 12 xs (countriesAt (headOf xs)) (headOf xs .countries) (omega (arith, l .inside)));
       provinceCount =
-        sym (provinces-length (provinceRows xs) (ownerEvents xs)
-        ∙ rows-all (provinceAt xs) 7 xs (provincesAt (headOf xs)) (headOf xs .provinces) (omega (arith, l .inside)));
+          sym (provinces-length (provinceRows xs) (ownerEvents xs)
+          ∙ rows-all (provinceAt xs) 7 xs (provincesAt (headOf xs)) (headOf xs .provinces) (omega (arith, l .inside)));
     }
 
 pub rightly-opened : (xs : List ℕ) (h : Head) (r : Record) → refusal xs ≡ 0 → h ≡ headOf xs → r ≡ recordAt h → RightlyOpened xs (Accepted r)

@@ -76,7 +76,7 @@ module _ (place : ℕ → ℕ) where
   unfolding repeats
   repeats-mark good seen x ys apart g h room =
       let after : (y : ℕ) → good y ≡ true → isMarked (marking seen (place x)) (place y) ≡ eqb x y || isMarked seen (place y) =
-            λ y gy. marked-after seen (place x) (place y) room ∙ ap (λ b. b || isMarked seen (place y)) (apart y gy) in
+      λ y gy. marked-after seen (place x) (place y) room ∙ ap (λ b. b || isMarked seen (place y)) (apart y gy) in
       let all = any-or (eqb x) (λ y. isMarked seen (place y)) (λ y. isMarked (marking seen (place x)) (place y)) good ys after g in
       simp (h, all) (or-swap (anyOf (λ y. isMarked seen (place y)) ys) (anyOf (eqb x) ys) (twice ys))
     where
@@ -108,7 +108,7 @@ less-same a b p q e = omega arith
 place-apart : (v w : ℕ) → Bytes v → Bytes w → placeOf v ≡ placeOf w → v ≡ w
 place-apart v w hv hw e =
     let d = digits-apart (v / 65536 - 45) (v / 256 % 256 - 45) (v % 256 - 45) (w / 65536 - 45) (w / 256 % 256 - 45) (w % 256 - 45)
-              (omega (arith, hv .second)) (omega (arith, hv .third)) (omega (arith, hw .second)) (omega (arith, hw .third)) e in
+    (omega (arith, hv .second)) (omega (arith, hv .third)) (omega (arith, hw .second)) (omega (arith, hw .third)) e in
     let a = less-same (v / 65536) (w / 65536) (hv .first .0) (hw .first .0) (d .0) in
     let b = less-same (v / 256 % 256) (w / 256 % 256) (hv .second .0) (hw .second .0) (d .1) in
     let c = less-same (v % 256) (w % 256) (hv .third .0) (hw .third .0) (d .2) in
@@ -143,7 +143,7 @@ module _ (word : ℕ → ℕ) (width : ℕ) (xs : List ℕ) (at n : ℕ) (some :
   pub tag-marked : (seen : List ℕ) → length seen ≡ 7415 → allOf tagWord (rowsAt word width xs at n) ≡ true
       → isMarked seen (placeOf (word at)) ≡ false
       → repeats placeOf seen (rowsAt word width xs at n)
-        ≡ repeats placeOf (marking seen (placeOf (word at))) (rowsAt word width xs (at + width) (n - 1))
+      ≡ repeats placeOf (marking seen (placeOf (word at))) (rowsAt word width xs (at + width) (n - 1))
   tag-marked seen size good h =
       let g = rows-good good in
       let small = place-small (word at) (tag-bytes (record { 0 = word at }) (g .0)) in
@@ -152,7 +152,7 @@ module _ (word : ℕ → ℕ) (width : ℕ) (xs : List ℕ) (at n : ℕ) (some :
 
   pub number-marked : (seen : List ℕ) → word at < 64 * length seen → isMarked seen (word at) ≡ false
       → repeats (λ (k : ℕ). k) seen (rowsAt word width xs at n)
-        ≡ repeats (λ (k : ℕ). k) (marking seen (word at)) (rowsAt word width xs (at + width) (n - 1))
+      ≡ repeats (λ (k : ℕ). k) (marking seen (word at)) (rowsAt word width xs (at + width) (n - 1))
   number-marked seen small h =
       ap (repeats (λ (k : ℕ). k) seen) (rows-more word width xs at n some inside)
       ∙ repeats-mark (λ (k : ℕ). k) (λ _. true) seen (word at) _ (λ y _. eqb-sym y (word at)) (all-true (rowsAt word width xs (at + width) (n - 1))) h small
@@ -199,7 +199,7 @@ tag-twice-told xs h e = rw e (ap twice (sym (map-rows (λ (r : PackedCountry). r
 
 pub id-twice-told : (xs : List ℕ) (h : Head) (at : ℕ) → h ≡ headOf xs → at ≡ provincesAt h
     → twice (rowsAt (λ (a : ℕ). idAt xs a .0) 7 xs at (h .provinces)) || anyOf (ltb (h .provinces)) (rowsAt (λ (a : ℕ). idAt xs a .0) 7 xs at (h .provinces))
-      ≡ idTwiceOrAbove xs
+    ≡ idTwiceOrAbove xs
 unfolding idTwiceOrAbove provinceAt
 id-twice-told xs h at e p =
     let ids = map-rows (λ (r : PackedProvince). r .id .0) (provinceAt xs) 7 xs (provincesAt (headOf xs)) (headOf xs .provinces) in

@@ -29,11 +29,11 @@ recordAt h =
       start = h .start;
       current = h .current;
       countries =
-        record {
-          rows = runAt (countriesAt h) (h .countries);
-          previous = runAt (previousAt h) (h .previous);
-          switches = runAt (switchesAt h) (h .switches);
-        };
+          record {
+            rows = runAt (countriesAt h) (h .countries);
+            previous = runAt (previousAt h) (h .previous);
+            switches = runAt (switchesAt h) (h .switches);
+          };
       provinces = record { rows = runAt (provincesAt h) (h .provinces); events = runAt (eventsAt h) (h .events) };
       wars = record { rows = runAt (warsAt h) (h .wars); events = runAt (warEventsAt h) (h .«war_events») };
       ledgers = record { rows = runAt (ledgersAt h) (h .ledgers); points = runAt (pointsAt h) (h .points) };

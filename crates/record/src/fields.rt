@@ -52,7 +52,11 @@ fn country_number(s: &[u8], at: usize) -> u32
     if !bytes::tag_at(s, at).good() {
         return 4;
     }
-    if bytes::country_flags_defined(bytes::byte(s, at + 3)) { 0 } else { 6 }
+    if bytes::country_flags_defined(bytes::byte(s, at + 3)) {
+        0
+    } else {
+        6
+    }
 }
 
 fn countries_number(s: &[u8], at: usize, n: usize) -> u32

@@ -1,8 +1,8 @@
 // The check of a record: its refusal number, 0 when it is accepted.
 use crate::fields;
 use crate::head;
-use crate::sizes;
 use crate::repeats;
+use crate::sizes;
 ghost use mathlib.Core.Path.{_≡_};
 ghost use Rattle.record.specs.Refusal.{opens, refusal};
 

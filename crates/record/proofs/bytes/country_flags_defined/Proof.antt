@@ -10,7 +10,7 @@ use Rattle.record.proofs.bytes.country_flags_defined.Lts as lts
 
 -- src/bytes.rt:94:1
 returns : tie.Need-returns
-returns c = 
+returns c =
     let n = c .args .flags in
     let small : n / 8 < 32 = omega arith in
     rw (and-high n 5 3, mod-eq-of-lt small) (below-test (n / 8 * 8) n 8 (λ h. omega arith) (λ h e. omega arith))

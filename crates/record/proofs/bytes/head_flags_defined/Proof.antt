@@ -10,7 +10,7 @@ use Rattle.record.proofs.bytes.head_flags_defined.Lts as lts
 
 -- src/bytes.rt:86:1
 returns : tie.Need-returns
-returns c = 
+returns c =
     let n = c .args .flags in
     let small : n / 4 < 64 = omega arith in
     rw (and-high n 6 2, mod-eq-of-lt small) (below-test (n / 4 * 4) n 4 (λ h. omega arith) (λ h e. omega arith))

@@ -21,7 +21,7 @@ countries-number-requires : tie.Need-countries-number-requires
 countries-number-requires c κs = search needs
 
 returns : tie.Need-returns
-returns c = 
+returns c =
     let s0 = c .before .before .before in
     let g = s0 .args in
     c .countries-number .ensures

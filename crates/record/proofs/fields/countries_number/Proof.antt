@@ -26,7 +26,7 @@ country-number-requires : tie.Need-country-number-requires Inv-loop μ-loop
 country-number-requires c κs = search needs
 
 returns : tie.Need-returns Inv-loop μ-loop
-returns c = 
+returns c =
     let k = c .before .country-number in
     let l = c .before .before .before .loop in
     k .ensures
@@ -43,13 +43,13 @@ loop-less : tie.Need-loop-less Inv-loop μ-loop
 loop-less c = search needs
 
 loop-again : tie.Need-loop-again Inv-loop μ-loop
-loop-again c = 
+loop-again c =
     let k = c .before .country-number in
     let l = c .before .before .before .loop in
     (search needs, sym (first-rows-pass (countryNumber) (countryAt _) 12 _ _ _ (c .before .before .loop-test .taken) (omega arith) (sym (k .ensures) ∙ c .if1 .left)) ∙ l .inv .1)
 
 returns-2 : tie.Need-returns-2 Inv-loop μ-loop
-returns-2 c = 
+returns-2 c =
     let l = c .before .loop in
     let none : l .left ≡ 0 = omega arith in
     sym (first-rows-none (countryNumber) (countryAt _) 12 _ _) ∙ (rw none at (l .inv .1))

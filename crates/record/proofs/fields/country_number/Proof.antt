@@ -36,7 +36,7 @@ country-flags-defined-requires c κs = search needs
 
 returns-2 : tie.Need-returns-2
 unfolding countryNumber countryAt firstOf
-returns-2 c = 
+returns-2 c =
     simp (
       sym (ap isTag (c .before .before .before .before .before .tag-at .ensures)) ∙ sym (c .before .before .before .before .good2 .ensures) ∙ not-false _ (c .before .before .before .if1 .left),
       sym (ap (λ (n : ℕ). ltb n 8) (c .before .before .byte .ensures .same)) ∙ sym (c .before .country-flags-defined .ensures) ∙ c .if2 .taken,
@@ -44,7 +44,7 @@ returns-2 c =
 
 returns-3 : tie.Need-returns-3
 unfolding countryNumber countryAt firstOf
-returns-3 c = 
+returns-3 c =
     simp (
       sym (ap isTag (c .before .before .before .before .before .tag-at .ensures)) ∙ sym (c .before .before .before .before .good2 .ensures) ∙ not-false _ (c .before .before .before .if1 .left),
       sym (ap (λ (n : ℕ). ltb n 8) (c .before .before .byte .ensures .same)) ∙ sym (c .before .country-flags-defined .ensures) ∙ c .if2 .left,

@@ -36,7 +36,7 @@ tag-number-requires c κs = search needs
 
 returns-2 : tie.Need-returns-2
 unfolding ownerEventNumber ownerEventAt firstOf
-returns-2 c = 
+returns-2 c =
     c .tag-number .ensures ∙ ap (λ t. tagNumber t) (c .before .tag-at .ensures)
     ∙ sym (simp (sym (ap goodDate (c .before .before .before .before .date-at .ensures)) ∙ sym (c .before .before .before .good2 .ensures) ∙ not-false _ (c .before .before .if1 .left)) (first-one _))
 

@@ -26,7 +26,7 @@ dated-number-requires : tie.Need-dated-number-requires Inv-loop μ-loop
 dated-number-requires c κs = search needs
 
 returns : tie.Need-returns Inv-loop μ-loop
-returns c = 
+returns c =
     let k = c .before .dated-number in
     let l = c .before .before .before .loop in
     k .ensures
@@ -43,13 +43,13 @@ loop-less : tie.Need-loop-less Inv-loop μ-loop
 loop-less c = search needs
 
 loop-again : tie.Need-loop-again Inv-loop μ-loop
-loop-again c = 
+loop-again c =
     let k = c .before .dated-number in
     let l = c .before .before .before .loop in
     (search needs, sym (first-rows-pass (ownerEventNumber) (ownerEventAt _) 7 _ _ _ (c .before .before .loop-test .taken) (omega arith) (sym (k .ensures) ∙ c .if1 .left)) ∙ l .inv .1)
 
 returns-2 : tie.Need-returns-2 Inv-loop μ-loop
-returns-2 c = 
+returns-2 c =
     let l = c .before .loop in
     let none : l .left ≡ 0 = omega arith in
     sym (first-rows-none (ownerEventNumber) (ownerEventAt _) 7 _ _) ∙ (rw none at (l .inv .1))

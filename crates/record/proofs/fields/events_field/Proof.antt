@@ -25,7 +25,7 @@ dated-rows-number-requires : tie.Need-dated-rows-number-requires
 dated-rows-number-requires c κs = search needs
 
 returns : tie.Need-returns
-returns c = 
+returns c =
     let s0 = c .before .before .before .before in
     let g = s0 .args in
     c .dated-rows-number .ensures

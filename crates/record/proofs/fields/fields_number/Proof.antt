@@ -21,7 +21,7 @@ head-number-requires c κs = search needs
 
 returns : tie.Need-returns
 unfolding fieldsNumber
-returns c = 
+returns c =
     let s0 = c .before .before .before in
     (c .before .head-number .ensures ∙ ap headNumber (s0 .pre .0 .head))
     ∙ sym (first-stop _ _ (λ e. c .if1 .taken ((c .before .head-number .ensures ∙ ap headNumber (s0 .pre .0 .head)) ∙ e)))
@@ -31,7 +31,7 @@ countries-field-requires c κs = search needs
 
 returns-2 : tie.Need-returns-2
 unfolding fieldsNumber
-returns-2 c = 
+returns-2 c =
     let s0 = c .before .before .before .before .before in
     c .before .countries-field .ensures
     ∙ sym (first-pass _ _ (sym ((c .before .before .before .head-number .ensures ∙ ap headNumber (s0 .pre .0 .head))) ∙ c .before .before .if1 .left)
@@ -42,7 +42,7 @@ previous-field-requires c κs = search needs
 
 returns-3 : tie.Need-returns-3
 unfolding fieldsNumber
-returns-3 c = 
+returns-3 c =
     let s0 = c .before .before .before .before .before .before .before in
     c .before .previous-field .ensures
     ∙ sym (first-pass _ _ (sym ((c .before .before .before .before .before .head-number .ensures ∙ ap headNumber (s0 .pre .0 .head))) ∙ c .before .before .before .before .if1 .left)
@@ -54,7 +54,7 @@ switches-field-requires c κs = search needs
 
 returns-4 : tie.Need-returns-4
 unfolding fieldsNumber
-returns-4 c = 
+returns-4 c =
     let s0 = c .before .before .before .before .before .before .before .before .before in
     c .before .switches-field .ensures
     ∙ sym (first-pass _ _ (sym ((c .before .before .before .before .before .before .before .head-number .ensures ∙ ap headNumber (s0 .pre .0 .head))) ∙ c .before .before .before .before .before .before .if1 .left)
@@ -67,7 +67,7 @@ provinces-field-requires c κs = search needs
 
 returns-5 : tie.Need-returns-5
 unfolding fieldsNumber
-returns-5 c = 
+returns-5 c =
     let s0 = c .before .before .before .before .before .before .before .before .before .before .before in
     c .before .provinces-field .ensures
     ∙ sym (first-pass _ _ (sym ((c .before .before .before .before .before .before .before .before .before .head-number .ensures ∙ ap headNumber (s0 .pre .0 .head))) ∙ c .before .before .before .before .before .before .before .before .if1 .left)
@@ -81,7 +81,7 @@ events-field-requires c κs = search needs
 
 returns-6 : tie.Need-returns-6
 unfolding fieldsNumber
-returns-6 c = 
+returns-6 c =
     let s0 = c .before .before .before .before .before .before .before .before .before .before .before .before .before in
     c .before .events-field .ensures
     ∙ sym (first-pass _ _ (sym ((c .before .before .before .before .before .before .before .before .before .before .before .head-number .ensures ∙ ap headNumber (s0 .pre .0 .head))) ∙ c .before .before .before .before .before .before .before .before .before .before .if1 .left)
@@ -96,7 +96,7 @@ wars-field-requires c κs = search needs
 
 returns-7 : tie.Need-returns-7
 unfolding fieldsNumber
-returns-7 c = 
+returns-7 c =
     let s0 = c .before .before .before .before .before .before .before .before .before .before .before .before .before .before .before in
     c .before .wars-field .ensures
     ∙ sym (first-pass _ _ (sym ((c .before .before .before .before .before .before .before .before .before .before .before .before .before .head-number .ensures ∙ ap headNumber (s0 .pre .0 .head))) ∙ c .before .before .before .before .before .before .before .before .before .before .before .before .if1 .left)
@@ -112,7 +112,7 @@ ledgers-field-requires c κs = search needs
 
 returns-8 : tie.Need-returns-8
 unfolding fieldsNumber
-returns-8 c = 
+returns-8 c =
     let s0 = c .before .before .before .before .before .before .before .before .before .before .before .before .before .before .before .before .before in
     c .before .ledgers-field .ensures
     ∙ sym (first-pass _ _ (sym ((c .before .before .before .before .before .before .before .before .before .before .before .before .before .before .before .head-number .ensures ∙ ap headNumber (s0 .pre .0 .head))) ∙ c .before .before .before .before .before .before .before .before .before .before .before .before .before .before .if1 .left)
@@ -129,7 +129,7 @@ points-field-requires c κs = search needs
 
 returns-9 : tie.Need-returns-9
 unfolding fieldsNumber
-returns-9 c = 
+returns-9 c =
     let s0 = c .before .before .before .before .before .before .before .before .before .before .before .before .before .before .before .before .before .before in
     c .points-field .ensures
     ∙ sym (first-pass _ _ (sym ((c .before .before .before .before .before .before .before .before .before .before .before .before .before .before .before .before .head-number .ensures ∙ ap headNumber (s0 .pre .0 .head))) ∙ c .before .before .before .before .before .before .before .before .before .before .before .before .before .before .before .if1 .left)

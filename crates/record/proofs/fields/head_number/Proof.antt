@@ -23,7 +23,7 @@ good-requires c κs = search needs
 
 returns-2 : tie.Need-returns-2
 unfolding headNumber firstOf
-returns-2 c = 
+returns-2 c =
     simp (
       sym (c .before .before .before .head-flags-defined .ensures) ∙ not-false _ (c .before .before .if1 .left),
       sym (c .before .good2 .ensures) ∙ not-true _ (c .if2 .taken),
@@ -34,7 +34,7 @@ date-number-requires c κs = search needs
 
 returns-3 : tie.Need-returns-3
 unfolding headNumber firstOf
-returns-3 c = 
+returns-3 c =
     c .date-number .ensures
     ∙ sym (simp (
       sym (c .before .before .before .before .head-flags-defined .ensures) ∙ not-false _ (c .before .before .before .if1 .left),

@@ -30,7 +30,7 @@ tags-number-requires c κs = search needs
 
 returns : tie.Need-returns
 unfolding ledgerAt
-returns c = 
+returns c =
     let s0 = c .before .before .before .before in
     let g = s0 .args in
     c .tags-number .ensures

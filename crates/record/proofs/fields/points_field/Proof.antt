@@ -26,7 +26,7 @@ points-number-requires : tie.Need-points-number-requires
 points-number-requires c κs = search needs
 
 returns : tie.Need-returns
-returns c = 
+returns c =
     let s0 = c .before .before .before .before in
     let g = s0 .args in
     c .points-number .ensures

@@ -15,7 +15,7 @@ use Rattle.record.proofs.fields.points_number.Lts as lts
 use Rattle.record.proofs.fields.point_number.Reads as point-number-reads
 
 abbrev Inv-loop : tie.InvT-loop
-Inv-loop s at n a₀ left₀ a left = 
+Inv-loop s at n a₀ left₀ a left =
     (a + 6 * left ≤ length s)
     × (firstIn (λ (p : Point). yearNumber (p .year)) (rowsAt (pointAt s) 6 s a left) ≡ firstIn (λ (p : Point). yearNumber (p .year)) (rowsAt (pointAt s) 6 s at n))
 
@@ -29,7 +29,7 @@ point-number-requires : tie.Need-point-number-requires Inv-loop μ-loop
 point-number-requires c κs = search needs
 
 returns : tie.Need-returns Inv-loop μ-loop
-returns c = 
+returns c =
     let k = c .before .point-number in
     let l = c .before .before .before .loop in
     k .ensures
@@ -46,13 +46,13 @@ loop-less : tie.Need-loop-less Inv-loop μ-loop
 loop-less c = search needs
 
 loop-again : tie.Need-loop-again Inv-loop μ-loop
-loop-again c = 
+loop-again c =
     let k = c .before .point-number in
     let l = c .before .before .before .loop in
     (search needs, sym (first-rows-pass (λ (p : Point). yearNumber (p .year)) (pointAt _) 6 _ _ _ (c .before .before .loop-test .taken) (omega arith) (sym (k .ensures) ∙ c .if1 .left)) ∙ l .inv .1)
 
 returns-2 : tie.Need-returns-2 Inv-loop μ-loop
-returns-2 c = 
+returns-2 c =
     let l = c .before .loop in
     let none : l .left ≡ 0 = omega arith in
     sym (first-rows-none (λ (p : Point). yearNumber (p .year)) (pointAt _) 6 _ _) ∙ (rw none at (l .inv .1))

@@ -28,7 +28,7 @@ tags-number-requires : tie.Need-tags-number-requires
 tags-number-requires c κs = search needs
 
 returns : tie.Need-returns
-returns c = 
+returns c =
     let s0 = c .before .before .before .before in
     let g = s0 .args in
     c .tags-number .ensures

@@ -28,7 +28,7 @@ dated-rows-number-requires c κs = search needs
 
 returns : tie.Need-returns
 unfolding switchNumber ownerEventNumber switchAt ownerEventAt
-returns c = 
+returns c =
     let s0 = c .before .before .before .before in
     let g = s0 .args in
     c .dated-rows-number .ensures

@@ -17,7 +17,7 @@ use Rattle.record.proofs.bytes.tag_at.Reads as tag-at-reads
 use Rattle.record.proofs.fields.tag_number.Reads as tag-number-reads
 
 abbrev Inv-loop : tie.InvT-loop
-Inv-loop s at width k n a₀ left₀ a left = 
+Inv-loop s at width k n a₀ left₀ a left =
     (a + width * left ≤ length s)
     × (firstIn (λ t. tagNumber t) (rowsAt (λ (x : ℕ). tagAt s (x + k)) width s a left) ≡ firstIn (λ t. tagNumber t) (rowsAt (λ (x : ℕ). tagAt s (x + k)) width s at n))
 
@@ -37,7 +37,7 @@ tag-number-requires : tie.Need-tag-number-requires Inv-loop μ-loop
 tag-number-requires c κs = search needs
 
 returns : tie.Need-returns Inv-loop μ-loop
-returns c = 
+returns c =
     let l = c .before .before .before .before .loop in
     let g = c .before .before .before .before .before .before .args in
     let told = c .before .tag-number .ensures ∙ ap (λ t. tagNumber t) (c .before .before .tag-at .ensures) in
@@ -55,16 +55,17 @@ loop-less : tie.Need-loop-less Inv-loop μ-loop
 loop-less c = search needs
 
 loop-again : tie.Need-loop-again Inv-loop μ-loop
-loop-again c = 
+loop-again c =
     let l = c .before .before .before .before .loop in
     let g = c .before .before .before .before .before .before .args in
-    let told = c .before .tag-number .ensures ∙ ap (λ t. tagNumber t) (c .before .before .tag-at .ensures) in
-    (omega (arith, one-row (c .before .before .before .before .before .before .args .width) (c .before .before .before .before .loop .left) (c .before .before .before .loop-test .taken)),
-     sym (first-rows-pass (λ t. tagNumber t) (λ (x : ℕ). tagAt (g .s .now) (x + g .k)) (g .width) (g .s .now) (l .a) (l .left) (c .before .before .before .loop-test .taken) (omega (arith, one-row (c .before .before .before .before .before .before .args .width) (c .before .before .before .before .loop .left) (c .before .before .before .loop-test .taken))) (sym told ∙ c .if1 .left))
-     ∙ l .inv .1)
+    let told = c .before .tag-number .ensures ∙ ap (λ t. tagNumber t) (c .before .before .tag-at .ensures) in (
+      omega (arith, one-row (c .before .before .before .before .before .before .args .width) (c .before .before .before .before .loop .left) (c .before .before .before .loop-test .taken)),
+      sym (first-rows-pass (λ t. tagNumber t) (λ (x : ℕ). tagAt (g .s .now) (x + g .k)) (g .width) (g .s .now) (l .a) (l .left) (c .before .before .before .loop-test .taken) (omega (arith, one-row (c .before .before .before .before .before .before .args .width) (c .before .before .before .before .loop .left) (c .before .before .before .loop-test .taken))) (sym told ∙ c .if1 .left))
+          ∙ l .inv .1,
+    )
 
 returns-2 : tie.Need-returns-2 Inv-loop μ-loop
-returns-2 c = 
+returns-2 c =
     let l = c .before .loop in
     let g = c .before .before .before .args in
     let none : l .left ≡ 0 = omega arith in

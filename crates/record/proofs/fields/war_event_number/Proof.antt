@@ -36,7 +36,7 @@ byte-requires c κs = search needs
 
 returns-2 : tie.Need-returns-2
 unfolding warEventNumber warEventAt firstOf
-returns-2 c = 
+returns-2 c =
     simp (
       sym (ap goodDate (c .before .before .before .before .date-at .ensures)) ∙ sym (c .before .before .before .good2 .ensures) ∙ not-false _ (c .before .before .if1 .left),
       sym (ap (λ (k : ℕ). leb k 4) (c .before .byte .ensures .same)) ∙ lt-leb _ _ (c .if2 .taken),
@@ -53,7 +53,7 @@ tag-number-requires c κs = search needs
 
 returns-3 : tie.Need-returns-3
 unfolding warEventNumber warEventAt firstOf
-returns-3 c = 
+returns-3 c =
     c .tag-number .ensures ∙ ap (λ t. tagNumber t) (c .before .tag-at .ensures)
     ∙ sym (simp (
       sym (ap goodDate (c .before .before .before .before .before .before .date-at .ensures)) ∙ sym (c .before .before .before .before .before .good2 .ensures) ∙ not-false _ (c .before .before .before .before .if1 .left),

@@ -25,7 +25,7 @@ war-events-number-requires : tie.Need-war-events-number-requires
 war-events-number-requires c κs = search needs
 
 returns : tie.Need-returns
-returns c = 
+returns c =
     let s0 = c .before .before .before .before in
     let g = s0 .args in
     c .war-events-number .ensures

@@ -49,7 +49,7 @@ strings-from-requires c κs = search needs
 
 returns-2 : tie.Need-returns-2
 unfolding recordAt
-returns-2 c = 
+returns-2 c =
     rightly-opened (c .before .before .before .before .before .before .before .before .before .before .before .before .before .args .s .now) (c .before .before .before .before .before .before .before .before .before .read-head .result) _
     (sym (c .before .before .before .before .before .before .before .before .before .before .before .check .ensures) ∙ c .before .before .before .before .before .before .before .before .before .before .if1 .left)
     (c .before .before .before .before .before .before .before .before .before .read-head .ensures)

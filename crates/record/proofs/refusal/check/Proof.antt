@@ -33,7 +33,7 @@ read-head-requires c κs = opens-long _ (sym (c .before .opens-record .ensures) 
 
 returns-2 : tie.Need-returns-2
 unfolding refusal firstOf
-returns-2 c = 
+returns-2 c =
     simp (
       sym (c .before .before .before .before .opens-record .ensures) ∙ not-false _ (c .before .before .before .if1 .left),
       ne-eqb _ _ (λ e. c .if2 .taken (ap (λ k. k .version) (c .before .before .read-head .ensures) ∙ e)),
@@ -44,7 +44,7 @@ sizes-agree-requires c κs = search needs
 
 returns-3 : tie.Need-returns-3
 unfolding refusal firstOf
-returns-3 c = 
+returns-3 c =
     simp (
       sym (c .before .before .before .before .before .before .opens-record .ensures) ∙ not-false _ (c .before .before .before .before .before .if1 .left),
       eq-eqb _ _ (sym (ap (λ k. k .version) (c .before .before .before .before .read-head .ensures)) ∙ c .before .before .if2 .left),
@@ -53,13 +53,14 @@ returns-3 c =
 
 fields-number-requires : tie.Need-fields-number-requires
 unfolding headOf
-fields-number-requires c κs = 
-    (laid (c .before .before .before .before .before .before .before .before .args .s .now) _ (c .before .before .before .before .read-head .ensures) (sym (c .before .sizes-agree .ensures) ∙ not-false _ (c .if3 .left)),
-     omega (arith, ap (λ k. k .flags) (c .before .before .before .before .read-head .ensures), c .before .before .before .before .before .before .before .shared-slice-known .given 5))
+fields-number-requires c κs = (
+  laid (c .before .before .before .before .before .before .before .before .args .s .now) _ (c .before .before .before .before .read-head .ensures) (sym (c .before .sizes-agree .ensures) ∙ not-false _ (c .if3 .left)),
+  omega (arith, ap (λ k. k .flags) (c .before .before .before .before .read-head .ensures), c .before .before .before .before .before .before .before .shared-slice-known .given 5),
+)
 
 returns-4 : tie.Need-returns-4
 unfolding refusal firstOf
-returns-4 c = 
+returns-4 c =
     simp (
       sym (c .before .before .before .before .before .before .before .before .opens-record .ensures) ∙ not-false _ (c .before .before .before .before .before .before .before .if1 .left),
       eq-eqb _ _ (sym (ap (λ k. k .version) (c .before .before .before .before .before .before .read-head .ensures)) ∙ c .before .before .before .before .if2 .left),
@@ -68,13 +69,14 @@ returns-4 c =
     (c .before .fields-number .ensures ∙ sym (first-stop (fieldsNumber (c .before .before .before .before .before .before .before .before .before .before .args .s .now)) (repeatsNumber (c .before .before .before .before .before .before .before .before .before .before .args .s .now) ∷ orderNumber (c .before .before .before .before .before .before .before .before .before .before .args .s .now) ∷ []) (λ e. c .if4 .taken (c .before .fields-number .ensures ∙ e))))
 
 repeated-requires : tie.Need-repeated-requires
-repeated-requires c κs = 
-    (laid (c .before .before .before .before .before .before .before .before .before .before .args .s .now) _ (c .before .before .before .before .before .before .read-head .ensures) (sym (c .before .before .before .sizes-agree .ensures) ∙ not-false _ (c .before .before .if3 .left)),
-     fields-countries (c .before .before .before .before .before .before .before .before .before .before .args .s .now) (sym (c .before .fields-number .ensures) ∙ c .if4 .left))
+repeated-requires c κs = (
+  laid (c .before .before .before .before .before .before .before .before .before .before .args .s .now) _ (c .before .before .before .before .before .before .read-head .ensures) (sym (c .before .before .before .sizes-agree .ensures) ∙ not-false _ (c .before .before .if3 .left)),
+  fields-countries (c .before .before .before .before .before .before .before .before .before .before .args .s .now) (sym (c .before .fields-number .ensures) ∙ c .if4 .left),
+)
 
 returns-5 : tie.Need-returns-5
 unfolding refusal firstOf
-returns-5 c = 
+returns-5 c =
     simp (
       sym (c .before .before .before .before .before .before .before .before .before .before .opens-record .ensures) ∙ not-false _ (c .before .before .before .before .before .before .before .before .before .if1 .left),
       eq-eqb _ _ (sym (ap (λ k. k .version) (c .before .before .before .before .before .before .before .before .read-head .ensures)) ∙ c .before .before .before .before .before .before .if2 .left),
@@ -88,7 +90,7 @@ earlier-requires c κs = search needs
 
 returns-6 : tie.Need-returns-6
 unfolding refusal firstOf
-returns-6 c = 
+returns-6 c =
     simp (
       sym (c .before .before .before .before .before .before .before .before .before .before .before .before .before .before .opens-record .ensures) ∙ not-false _ (c .before .before .before .before .before .before .before .before .before .before .before .before .before .if1 .left),
       eq-eqb _ _ (sym (ap (λ k. k .version) (c .before .before .before .before .before .before .before .before .before .before .before .before .read-head .ensures)) ∙ c .before .before .before .before .before .before .before .before .before .before .if2 .left),
@@ -100,7 +102,7 @@ returns-6 c =
 
 returns-7 : tie.Need-returns-7
 unfolding refusal firstOf
-returns-7 c = 
+returns-7 c =
     simp (
       sym (c .before .before .before .before .before .before .before .before .before .before .before .before .before .before .opens-record .ensures) ∙ not-false _ (c .before .before .before .before .before .before .before .before .before .before .before .before .before .if1 .left),
       eq-eqb _ _ (sym (ap (λ k. k .version) (c .before .before .before .before .before .before .before .before .before .before .before .before .read-head .ensures)) ∙ c .before .before .before .before .before .before .before .before .before .before .if2 .left),

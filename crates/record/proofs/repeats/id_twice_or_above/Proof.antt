@@ -24,17 +24,17 @@ use Rattle.bitset.proofs.marked.Reads as marked-reads
 use Rattle.record.proofs.bytes.u16_at.Reads as u16-at-reads
 
 abbrev Inv-loop : tie.InvT-loop
-Inv-loop s at n seen₀ a₀ left₀ seen a left = 
+Inv-loop s at n seen₀ a₀ left₀ seen a left =
     (a + 7 * left ≤ length s)
     × (length seen ≡ 126)
     × (repeats (λ (k : ℕ). k) seen (rowsAt (λ (x : ℕ). idAt s x .0) 7 s a left) || anyOf (ltb n) (rowsAt (λ (x : ℕ). idAt s x .0) 7 s a left)
-      ≡ twice (rowsAt (λ (x : ℕ). idAt s x .0) 7 s at n) || anyOf (ltb n) (rowsAt (λ (x : ℕ). idAt s x .0) 7 s at n))
+    ≡ twice (rowsAt (λ (x : ℕ). idAt s x .0) 7 s at n) || anyOf (ltb n) (rowsAt (λ (x : ℕ). idAt s x .0) 7 s at n))
 
 abbrev μ-loop : tie.MeasureT-loop
 μ-loop s at n seen₀ a₀ left₀ seen a left = left
 
 loop-holds : tie.Need-loop-holds Inv-loop μ-loop
-loop-holds c = 
+loop-holds c =
     let g = c .before .args in
     (search needs, refl, ap (λ r. r || anyOf (ltb (g .n)) (rowsAt (λ (x : ℕ). idAt (g .s .now) x .0) 7 (g .s .now) (g .at) (g .n))) (repeats-start (λ (k : ℕ). k) 126 (rowsAt (λ (x : ℕ). idAt (g .s .now) x .0) 7 (g .s .now) (g .at) (g .n))))
 
@@ -46,7 +46,7 @@ cast-id c = search needs
 
 returns : tie.Need-returns Inv-loop μ-loop
 unfolding idAt
-returns c = 
+returns c =
     let g = c .before .before .before .before .before .args in
     let l = c .before .before .before .loop in
     let above = sym (ap (ltb (g .n)) (c .before .u16-at .ensures .same)) ∙ lt-ltb _ _ (c .if1 .taken) in
@@ -60,7 +60,7 @@ marked-requires c κs = search needs
 
 returns-2 : tie.Need-returns-2 Inv-loop μ-loop
 unfolding idAt
-returns-2 c = 
+returns-2 c =
     let g = c .before .before .before .before .before .before .before .before .args in
     let l = c .before .before .before .before .before .before .loop in
     let hit = ap (isMarked (l .seen)) (sym (c .before .before .before .before .u16-at .ensures .same)) ∙ sym (c .before .marked .ensures) ∙ c .if2 .taken in
@@ -83,7 +83,7 @@ loop-less c = search needs
 
 loop-again : tie.Need-loop-again Inv-loop μ-loop
 unfolding idAt
-loop-again c = 
+loop-again c =
     let g = c .before .before .before .before .before .before .before .before .before .before .before .args in
     let l = c .before .before .before .before .before .before .before .before .before .loop in
     let some = c .before .before .before .before .before .before .before .before .loop-test .taken in
@@ -92,16 +92,17 @@ loop-again c =
     let above = sym (ap (ltb (g .n)) (id .ensures .same)) ∙ le-ltb _ _ (c .before .before .before .before .before .before .if1 .left) in
     let miss = ap (isMarked (l .seen)) (sym (id .ensures .same)) ∙ sym (c .before .before .before .before .marked .ensures) ∙ c .before .before .before .if2 .left in
     let told = c .before .mark .ensures ∙ ap (marking (l .seen)) (id .ensures .same) in
-    let small : idAt (g .s .now) (l .a) .0 < 64 * length (l .seen) = omega (arith, id .ensures .same, l .inv .1, c .before .before .before .before .before .before .if1 .left) in
-    (omega arith,
-     ap length told ∙ length-marking (l .seen) _ ∙ l .inv .1,
-     ap (λ seen. repeats (λ (k : ℕ). k) seen (rowsAt (λ (x : ℕ). idAt (g .s .now) x .0) 7 (g .s .now) (l .a + 7) (l .left - 1)) || anyOf (ltb (g .n)) (rowsAt (λ (x : ℕ). idAt (g .s .now) x .0) 7 (g .s .now) (l .a + 7) (l .left - 1))) told
-     ∙ ap₂ _||_ (sym (number-marked (λ (x : ℕ). idAt (g .s .now) x .0) 7 (g .s .now) (l .a) (l .left) some inside (l .seen) small miss))
-       (sym (rows-not-above (λ (x : ℕ). idAt (g .s .now) x .0) 7 (g .s .now) (l .a) (l .left) some inside (g .n) above))
-     ∙ l .inv .2)
+    let small : idAt (g .s .now) (l .a) .0 < 64 * length (l .seen) = omega (arith, id .ensures .same, l .inv .1, c .before .before .before .before .before .before .if1 .left) in (
+      omega arith,
+      ap length told ∙ length-marking (l .seen) _ ∙ l .inv .1,
+      ap (λ seen. repeats (λ (k : ℕ). k) seen (rowsAt (λ (x : ℕ). idAt (g .s .now) x .0) 7 (g .s .now) (l .a + 7) (l .left - 1)) || anyOf (ltb (g .n)) (rowsAt (λ (x : ℕ). idAt (g .s .now) x .0) 7 (g .s .now) (l .a + 7) (l .left - 1))) told
+          ∙ ap₂ _||_ (sym (number-marked (λ (x : ℕ). idAt (g .s .now) x .0) 7 (g .s .now) (l .a) (l .left) some inside (l .seen) small miss))
+          (sym (rows-not-above (λ (x : ℕ). idAt (g .s .now) x .0) 7 (g .s .now) (l .a) (l .left) some inside (g .n) above))
+          ∙ l .inv .2,
+    )
 
 returns-3 : tie.Need-returns-3 Inv-loop μ-loop
-returns-3 c = 
+returns-3 c =
     let g = c .before .before .before .args in
     let l = c .before .loop in
     let none : l .left ≡ 0 = omega arith in

@@ -18,7 +18,7 @@ cast-tag-twice : tie.Need-cast-tag-twice
 cast-tag-twice c = search needs
 
 tag-twice-requires : tie.Need-tag-twice-requires
-tag-twice-requires c κs = 
+tag-twice-requires c κs =
     let s0 = c .before .before in
     let g = s0 .args in
     let i = s0 .pre .0 .inside in
@@ -32,7 +32,7 @@ cast-id-twice-or-above : tie.Need-cast-id-twice-or-above
 cast-id-twice-or-above c = search needs
 
 id-twice-or-above-requires : tie.Need-id-twice-or-above-requires
-id-twice-or-above-requires c κs = 
+id-twice-or-above-requires c κs =
     let s0 = c .before .before .before .before .before in
     let l = limits-of (s0 .args .h) (s0 .pre .0 .limits) in
     let i = s0 .pre .0 .inside in
@@ -40,7 +40,7 @@ id-twice-or-above-requires c κs =
     (omega arith, omega arith)
 
 returns : tie.Need-returns
-returns c = 
+returns c =
     let s0 = c .before .before .before .before .before .before in
     let g = s0 .args in
     ap₂ _||_ (c .before .before .before .tag-twice .ensures ∙ tag-twice-told (g .s .now) (g .h) (s0 .pre .0 .head))

@@ -23,7 +23,7 @@ use Rattle.record.proofs.bytes.tag_at.Reads as tag-at-reads
 use Rattle.record.proofs.repeats.place.Reads as place-reads
 
 abbrev Inv-loop : tie.InvT-loop
-Inv-loop s at n seen₀ a₀ left₀ seen a left = 
+Inv-loop s at n seen₀ a₀ left₀ seen a left =
     (a + 12 * left ≤ length s)
     × (length seen ≡ 7415)
     × (allOf tagWord (rowsAt (λ (x : ℕ). tagAt s x .0) 12 s a left) ≡ true)
@@ -39,7 +39,7 @@ tag-at-requires : tie.Need-tag-at-requires Inv-loop μ-loop
 tag-at-requires c κs = search needs
 
 place-requires : tie.Need-place-requires Inv-loop μ-loop
-place-requires c κs = 
+place-requires c κs =
     let g = c .before .before .before .before .args in
     let l = c .before .before .loop in
     ap isTag (c .tag-at .ensures) ∙ rows-good (λ (x : ℕ). tagAt (g .s .now) x .0) 12 (g .s .now) (l .a) (l .left) (c .before .loop-test .taken) (omega arith) (l .inv .2) .0
@@ -51,7 +51,7 @@ marked-requires : tie.Need-marked-requires Inv-loop μ-loop
 marked-requires c κs = search needs
 
 returns : tie.Need-returns Inv-loop μ-loop
-returns c = 
+returns c =
     let g = c .before .before .before .before .before .before .before .before .args in
     let l = c .before .before .before .before .before .before .loop in
     let at = c .before .before .before .place .ensures ∙ ap (λ t. placeOf (t .0)) (c .before .before .before .before .tag-at .ensures) in
@@ -74,23 +74,24 @@ loop-less : tie.Need-loop-less Inv-loop μ-loop
 loop-less c = search needs
 
 loop-again : tie.Need-loop-again Inv-loop μ-loop
-loop-again c = 
+loop-again c =
     let g = c .before .before .before .before .before .before .before .before .before .before .before .args in
     let l = c .before .before .before .before .before .before .before .before .before .loop in
     let some = c .before .before .before .before .before .before .before .before .loop-test .taken in
     let inside : l .a + 12 ≤ length (g .s .now) = omega arith in
     let at = c .before .before .before .before .before .before .place .ensures ∙ ap (λ t. placeOf (t .0)) (c .before .before .before .before .before .before .before .tag-at .ensures) in
     let miss = ap (isMarked (l .seen)) (sym at) ∙ sym (c .before .before .before .before .marked .ensures) ∙ c .before .before .before .if1 .left in
-    let told = c .before .mark .ensures ∙ ap (marking (l .seen)) at in
-    (omega arith,
-     ap length told ∙ length-marking (l .seen) _ ∙ l .inv .1,
-     rows-good (λ (x : ℕ). tagAt (g .s .now) x .0) 12 (g .s .now) (l .a) (l .left) some inside (l .inv .2) .1,
-     ap (λ seen. repeats placeOf seen (rowsAt (λ (x : ℕ). tagAt (g .s .now) x .0) 12 (g .s .now) (l .a + 12) (l .left - 1))) told
-     ∙ sym (tag-marked (λ (x : ℕ). tagAt (g .s .now) x .0) 12 (g .s .now) (l .a) (l .left) some inside (l .seen) (l .inv .1) (l .inv .2) miss)
-     ∙ l .inv .3)
+    let told = c .before .mark .ensures ∙ ap (marking (l .seen)) at in (
+      omega arith,
+      ap length told ∙ length-marking (l .seen) _ ∙ l .inv .1,
+      rows-good (λ (x : ℕ). tagAt (g .s .now) x .0) 12 (g .s .now) (l .a) (l .left) some inside (l .inv .2) .1,
+      ap (λ seen. repeats placeOf seen (rowsAt (λ (x : ℕ). tagAt (g .s .now) x .0) 12 (g .s .now) (l .a + 12) (l .left - 1))) told
+          ∙ sym (tag-marked (λ (x : ℕ). tagAt (g .s .now) x .0) 12 (g .s .now) (l .a) (l .left) some inside (l .seen) (l .inv .1) (l .inv .2) miss)
+          ∙ l .inv .3,
+    )
 
 returns-2 : tie.Need-returns-2 Inv-loop μ-loop
-returns-2 c = 
+returns-2 c =
     let g = c .before .before .before .args in
     let l = c .before .loop in
     let none : l .left ≡ 0 = omega arith in

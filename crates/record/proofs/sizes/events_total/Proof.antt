@@ -26,7 +26,7 @@ cast-total : tie.Need-cast-total
 cast-total c = search needs
 
 total-requires : tie.Need-total-requires
-total-requires c κs = 
+total-requires c κs =
     let s0 = c .before .before .before in
     let l = limits-of (s0 .args .h) (s0 .pre .limits) in
     let i = s0 .pre .inside in
@@ -34,7 +34,7 @@ total-requires c κs =
 
 returns : tie.Need-returns
 unfolding provinceAt
-returns c = 
+returns c =
     let s0 = c .before .before .before .before in
     let g = s0 .args in
     c .total .ensures

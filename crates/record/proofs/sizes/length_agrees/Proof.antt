@@ -25,7 +25,7 @@ loop-holds : tie.Need-loop-holds Inv-loop μ-loop
 loop-holds c = search needs
 
 returns : tie.Need-returns Inv-loop μ-loop
-returns c = 
+returns c =
     let g = c .before .before .before .before .args in
     let l = c .before .before .loop in
     let past = strings-end-past (g .s .now) (l .a) (l .left) (c .before .loop-test .taken) in
@@ -41,7 +41,7 @@ sub-if2 : tie.Need-sub-if2 Inv-loop μ-loop
 sub-if2 c = search needs
 
 returns-2 : tie.Need-returns-2 Inv-loop μ-loop
-returns-2 c = 
+returns-2 c =
     let g = c .before .before .before .before .before .before .args in
     let l = c .before .before .before .before .loop in
     let more = strings-end-more (g .s .now) (l .a) (l .left) (c .before .before .before .loop-test .taken) in
@@ -60,7 +60,7 @@ loop-less : tie.Need-loop-less Inv-loop μ-loop
 loop-less c = search needs
 
 loop-again : tie.Need-loop-again Inv-loop μ-loop
-loop-again c = 
+loop-again c =
     let s = c .before .before .before .before .before .before .args .s .now in
     let l = c .before .before .before .before .loop in
     let len = c .before .byte in
@@ -69,7 +69,7 @@ loop-again c =
     (omega arith, ap (λ (x : ℕ). stringsEnd s x (l .left - 1)) next ∙ sym (more .0) ∙ l .inv .1)
 
 returns-3 : tie.Need-returns-3 Inv-loop μ-loop
-returns-3 c = 
+returns-3 c =
     let s = c .before .before .before .args .s .now in
     let l = c .before .loop in
     let none : l .left ≡ 0 = omega arith in

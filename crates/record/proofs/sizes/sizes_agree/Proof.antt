@@ -27,14 +27,14 @@ strings-at-requires : tie.Need-strings-at-requires
 strings-at-requires c κs = search needs
 
 returns-2 : tie.Need-returns-2
-returns-2 c = 
+returns-2 c =
     let s0 = c .before .before .before .before .before in
     let place = c .before .strings-at .ensures ∙ ap (λ k. stringsAt k) (s0 .pre) in
     let short : length (s0 .args .s .now) < stringsAt (headOf (s0 .args .s .now)) = rw place at (c .if2 .taken) in
     sym (sizes-short (s0 .args .s .now) (length-short (s0 .args .s .now) short))
 
 totals-agree-requires : tie.Need-totals-agree-requires
-totals-agree-requires c κs = 
+totals-agree-requires c κs =
     let s0 = c .before .before .before .before .before in
     record {
       head = s0 .pre;
@@ -49,7 +49,7 @@ length-agrees-requires : tie.Need-length-agrees-requires
 length-agrees-requires c κs = search needs
 
 returns-3 : tie.Need-returns-3
-returns-3 c = 
+returns-3 c =
     let s0 = c .before .before .before .before .before .before .before .before in
     sizes-told (s0 .args .s .now) (s0 .args .h) (c .before .before .before .before .strings-at .result) _ _ (s0 .pre)
     (sym (c .before .before .before .before .before .before .within-limits .ensures) ∙ not-false _ (c .before .before .before .before .before .if1 .left))

@@ -16,7 +16,7 @@ use Rattle.record.proofs.sizes.total.Lts as lts
 use Rattle.record.proofs.bytes.u16_at.Reads as u16-at-reads
 
 abbrev Inv-loop : tie.InvT-loop
-Inv-loop s at width k n sum₀ a₀ left₀ sum a left = 
+Inv-loop s at width k n sum₀ a₀ left₀ sum a left =
     (a + width * left ≤ length s)
     × (sum + 65536 * left ≤ 65536 * n)
     × (sum + sumOf (λ (x : ℕ). x) (rowsAt (λ (x : ℕ). le16 s (x + k)) width s a left) ≡ sumOf (λ (x : ℕ). x) (rowsAt (λ (x : ℕ). le16 s (x + k)) width s at n))
@@ -49,14 +49,14 @@ loop-less : tie.Need-loop-less Inv-loop μ-loop
 loop-less c = search needs
 
 loop-again : tie.Need-loop-again Inv-loop μ-loop
-loop-again c = 
+loop-again c =
     let l = c .before .before .loop in
     let g = c .before .before .before .before .args in
     let more = sum-rows-more (λ (x : ℕ). le16 (g .s .now) (x + g .k)) (g .width) (g .s .now) (l .a) (l .left) (c .before .loop-test .taken) (omega (arith, one-row (c .before .before .before .before .args .width) (c .before .before .loop .left) (c .before .loop-test .taken))) in
     (omega (arith, one-row (c .before .before .before .before .args .width) (c .before .before .loop .left) (c .before .loop-test .taken)), omega arith, omega (arith, more, l .inv .2, c .u16-at .ensures .same))
 
 returns : tie.Need-returns Inv-loop μ-loop
-returns c = 
+returns c =
     let l = c .before .loop in
     let g = c .before .before .before .args in
     let none : l .left ≡ 0 = omega arith in

@@ -42,7 +42,7 @@ cast-result-5 : tie.Need-cast-result-5
 cast-result-5 c = search needs
 
 returns : tie.Need-returns
-returns c = 
+returns c =
     let s0 = c .before .before .before .before .before .before .before .before .before .before .before in
     totals-told (s0 .args .s .now) (s0 .args .h) _ _ _ _ _ (s0 .pre .head)
     (c .before .before .before .before .before .before .before .before .before .previous-total .ensures)
