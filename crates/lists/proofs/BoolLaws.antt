@@ -36,3 +36,10 @@ same-true true true h = refl
 same-true true false h = absurd (true≢false (sym h))
 same-true false true h = absurd (true≢false (sym h))
 same-true false false h = refl
+
+pub neither : (a b : Bool) → (a || b) ≡ false → (a ≡ false) × (b ≡ false)
+neither true b p = absurd (true≢false p)
+neither false b p = (refl, p)
+
+pub both : (a b : Bool) → (a && b) ≡ true → (a ≡ true) × (b ≡ true)
+both a b p = (and-left a b p, and-right a b p)

@@ -1,2 +1,4 @@
 pub mod BoolLaws
 pub mod TableLaws
+pub mod ListLaws
+pub mod ScanLaws

@@ -1,0 +1,134 @@
+-- Demand 3 holds of every record's bytes.
+use mathlib.Core.Path.{_≡_, ap, _∙_}
+use mathlib.Core.Bool.{true}
+use mathlib.Core.List.{List, _++_, map}
+use mathlib.Core.Option.{some, Option·map}
+use Prim.Native.Nat.{ℕ, _*_, _≤_}
+use native.Mathlib.Omega.{arith}
+use borrow.Author.Tests.{leb-true, leb-false}
+use lib.ListN.{length, take, drop, getElem?, length-map}
+use lib.Seq.{take-at}
+use Rattle.lists.specs.Lists.{lastOr, without}
+use Rattle.lists.proofs.ListLaws.{All, all-images, all-at, map-at, InOrder}
+use Rattle.sorting.proofs.SortLaws.{order-sort}
+use Rattle.record.specs.declared.date.Eu4Date.{Eu4Date}
+use Rattle.record.specs.Tags.{isTag}
+use Rattle.record.specs.Dates.{goodDate, notAfter}
+use Rattle.record.specs.Campaign.{Campaign, Country, campaignOf}
+use Rattle.record.specs.Refusal.{refusal, firstOf}
+use Rattle.chronicle.specs.Chronicle.{Nation}
+use Rattle.chronicle.specs.Lent.{gives, written, fits, Outcome}
+use Rattle.chronicle.specs.Changes.{changeWidth, changesOf, changeRows}
+use Rattle.chronicle.specs.Nations.{nationOf, switchEntries, livesOf, entriesOf, listedCountries, nationsOf}
+use Rattle.chronicle.specs.Holding.{wears}
+use Rattle.chronicle.specs.NationRows.{nationWidth, entryWidth, nationWords, entryWords, nationsIn, wellShaped}
+use Rattle.chronicle.specs.Resolver.{resolvedNation, resolve, walked, resolveOn}
+use Rattle.chronicle.specs.Bookings.{Booking, joiningsOf, bookingOf, bookingsOf, bookingRows, bookingsIn, bookingWidth}
+use Rattle.chronicle.specs.Outcomes.{Counts, answersOf, NationCells, cellsOf, allFit, allWritten, countsOf, callNationEvents, callResolveOn, callWarParticipants, askedTag, askedDate}
+use Rattle.chronicle.specs.Demand.{Living, nationsLeft, entriesLeft, changesLeft, bookingsLeft, OnDay, Chronicled, Demand3}
+use Rattle.chronicle.proofs.CampaignLaws.{InRange, living}
+use Rattle.chronicle.proofs.ResolverLaws.{walked-worn, found-at}
+use Rattle.chronicle.proofs.RowLaws.{allEntries, length-nationWords, length-entryWords, length-changeRows, length-bookingRows, bookings-in, read-written}
+use Rattle.chronicle.proofs.ShapeLaws.{GoodNation, nations-good, well-shaped, wears-tag}
+use Rattle.chronicle.proofs.AcceptLaws.{passed, in-range, good-tags}
+
+-- ## Each listed nation by itself
+
+record Sound (c : Campaign) (n : Nation) : Type 0 where
+  order : InOrder (λ e. e .date .0) (n .entries)
+  sums : (day : Eu4Date) → c .start .0 ≤ day .0 → Living c n day
+
+entries-order : (c : Campaign) (k : Country) → InOrder (λ e. e .date .0) (entriesOf c k)
+unfolding entriesOf
+entries-order c k =
+    order-sort (λ a b. notAfter (a .date) (b .date)) (λ e. e .date .0) (λ a b. leb-true (a .date .0) (b .date .0))
+    (λ a b h. omega (arith, leb-false (a .date .0) (b .date .0) h)) (switchEntries k ++ livesOf c (k .tag))
+
+sound : (c : Campaign) → InRange c → All (Sound c) (nationsOf c)
+unfolding nationsOf
+sound c r =
+    all-images (Sound c) (nationOf c) (λ k. record { order = entries-order c k; sums = λ day h. living c k day r h }) (listedCountries c)
+
+-- ## Rows written are rows read
+
+front : (width count : ℕ) (cells before : List ℕ) → length cells ≡ width * count → take (width * count) (written cells before) ≡ cells
+front width count cells before h = take-at cells (drop (length cells) before) (width * count) h
+
+-- ## Over words that tell the nations
+
+module _ (xs : List ℕ) (accepted : refusal xs ≡ 0) (ns : List Nation) (ws es : List ℕ) (told : nationsIn ws es ≡ ns) (shaped : wellShaped ws es ≡ true) where
+  -- Bookings has room, and answers.
+  bookings-answer : (lent : List ℕ) → fits (bookingRows (bookingsOf (campaignOf xs) (nationsIn ws es))) lent ≡ true
+      → callWarParticipants xs ws es lent ≡ record {
+        answer = gives (length (joiningsOf (campaignOf xs)));
+        memory = written (bookingRows (bookingsOf (campaignOf xs) ns)) lent;
+      }
+  unfolding callWarParticipants firstOf bookingsOf
+  bookings-answer lent room = simp (accepted, shaped, simp told at room, told, length-map)
+
+  bookings-read : (lent : List ℕ) → fits (bookingRows (bookingsOf (campaignOf xs) (nationsIn ws es))) lent ≡ true
+      → bookingsLeft (callWarParticipants xs ws es lent) ≡ map (bookingOf ns) (joiningsOf (campaignOf xs))
+  unfolding bookingsOf
+  bookings-read lent room =
+      let bs : List Booking = map (bookingOf ns) (joiningsOf (campaignOf xs)) in
+      let len : length (bookingRows bs) ≡ bookingWidth * length (joiningsOf (campaignOf xs)) = length-bookingRows bs ∙ simp length-map in
+      simp (bookings-answer lent room)
+      (ap bookingsIn (front bookingWidth (length (joiningsOf (campaignOf xs))) (bookingRows bs) lent len) ∙ bookings-in bs)
+
+  module _ (sounds : All (Sound (campaignOf xs)) ns) (goods : All GoodNation ns) where
+    on-day : (i : ℕ) (n : Nation) (day : Eu4Date) → getElem? ns i ≡ some n → goodDate day ≡ true → notAfter (campaignOf xs .start) day ≡ true
+        → OnDay xs ws es n (without i ns) day
+    unfolding callResolveOn resolveOn resolve bookingOf firstOf
+    on-day i n day at good after =
+        let s : Sound (campaignOf xs) n = all-at (Sound (campaignOf xs)) ns i n at sounds in
+        let g : GoodNation n = all-at GoodNation ns i n at goods in
+        let w : isTag (askedTag (wears n day .0)) ≡ true = wears-tag n day g in
+        let d : goodDate (askedDate (day .0)) ≡ true = good in
+        let walk : lastOr (n .initial) (walked (askedDate (day .0)) n) ≡ wears n day = walked-worn n day (s .order) in
+        record {
+          living = s .sums day (leb-true (campaignOf xs .start .0) (day .0) after);
+          resolver = λ u.
+              let found : resolvedNation ns (askedTag (wears n day .0)) (askedDate (day .0)) ≡ some n = found-at ns i n day at u in
+              simp (shaped, d, w, told, found, walk);
+          bookings = λ u lent room k j e ed et.
+              ap (λ (bs : List Booking). Option·map (λ b. b .stored) (getElem? bs k)) (bookings-read lent room)
+              ∙ simp (map-at, e, ed, et, found-at ns i n day at u);
+        }
+
+-- ## The record
+
+module _ (xs : List ℕ) (accepted : refusal xs ≡ 0) (lent : NationCells) (room : allFit (cellsOf (answersOf (campaignOf xs))) lent ≡ true) where
+  -- Nations has room, and answers.
+  nations-answer : callNationEvents xs lent ≡ record {
+    answer = gives (countsOf (answersOf (campaignOf xs)));
+    memory = allWritten (cellsOf (answersOf (campaignOf xs))) lent;
+  }
+  unfolding callNationEvents firstOf
+  nations-answer = simp (accepted, room)
+
+  chronicled : Chronicled xs (callNationEvents xs lent)
+  unfolding cellsOf countsOf answersOf
+  chronicled =
+      let c : Campaign = campaignOf xs in
+      let ns : List Nation = nationsOf c in
+      let o : Outcome Counts NationCells = callNationEvents xs lent in
+      let nation-rows : nationsLeft o ≡ nationWords ns =
+      simp nations-answer (front nationWidth (length ns) (nationWords ns) (lent .nations) (length-nationWords ns)) in
+      let entry-rows : entriesLeft o ≡ entryWords ns =
+      simp nations-answer (front entryWidth (length (allEntries ns)) (entryWords ns) (lent .entries) (length-entryWords ns)) in
+      let change-rows : changesLeft o ≡ changeRows (changesOf c) =
+      simp nations-answer (front changeWidth (length (changesOf c)) (changeRows (changesOf c)) (lent .changes) (length-changeRows (changesOf c))) in
+      let p = passed xs accepted in
+      let told : nationsIn (nationWords ns) (entryWords ns) ≡ ns = read-written ns in
+      let goods : All GoodNation ns = nations-good c (good-tags xs p) in
+      record {
+        answer = ap (λ (x : Outcome Counts NationCells). x .answer) nations-answer;
+        changes = change-rows;
+        nations = rw (nation-rows, entry-rows) told;
+        onDay =
+            rw (nation-rows, entry-rows, told)
+            (on-day xs accepted ns (nationWords ns) (entryWords ns) told (well-shaped ns goods) (sound c (in-range xs p)) goods);
+      }
+
+pub demand3 : (xs : List ℕ) → Demand3 xs
+demand3 xs = record { holds = λ h lent room. chronicled xs h lent room }

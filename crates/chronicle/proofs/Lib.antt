@@ -1,0 +1,11 @@
+pub mod Computes
+pub mod TableLaws
+pub mod LivingLaws
+pub mod CampaignLaws
+pub mod ResolverLaws
+pub mod RowLaws
+pub mod ShapeLaws
+pub mod AcceptLaws
+pub mod DemandLaws
+pub mod WorkedLaws
+pub mod OrderLaws

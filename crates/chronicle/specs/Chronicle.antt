@@ -1,0 +1,29 @@
+-- 01, Nations: what a chronicle is made of.
+use mathlib.Core.List.{List}
+use Rattle.record.specs.declared.tag.CountryTag.{CountryTag}
+use Rattle.record.specs.declared.date.Eu4Date.{Eu4Date}
+use Rattle.record.specs.declared.rows.ProvinceId.{ProvinceId}
+
+-- An owner change of a slot.
+pub record Change : Type 0 where
+  pub date : Eu4Date
+  pub id : ProvinceId
+  pub from : CountryTag
+  pub to : CountryTag
+
+-- What an entry tells: a switch to a target, or that the nation appeared or was annexed.
+pub data Kind : Type 0 where
+  switch : CountryTag → Kind
+  appeared : Kind
+  annexed : Kind
+
+pub record Entry : Type 0 where
+  pub date : Eu4Date
+  pub kind : Kind
+
+-- A nation: its first tag, its tag after its last switch, the tag that it is stored under, and its entries in order.
+pub record Nation : Type 0 where
+  pub initial : CountryTag
+  pub latest : CountryTag
+  pub stored : CountryTag
+  pub entries : List Entry

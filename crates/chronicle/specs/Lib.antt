@@ -1,0 +1,11 @@
+pub mod Chronicle
+pub mod Lent
+pub mod Changes
+pub mod Nations
+pub mod Holding
+pub mod NationRows
+pub mod Resolver
+pub mod Bookings
+pub mod Outcomes
+pub mod Demand
+pub mod Table
