@@ -1,12 +1,13 @@
 -- The first number that refuses: of a list, and of the rows of a section.
 use mathlib.Core.Path.{_≡_, refl, sym, ap, _∙_}
-use mathlib.Core.List.{List, [], _∷_, map}
+use mathlib.Core.List.{List, [], _∷_, _++_, map, map-append}
 use Prim.Native.Nat.{ℕ, zero, suc, _+_, _-_, _*_, _<_, _≤_}
+use native.Mathlib.Nat.{min-eq-left}
 use native.Mathlib.Omega.{arith}
-use lib.ListN.{length}
+use lib.ListN.{length, take, drop, take-append-drop}
 use Rattle.record.specs.Rows.{rowsAt}
 use Rattle.record.specs.Refusal.{firstOf, firstIn}
-use Rattle.record.proofs.RowLaws.{rows-none, rows-more, map-rows-same}
+use Rattle.record.proofs.RowLaws.{rows-none, rows-more, rows-take, rows-drop, map-rows-same}
 
 pub first-none : firstOf [] ≡ 0
 unfolding firstOf
@@ -34,6 +35,13 @@ unfolding firstOf
 first-one zero = refl
 first-one (suc n) = refl
 
+-- of two lists in turn
+pub first-append : (ms ns : List ℕ) → firstOf (ms ++ ns) ≡ firstOf (firstOf ms ∷ ns)
+unfolding firstOf
+first-append [] ns = refl
+first-append (zero ∷ ms) ns = first-append ms ns
+first-append (suc m ∷ ms) ns = refl
+
 module _ {A : Type 0} (number : A → ℕ) (row : ℕ → A) (width : ℕ) (xs : List ℕ) where
   pub first-rows-none : (at : ℕ) → firstIn number (rowsAt row width xs at 0) ≡ 0
   unfolding firstIn firstOf
@@ -48,6 +56,30 @@ module _ {A : Type 0} (number : A → ℕ) (row : ℕ → A) (width : ℕ) (xs :
       → firstIn number (rowsAt row width xs at n) ≡ number (row at)
   unfolding firstIn
   first-rows-stop at n p h e = rw (rows-more row width xs at n p h) (first-stop _ _ e)
+
+  -- the first m rows, then those behind them
+  first-rows-split : (at m n : ℕ) → m ≤ n → at + width * m ≤ length xs
+      → firstIn number (rowsAt row width xs at n)
+      ≡ firstOf (firstIn number (rowsAt row width xs at m) ∷ map number (rowsAt row width xs (at + width * m) (n - m)))
+  unfolding firstIn
+  first-rows-split at m n some inside =
+      let rows = rowsAt row width xs at n in
+      let front : take m rows ≡ rowsAt row width xs at m = rows-take row width xs at m n ∙ ap (rowsAt row width xs at) (min-eq-left some) in
+      let back = rows-drop row width xs at m n inside in
+      ap (λ l. firstOf (map number l)) (sym (take-append-drop m rows))
+      ∙ ap firstOf (map-append number (take m rows) (drop m rows))
+      ∙ first-append (map number (take m rows)) (map number (drop m rows))
+      ∙ ap (λ l. firstOf (firstOf (map number l) ∷ map number (drop m rows))) front
+      ∙ ap (λ l. firstOf (firstOf (map number (rowsAt row width xs at m)) ∷ map number l)) back
+
+  pub first-rows-skip : (at m n : ℕ) → m ≤ n → at + width * m ≤ length xs → firstIn number (rowsAt row width xs at m) ≡ 0
+      → firstIn number (rowsAt row width xs at n) ≡ firstIn number (rowsAt row width xs (at + width * m) (n - m))
+  unfolding firstIn
+  first-rows-skip at m n some inside e = first-rows-split at m n some inside ∙ first-pass _ _ e
+
+  pub first-rows-front : (at m n : ℕ) → m ≤ n → at + width * m ≤ length xs → (firstIn number (rowsAt row width xs at m) ≡ 0 → ⊥)
+      → firstIn number (rowsAt row width xs at n) ≡ firstIn number (rowsAt row width xs at m)
+  first-rows-front at m n some inside e = first-rows-split at m n some inside ∙ first-stop _ _ e
 
 -- two sections whose rows are numbered alike
 pub first-rows-same : {A B : Type 0} (f : A → ℕ) (row : ℕ → A) (g : B → ℕ) (row′ : ℕ → B) (width : ℕ) (xs : List ℕ)

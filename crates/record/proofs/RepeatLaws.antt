@@ -1,17 +1,17 @@
 -- A pass over numbers that marks the place of each finds a repeat exactly where there is one, if no two numbers share a place.
 use mathlib.Core.Path.{_≡_, refl, sym, ap, ap₂, _∙_}
-use mathlib.Core.Bool.{Bool, true, false, _||_, _&&_}
+use mathlib.Core.Bool.{Bool, true, false, _||_}
 use mathlib.Core.List.{List, [], _∷_, map}
 use Prim.Native.Nat.{ℕ, zero, suc, _+_, _-_, _*_, _/_, _%_, _<_, _≤_}
 use native.Mathlib.Omega.{arith}
-use borrow.Author.Tests.{leb-true, eqb-true, eq-eqb, ne-eqb}
+use borrow.Author.Tests.{eqb-true, eq-eqb, ne-eqb}
 use lib.Dec.{eqb, ltb, leb}
-use lib.ListN.{length, replicate}
+use lib.ListN.{length, getD, set}
+use lib.Seq.{getD-set-same, getD-set-other}
 use Rattle.lists.specs.Lists.{anyOf, allOf, twice}
 use Rattle.lists.proofs.BoolLaws.{cases, clash, and-left, and-right}
 use Rattle.bitset.specs.Bitset.{isMarked, marking}
-use Rattle.bitset.proofs.BitsetLaws.{none-marked, marked-after}
-use Rattle.record.specs.declared.tag.CountryTag.{CountryTag}
+use Rattle.bitset.proofs.BitsetLaws.{marked-after}
 use Rattle.record.specs.Tags.{isTag}
 use Rattle.record.proofs.TagLaws.{Bytes, tag-bytes}
 use Rattle.record.specs.declared.head.Head.{Head}
@@ -20,12 +20,12 @@ use Rattle.record.specs.Head.{headOf, countriesAt, provincesAt}
 use Rattle.record.specs.Rows.{rowsAt, countryAt, provinceAt, PackedCountry, PackedProvince}
 use Rattle.record.specs.Campaign.{countryRows, provinceRows}
 use Rattle.record.specs.Refusal.{firstOf, firstIn, countryNumber, fieldsNumber, tagTwice, idTwiceOrAbove}
-use Rattle.record.proofs.RowLaws.{rows-none, rows-more, map-rows}
+use Rattle.record.proofs.RowLaws.{rows-more, map-rows}
 use Rattle.record.proofs.FirstLaws.{first-zero}
 
 -- a number of the list is marked, or stands twice in it
-unfoldable pub repeats : (ℕ → ℕ) → List ℕ → List ℕ → Bool
-repeats place seen ys = anyOf (λ y. isMarked seen (place y)) ys || twice ys
+unfoldable pub repeats : (ℕ → Bool) → List ℕ → Bool
+repeats marked ys = anyOf marked ys || twice ys
 
 any-none : {A : Type 0} (p : A → Bool) (ys : List A) → ((y : A) → p y ≡ false) → anyOf p ys ≡ false
 any-none p [] h = refl
@@ -46,45 +46,35 @@ any-or p q r good (y ∷ ys) h g =
     or-four false false true d = refl
     or-four false false false d = refl
 
-eqb-sym : (a b : ℕ) → eqb a b ≡ eqb b a
-eqb-sym a b =
-    cases (eqb b a)
-    (λ h. eq-eqb a b (sym (eqb-true b a h)) ∙ sym h)
-    (λ h. ne-eqb a b (λ e. clash (eqb b a) (eq-eqb b a (sym e)) h) ∙ sym h)
-
 all-true : (ys : List ℕ) → allOf (λ _. true) ys ≡ true
 all-true [] = refl
 all-true (y ∷ ys) = all-true ys
 
-module _ (place : ℕ → ℕ) where
-  pub repeats-start : (n : ℕ) (ys : List ℕ) → repeats place (replicate n 0) ys ≡ twice ys
-  unfolding repeats
-  repeats-start n ys = simp (any-none (λ y. isMarked (replicate n 0) (place y)) ys (λ y. none-marked n (place y)))
+pub repeats-start : (marked : ℕ → Bool) → ((y : ℕ) → marked y ≡ false) → (ys : List ℕ) → repeats marked ys ≡ twice ys
+unfolding repeats
+repeats-start marked none ys = simp (any-none marked ys none)
 
-  pub repeats-nil : (seen : List ℕ) → repeats place seen [] ≡ false
-  unfolding repeats
-  repeats-nil seen = refl
+pub repeats-nil : (marked : ℕ → Bool) → repeats marked [] ≡ false
+unfolding repeats
+repeats-nil marked = refl
 
-  pub repeats-hit : (seen : List ℕ) (x : ℕ) (ys : List ℕ) → isMarked seen (place x) ≡ true → repeats place seen (x ∷ ys) ≡ true
-  unfolding repeats
-  repeats-hit seen x ys h = simp h
+repeats-hit : (marked : ℕ → Bool) (x : ℕ) (ys : List ℕ) → marked x ≡ true → repeats marked (x ∷ ys) ≡ true
+unfolding repeats
+repeats-hit marked x ys h = simp h
 
-  pub repeats-mark : (good : ℕ → Bool) (seen : List ℕ) (x : ℕ) (ys : List ℕ)
-      → ((y : ℕ) → good y ≡ true → eqb (place y) (place x) ≡ eqb x y) → allOf good ys ≡ true
-      → isMarked seen (place x) ≡ false → place x < 64 * length seen
-      → repeats place seen (x ∷ ys) ≡ repeats place (marking seen (place x)) ys
-  unfolding repeats
-  repeats-mark good seen x ys apart g h room =
-      let after : (y : ℕ) → good y ≡ true → isMarked (marking seen (place x)) (place y) ≡ eqb x y || isMarked seen (place y) =
-      λ y gy. marked-after seen (place x) (place y) room ∙ ap (λ b. b || isMarked seen (place y)) (apart y gy) in
-      let all = any-or (eqb x) (λ y. isMarked seen (place y)) (λ y. isMarked (marking seen (place x)) (place y)) good ys after g in
-      simp (h, all) (or-swap (anyOf (λ y. isMarked seen (place y)) ys) (anyOf (eqb x) ys) (twice ys))
-    where
-      or-swap : (a b c : Bool) → a || (b || c) ≡ (b || a) || c
-      or-swap true true c = refl
-      or-swap true false c = refl
-      or-swap false true c = refl
-      or-swap false false c = refl
+-- marked before, and after x has been marked besides
+repeats-mark : (before after good : ℕ → Bool) (x : ℕ) (ys : List ℕ)
+    → ((y : ℕ) → good y ≡ true → after y ≡ eqb x y || before y) → allOf good ys ≡ true
+    → before x ≡ false → repeats before (x ∷ ys) ≡ repeats after ys
+unfolding repeats
+repeats-mark before after good x ys more g h =
+    simp (h, any-or (eqb x) before after good ys more g) (or-swap (anyOf before ys) (anyOf (eqb x) ys) (twice ys))
+  where
+    or-swap : (a b c : Bool) → a || (b || c) ≡ (b || a) || c
+    or-swap true true c = refl
+    or-swap true false c = refl
+    or-swap false true c = refl
+    or-swap false false c = refl
 
 -- ## Places of tags
 
@@ -129,6 +119,19 @@ place-same x hx y hy =
 abbrev pub tagWord : ℕ → Bool
 tagWord w = isTag (record { 0 = w })
 
+-- a tag's word whose place has its bit, and an id that has its mark
+abbrev pub tagSeen : List ℕ → ℕ → Bool
+tagSeen seen w = isMarked seen (placeOf w)
+
+abbrev pub idSeen : List Bool → ℕ → Bool
+idSeen seen id = getD seen id false
+
+id-after : (seen : List Bool) (x y : ℕ) → x < length seen → idSeen (set seen x true) y ≡ eqb x y || idSeen seen y
+id-after seen x y h =
+    cases (eqb x y)
+    (λ e. let same : y ≡ x = sym (eqb-true x y e) in simp e (rw same (getD-set-same seen x true false h)))
+    (λ e. simp e (getD-set-other seen x y true false (λ same. clash (eqb x y) (eq-eqb x y (sym same)) e)))
+
 module _ (word : ℕ → ℕ) (width : ℕ) (xs : List ℕ) (at n : ℕ) (some : 0 < n) (inside : at + width ≤ length xs) where
   pub rows-good : allOf tagWord (rowsAt word width xs at n) ≡ true
       → (tagWord (word at) ≡ true) × (allOf tagWord (rowsAt word width xs (at + width) (n - 1)) ≡ true)
@@ -136,26 +139,27 @@ module _ (word : ℕ → ℕ) (width : ℕ) (xs : List ℕ) (at n : ℕ) (some :
       let g = sym (ap (allOf tagWord) (rows-more word width xs at n some inside)) ∙ h in
       (and-left (tagWord (word at)) _ g, and-right (tagWord (word at)) _ g)
 
-  pub rows-hit : (place : ℕ → ℕ) (seen : List ℕ) → isMarked seen (place (word at)) ≡ true
-      → repeats place seen (rowsAt word width xs at n) ≡ true
-  rows-hit place seen h = ap (repeats place seen) (rows-more word width xs at n some inside) ∙ repeats-hit place seen _ _ h
+  pub rows-hit : (marked : ℕ → Bool) → marked (word at) ≡ true → repeats marked (rowsAt word width xs at n) ≡ true
+  rows-hit marked h = ap (repeats marked) (rows-more word width xs at n some inside) ∙ repeats-hit marked _ _ h
 
   pub tag-marked : (seen : List ℕ) → length seen ≡ 7415 → allOf tagWord (rowsAt word width xs at n) ≡ true
-      → isMarked seen (placeOf (word at)) ≡ false
-      → repeats placeOf seen (rowsAt word width xs at n)
-      ≡ repeats placeOf (marking seen (placeOf (word at))) (rowsAt word width xs (at + width) (n - 1))
+      → tagSeen seen (word at) ≡ false
+      → repeats (tagSeen seen) (rowsAt word width xs at n)
+      ≡ repeats (tagSeen (marking seen (placeOf (word at)))) (rowsAt word width xs (at + width) (n - 1))
   tag-marked seen size good h =
       let g = rows-good good in
       let small = place-small (word at) (tag-bytes (record { 0 = word at }) (g .0)) in
-      ap (repeats placeOf seen) (rows-more word width xs at n some inside)
-      ∙ repeats-mark placeOf tagWord seen (word at) _ (place-same (word at) (g .0)) (g .1) h (omega (arith, small, size))
+      let more : (y : ℕ) → tagWord y ≡ true → tagSeen (marking seen (placeOf (word at))) y ≡ eqb (word at) y || tagSeen seen y =
+      λ y gy. marked-after seen (placeOf (word at)) (placeOf y) (omega (arith, small, size)) ∙ ap (λ b. b || tagSeen seen y) (place-same (word at) (g .0) y gy) in
+      ap (repeats (tagSeen seen)) (rows-more word width xs at n some inside)
+      ∙ repeats-mark (tagSeen seen) (tagSeen (marking seen (placeOf (word at)))) tagWord (word at) _ more (g .1) h
 
-  pub number-marked : (seen : List ℕ) → word at < 64 * length seen → isMarked seen (word at) ≡ false
-      → repeats (λ (k : ℕ). k) seen (rowsAt word width xs at n)
-      ≡ repeats (λ (k : ℕ). k) (marking seen (word at)) (rowsAt word width xs (at + width) (n - 1))
-  number-marked seen small h =
-      ap (repeats (λ (k : ℕ). k) seen) (rows-more word width xs at n some inside)
-      ∙ repeats-mark (λ (k : ℕ). k) (λ _. true) seen (word at) _ (λ y _. eqb-sym y (word at)) (all-true (rowsAt word width xs (at + width) (n - 1))) h small
+  pub id-marked : (seen : List Bool) → word at < length seen → idSeen seen (word at) ≡ false
+      → repeats (idSeen seen) (rowsAt word width xs at n)
+      ≡ repeats (idSeen (set seen (word at) true)) (rowsAt word width xs (at + width) (n - 1))
+  id-marked seen small h =
+      ap (repeats (idSeen seen)) (rows-more word width xs at n some inside)
+      ∙ repeats-mark (idSeen seen) (idSeen (set seen (word at) true)) (λ _. true) (word at) _ (λ y _. id-after seen (word at) y small) (all-true (rowsAt word width xs (at + width) (n - 1))) h
 
   -- a number above a bound, at this row or behind it
   pub rows-above : (bound : ℕ) → ltb bound (word at) ≡ true → anyOf (ltb bound) (rowsAt word width xs at n) ≡ true

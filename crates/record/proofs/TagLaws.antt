@@ -1,13 +1,13 @@
--- The bytes of a tag lie from 45 to 122.
+-- The bytes of a tag: they lie from 45 to 122, and a word gives back those that it was made of.
 use mathlib.Core.Path.{_≡_}
-use mathlib.Core.Bool.{Bool, true, false, _&&_}
-use Prim.Native.Nat.{ℕ, _/_, _%_, _≤_}
+use mathlib.Core.Bool.{true, _&&_}
+use Prim.Native.Nat.{ℕ, _+_, _*_, _/_, _%_, _<_, _≤_}
 use native.Mathlib.Omega.{arith}
 use borrow.Author.Tests.{leb-true, eqb-true}
 use lib.Dec.{leb}
 use Rattle.lists.proofs.BoolLaws.{cases, and-left, and-right}
 use Rattle.record.specs.declared.tag.CountryTag.{CountryTag}
-use Rattle.record.specs.Tags.{tagByte, isTag}
+use Rattle.record.specs.Tags.{tagByte, isTag, tagOf}
 
 pub byte-range : (b : ℕ) → tagByte b ≡ true → (45 ≤ b) × (b ≤ 122)
 unfolding tagByte
@@ -43,3 +43,11 @@ tag-bytes t h =
       second = byte-range (t .0 / 256 % 256) (and-right a b ab);
       third = byte-range (t .0 % 256) (and-right (a && b) c h);
     }
+
+pub is-tag-of : (a b c : ℕ) → a < 256 → b < 256 → c < 256 → isTag (tagOf a b c) ≡ tagByte a && tagByte b && tagByte c
+unfolding isTag
+is-tag-of a b c ha hb hc =
+    let first : (a * 65536 + b * 256 + c) / 65536 ≡ a = omega arith in
+    let second : (a * 65536 + b * 256 + c) / 256 % 256 ≡ b = omega arith in
+    let third : (a * 65536 + b * 256 + c) % 256 ≡ c = omega arith in
+    rw (first, second, third)

@@ -1,12 +1,14 @@
 -- Conditions and answers of inner steps; no public promise cites them.
 use mathlib.Core.Path.{_≡_}
-use mathlib.Core.Bool.{true}
+use mathlib.Core.Bool.{Bool, true, false}
 use mathlib.Core.List.{List}
-use Prim.Native.Nat.{ℕ, _≤_}
-use lib.ListN.{length}
+use Prim.Native.Nat.{ℕ, _<_, _≤_}
+use lib.ListN.{length, getD}
 use Rattle.record.specs.declared.head.Head.{Head}
 use Rattle.record.specs.declared.cursors.Run.{Run}
 use Rattle.record.specs.declared.opened.Record.{Record}
+use Rattle.record.specs.Tags.{tagByte}
+use Rattle.record.specs.Dates.{monthDays}
 use Rattle.record.specs.Bytes.{bit}
 use Rattle.record.specs.Head.{headOf, withinLimits, countriesAt, previousAt, switchesAt, provincesAt, eventsAt, warsAt, warEventsAt, ledgersAt, pointsAt, stringsAt}
 
@@ -15,6 +17,14 @@ pub record Laid (xs : List ℕ) (h : Head) : Type 0 where
   pub head : h ≡ headOf xs
   pub limits : withinLimits h ≡ true
   pub inside : stringsAt h ≤ length xs
+
+-- A table that holds the tag rule of every byte.
+pub record TagTable (table : List Bool) : Type 0 where
+  pub rule : (b : ℕ) → b < 256 → getD table b false ≡ tagByte b
+
+-- A table that holds the days of every number that two digits can give as a month.
+pub record MonthTable (table : List ℕ) : Type 0 where
+  pub rule : (m : ℕ) → m < 100 → getD table m 0 ≡ monthDays m
 
 -- So many rows from an offset on.
 abbrev pub runAt : ℕ → ℕ → Run

@@ -1,6 +1,7 @@
 ghost use mathlib.Core.Path.{_≡_};
-ghost use Rattle.record.specs.Dates.{monthDays, goodDate, dateOfWord, notAfter, earlier};
+ghost use Rattle.record.specs.Dates.{month, monthDays, goodDate, dateOfWord, notAfter, earlier};
 ghost use Rattle.record.specs.Dates.{year as yearOf};
+ghost use Rattle.record.specs.Laid.{MonthTable};
 
 // A date as year*10000 + month*100 + day: number order is date order.
 pub struct Eu4Date(pub(crate) u32);
@@ -26,16 +27,43 @@ fn month_days(m: u32) -> u32
     28 + (OVER_28 >> (2 * m)) % 4
 }
 
+// The days of each month by its number, made once where many dates are to be tested; 0 for a number that is no month's.
+pub(crate) fn month_table() -> [u32; 100]
+    ensures { λ r. ⌜ MonthTable r ⌝ }
+{
+    let mut table = [0; 100];
+    let mut m: usize = 1;
+    while m < 13 {
+        table[m] = month_days(m as u32);
+        m += 1;
+    }
+    table
+}
+
 impl Eu4Date {
-    // Whether the number is a date: year 1 to 9999, a month, and a day of it.
+    // Whether the number is a date, given the days of its month: year 1 to 9999, and a day of the month.
+    fn good_in(self, days: u32) -> bool
+        requires { ⌜ days ≡ monthDays (month self) ⌝ }
+        ensures { λ r. ⌜ r ≡ goodDate self ⌝ }
+    {
+        let year = self.0 / 10000;
+        let day = self.0 % 100;
+        (1 <= year) & (year <= 9999) & ((1 <= day) & (day <= days))
+    }
+
+    // Whether the number is a date.
     pub(crate) fn good(self) -> bool
         ensures { λ r. ⌜ r ≡ goodDate self ⌝ }
     {
-        let d = self.0;
-        let months = d / 100;
-        let year = months / 100;
-        let day = d % 100;
-        (1 <= year) & (year <= 9999) & ((1 <= day) & (day <= month_days(months % 100)))
+        self.good_in(month_days(self.0 / 100 % 100))
+    }
+
+    // The same, by the table of months.
+    pub(crate) fn good_by(self, table: &[u32; 100]) -> bool
+        requires { ⌜ MonthTable (now table) ⌝ }
+        ensures { λ r. ⌜ r ≡ goodDate self ⌝ }
+    {
+        self.good_in(table[(self.0 / 100 % 100) as usize])
     }
 
     // The date that a row's word holds; a word that is no date's is refused.

@@ -1,23 +1,25 @@
-// Numbers 4, 5, 6 and 9: the first bad field in file order.
+// Numbers 4, 5, 6 and 9: the first bad field in file order. `tags` and `months` are the tables of the tag bytes and of the months' days.
 use crate::bytes;
+use crate::date;
 use crate::date::Eu4Date;
 use crate::head;
 use crate::head::Head;
-use crate::tag::CountryTag;
+use crate::tag;
 ghost use mathlib.Core.Path.{_≡_};
 ghost use Prim.Native.Nat.{_+_, _*_, _<_, _≤_};
 ghost use lib.ListN.{length};
-ghost use Rattle.record.specs.Bytes.{tagAt, dateAt, le16};
-ghost use Rattle.record.specs.Laid.{Laid};
+ghost use Rattle.record.specs.Bytes.{tagAt};
+ghost use Rattle.record.specs.Laid.{Laid, TagTable, MonthTable};
 ghost use Rattle.record.specs.Campaign.{countryRows, previousTags, switchRows, provinceRows, ownerEvents, warEvents, ledgerRows, points};
 ghost use Rattle.record.specs.Rows.{rowsAt, countryAt, ownerEventAt, warEventAt, pointAt};
-ghost use Rattle.record.specs.Refusal.{firstIn, tagNumber, dateNumber, kindNumber, yearNumber, countryNumber};
+ghost use Rattle.record.specs.Refusal.{firstIn, tagNumber, dateNumber, yearNumber, countryNumber};
 ghost use Rattle.record.specs.Refusal.{switchNumber, ownerEventNumber, warEventNumber, headNumber, fieldsNumber};
 
-fn tag_number(t: CountryTag) -> u32
-    ensures { λ r. ⌜ r ≡ tagNumber t ⌝ }
+fn tag_number(tags: &[bool; 256], s: &[u8], at: usize) -> u32
+    requires { ⌜ (at + 3 ≤ length (now s)) × (TagTable (now tags)) ⌝ }
+    ensures { λ r. ⌜ r ≡ tagNumber (tagAt (now (s .entry)) at) ⌝ }
 {
-    if t.good() { 0 } else { 4 }
+    if tag::good_tag_at(tags, s, at) { 0 } else { 4 }
 }
 
 fn date_number(d: Eu4Date) -> u32
@@ -27,14 +29,14 @@ fn date_number(d: Eu4Date) -> u32
 }
 
 // The tags at offset k of n rows.
-fn tags_number(s: &[u8], at: usize, width: usize, k: usize, n: usize) -> u32
-    requires { ⌜ (at + width * n ≤ length (now s)) × (k + 3 ≤ width) ⌝ }
+fn tags_number(tags: &[bool; 256], s: &[u8], at: usize, width: usize, k: usize, n: usize) -> u32
+    requires { ⌜ (at + width * n ≤ length (now s)) × (k + 3 ≤ width) × (TagTable (now tags)) ⌝ }
     ensures { λ r. ⌜ r ≡ firstIn (λ t. tagNumber t) (rowsAt (λ a. tagAt (now (s .entry)) (a + k)) width (now (s .entry)) at n) ⌝ }
 {
     let mut a = at;
     let mut left = n;
     while 0 < left {
-        let number = tag_number(bytes::tag_at(s, a + k));
+        let number = tag_number(tags, s, a + k);
         if number != 0 {
             return number;
         }
@@ -45,11 +47,11 @@ fn tags_number(s: &[u8], at: usize, width: usize, k: usize, n: usize) -> u32
 }
 
 // A country's tag, then its flags, of which a mask finds the undefined.
-fn country_number(s: &[u8], at: usize) -> u32
-    requires { ⌜ at + 12 ≤ length (now s) ⌝ }
+fn country_number(tags: &[bool; 256], s: &[u8], at: usize) -> u32
+    requires { ⌜ (at + 12 ≤ length (now s)) × (TagTable (now tags)) ⌝ }
     ensures { λ r. ⌜ r ≡ countryNumber (countryAt (now (s .entry)) at) ⌝ }
 {
-    if !bytes::tag_at(s, at).good() {
+    if !tag::good_tag_at(tags, s, at) {
         return 4;
     }
     if bytes::country_flags_defined(bytes::byte(s, at + 3)) {
@@ -59,14 +61,14 @@ fn country_number(s: &[u8], at: usize) -> u32
     }
 }
 
-fn countries_number(s: &[u8], at: usize, n: usize) -> u32
-    requires { ⌜ at + 12 * n ≤ length (now s) ⌝ }
+fn countries_number(tags: &[bool; 256], s: &[u8], at: usize, n: usize) -> u32
+    requires { ⌜ (at + 12 * n ≤ length (now s)) × (TagTable (now tags)) ⌝ }
     ensures { λ r. ⌜ r ≡ firstIn countryNumber (rowsAt (countryAt (now (s .entry))) 12 (now (s .entry)) at n) ⌝ }
 {
     let mut a = at;
     let mut left = n;
     while 0 < left {
-        let number = country_number(s, a);
+        let number = country_number(tags, s, a);
         if number != 0 {
             return number;
         }
@@ -77,24 +79,24 @@ fn countries_number(s: &[u8], at: usize, n: usize) -> u32
 }
 
 // A date, then a tag: a switch or an owner event.
-fn dated_number(s: &[u8], at: usize) -> u32
-    requires { ⌜ at + 7 ≤ length (now s) ⌝ }
+fn dated_number(tags: &[bool; 256], months: &[u32; 100], s: &[u8], at: usize) -> u32
+    requires { ⌜ (at + 7 ≤ length (now s)) × (TagTable (now tags)) × (MonthTable (now months)) ⌝ }
     ensures { λ r. ⌜ r ≡ ownerEventNumber (ownerEventAt (now (s .entry)) at) ⌝ }
 {
-    if !bytes::date_at(s, at).good() {
+    if !bytes::date_at(s, at).good_by(months) {
         return 5;
     }
-    tag_number(bytes::tag_at(s, at + 4))
+    tag_number(tags, s, at + 4)
 }
 
-fn dated_rows_number(s: &[u8], at: usize, n: usize) -> u32
-    requires { ⌜ at + 7 * n ≤ length (now s) ⌝ }
+fn dated_rows_number(tags: &[bool; 256], months: &[u32; 100], s: &[u8], at: usize, n: usize) -> u32
+    requires { ⌜ (at + 7 * n ≤ length (now s)) × (TagTable (now tags)) × (MonthTable (now months)) ⌝ }
     ensures { λ r. ⌜ r ≡ firstIn ownerEventNumber (rowsAt (ownerEventAt (now (s .entry))) 7 (now (s .entry)) at n) ⌝ }
 {
     let mut a = at;
     let mut left = n;
     while 0 < left {
-        let number = dated_number(s, a);
+        let number = dated_number(tags, months, s, a);
         if number != 0 {
             return number;
         }
@@ -105,27 +107,27 @@ fn dated_rows_number(s: &[u8], at: usize, n: usize) -> u32
 }
 
 // A war event's date, kind and tag.
-fn war_event_number(s: &[u8], at: usize) -> u32
-    requires { ⌜ at + 8 ≤ length (now s) ⌝ }
+fn war_event_number(tags: &[bool; 256], months: &[u32; 100], s: &[u8], at: usize) -> u32
+    requires { ⌜ (at + 8 ≤ length (now s)) × (TagTable (now tags)) × (MonthTable (now months)) ⌝ }
     ensures { λ r. ⌜ r ≡ warEventNumber (warEventAt (now (s .entry)) at) ⌝ }
 {
-    if !bytes::date_at(s, at).good() {
+    if !bytes::date_at(s, at).good_by(months) {
         return 5;
     }
     if 4 < bytes::byte(s, at + 4) {
         return 6;
     }
-    tag_number(bytes::tag_at(s, at + 5))
+    tag_number(tags, s, at + 5)
 }
 
-fn war_events_number(s: &[u8], at: usize, n: usize) -> u32
-    requires { ⌜ at + 8 * n ≤ length (now s) ⌝ }
+fn war_events_number(tags: &[bool; 256], months: &[u32; 100], s: &[u8], at: usize, n: usize) -> u32
+    requires { ⌜ (at + 8 * n ≤ length (now s)) × (TagTable (now tags)) × (MonthTable (now months)) ⌝ }
     ensures { λ r. ⌜ r ≡ firstIn warEventNumber (rowsAt (warEventAt (now (s .entry))) 8 (now (s .entry)) at n) ⌝ }
 {
     let mut a = at;
     let mut left = n;
     while 0 < left {
-        let number = war_event_number(s, a);
+        let number = war_event_number(tags, months, s, a);
         if number != 0 {
             return number;
         }
@@ -135,6 +137,7 @@ fn war_events_number(s: &[u8], at: usize, n: usize) -> u32
     0
 }
 
+// A point's year.
 fn point_number(s: &[u8], at: usize) -> u32
     requires { ⌜ at + 6 ≤ length (now s) ⌝ }
     ensures { λ r. ⌜ r ≡ yearNumber (pointAt (now (s .entry)) at .year) ⌝ }
@@ -142,7 +145,20 @@ fn point_number(s: &[u8], at: usize) -> u32
     if bytes::u16_at(s, at) <= 9999 { 0 } else { 9 }
 }
 
-fn points_number(s: &[u8], at: usize, n: usize) -> u32
+// Four points at once, of which any bad one refuses with the same number.
+fn four_points_number(s: &[u8], at: usize) -> u32
+    requires { ⌜ at + 24 ≤ length (now s) ⌝ }
+    ensures { λ r. ⌜ r ≡ firstIn (λ p. yearNumber (p .year)) (rowsAt (pointAt (now (s .entry))) 6 (now (s .entry)) at 4) ⌝ }
+{
+    let good = (bytes::u16_at(s, at) <= 9999)
+        & (bytes::u16_at(s, at + 6) <= 9999)
+        & (bytes::u16_at(s, at + 12) <= 9999)
+        & (bytes::u16_at(s, at + 18) <= 9999);
+    if good { 0 } else { 9 }
+}
+
+// Points one by one, where few are left.
+fn last_points_number(s: &[u8], at: usize, n: usize) -> u32
     requires { ⌜ at + 6 * n ≤ length (now s) ⌝ }
     ensures { λ r. ⌜ r ≡ firstIn (λ p. yearNumber (p .year)) (rowsAt (pointAt (now (s .entry))) 6 (now (s .entry)) at n) ⌝ }
 {
@@ -157,6 +173,24 @@ fn points_number(s: &[u8], at: usize, n: usize) -> u32
         left -= 1;
     }
     0
+}
+
+// Most of a record's bytes are points, so they are read by fours.
+fn points_number(s: &[u8], at: usize, n: usize) -> u32
+    requires { ⌜ at + 6 * n ≤ length (now s) ⌝ }
+    ensures { λ r. ⌜ r ≡ firstIn (λ p. yearNumber (p .year)) (rowsAt (pointAt (now (s .entry))) 6 (now (s .entry)) at n) ⌝ }
+{
+    let mut a = at;
+    let mut left = n;
+    while 4 <= left {
+        let number = four_points_number(s, a);
+        if number != 0 {
+            return number;
+        }
+        a += 24;
+        left -= 4;
+    }
+    last_points_number(s, a, left)
 }
 
 // The head's flags and dates.
@@ -176,53 +210,59 @@ fn head_number(h: Head) -> u32
 }
 
 // Each section in its place.
-fn countries_field(s: &[u8], h: Head) -> u32
-    requires { ⌜ Laid (now s) h ⌝ }
+fn countries_field(tags: &[bool; 256], s: &[u8], h: Head) -> u32
+    requires { ⌜ (Laid (now s) h) × (TagTable (now tags)) ⌝ }
     ensures { λ r. ⌜ r ≡ firstIn countryNumber (countryRows (now (s .entry))) ⌝ }
 {
-    countries_number(s, head::COUNTRIES_AT, h.countries as usize)
+    countries_number(tags, s, head::COUNTRIES_AT, h.countries as usize)
 }
 
-fn previous_field(s: &[u8], h: Head) -> u32
-    requires { ⌜ Laid (now s) h ⌝ }
+fn previous_field(tags: &[bool; 256], s: &[u8], h: Head) -> u32
+    requires { ⌜ (Laid (now s) h) × (TagTable (now tags)) ⌝ }
     ensures { λ r. ⌜ r ≡ firstIn (λ t. tagNumber t) (previousTags (now (s .entry))) ⌝ }
 {
-    tags_number(s, head::previous_at(h), 3, 0, h.previous as usize)
+    tags_number(tags, s, head::previous_at(h), 3, 0, h.previous as usize)
 }
 
-fn switches_field(s: &[u8], h: Head) -> u32
-    requires { ⌜ Laid (now s) h ⌝ }
+fn switches_field(tags: &[bool; 256], months: &[u32; 100], s: &[u8], h: Head) -> u32
+    requires { ⌜ (Laid (now s) h) × (TagTable (now tags)) × (MonthTable (now months)) ⌝ }
     ensures { λ r. ⌜ r ≡ firstIn switchNumber (switchRows (now (s .entry))) ⌝ }
 {
-    dated_rows_number(s, head::switches_at(h), h.switches as usize)
+    dated_rows_number(tags, months, s, head::switches_at(h), h.switches as usize)
 }
 
-fn provinces_field(s: &[u8], h: Head) -> u32
-    requires { ⌜ Laid (now s) h ⌝ }
+fn provinces_field(tags: &[bool; 256], s: &[u8], h: Head) -> u32
+    requires { ⌜ (Laid (now s) h) × (TagTable (now tags)) ⌝ }
     ensures { λ r. ⌜ r ≡ firstIn (λ r. tagNumber (r .owner)) (provinceRows (now (s .entry))) ⌝ }
 {
-    tags_number(s, head::provinces_at(h), 7, 2, h.provinces as usize)
+    tags_number(tags, s, head::provinces_at(h), 7, 2, h.provinces as usize)
 }
 
-fn events_field(s: &[u8], h: Head) -> u32
-    requires { ⌜ Laid (now s) h ⌝ }
+fn events_field(tags: &[bool; 256], months: &[u32; 100], s: &[u8], h: Head) -> u32
+    requires { ⌜ (Laid (now s) h) × (TagTable (now tags)) × (MonthTable (now months)) ⌝ }
     ensures { λ r. ⌜ r ≡ firstIn ownerEventNumber (ownerEvents (now (s .entry))) ⌝ }
 {
-    dated_rows_number(s, head::events_at(h), h.events as usize)
+    dated_rows_number(tags, months, s, head::events_at(h), h.events as usize)
 }
 
-fn wars_field(s: &[u8], h: Head) -> u32
-    requires { ⌜ Laid (now s) h ⌝ }
+fn wars_field(tags: &[bool; 256], months: &[u32; 100], s: &[u8], h: Head) -> u32
+    requires { ⌜ (Laid (now s) h) × (TagTable (now tags)) × (MonthTable (now months)) ⌝ }
     ensures { λ r. ⌜ r ≡ firstIn warEventNumber (warEvents (now (s .entry))) ⌝ }
 {
-    war_events_number(s, head::war_events_at(h), h.war_events as usize)
+    war_events_number(
+        tags,
+        months,
+        s,
+        head::war_events_at(h),
+        h.war_events as usize,
+    )
 }
 
-fn ledgers_field(s: &[u8], h: Head) -> u32
-    requires { ⌜ Laid (now s) h ⌝ }
+fn ledgers_field(tags: &[bool; 256], s: &[u8], h: Head) -> u32
+    requires { ⌜ (Laid (now s) h) × (TagTable (now tags)) ⌝ }
     ensures { λ r. ⌜ r ≡ firstIn (λ r. tagNumber (r .tag)) (ledgerRows (now (s .entry))) ⌝ }
 {
-    tags_number(s, head::ledgers_at(h), 5, 0, h.ledgers as usize)
+    tags_number(tags, s, head::ledgers_at(h), 5, 0, h.ledgers as usize)
 }
 
 fn points_field(s: &[u8], h: Head) -> u32
@@ -232,7 +272,43 @@ fn points_field(s: &[u8], h: Head) -> u32
     points_number(s, head::points_at(h), h.points as usize)
 }
 
-// The head's fields, then each section's in the order of the file.
+// Each section's fields in the order of the file, behind a head that is not refused.
+fn sections_number(tags: &[bool; 256], months: &[u32; 100], s: &[u8], h: Head) -> u32
+    requires { ⌜ (Laid (now s) h) × (headNumber h ≡ 0) × (TagTable (now tags)) × (MonthTable (now months)) ⌝ }
+    ensures { λ r. ⌜ r ≡ fieldsNumber (now (s .entry)) ⌝ }
+{
+    let number = countries_field(tags, s, h);
+    if number != 0 {
+        return number;
+    }
+    let number = previous_field(tags, s, h);
+    if number != 0 {
+        return number;
+    }
+    let number = switches_field(tags, months, s, h);
+    if number != 0 {
+        return number;
+    }
+    let number = provinces_field(tags, s, h);
+    if number != 0 {
+        return number;
+    }
+    let number = events_field(tags, months, s, h);
+    if number != 0 {
+        return number;
+    }
+    let number = wars_field(tags, months, s, h);
+    if number != 0 {
+        return number;
+    }
+    let number = ledgers_field(tags, s, h);
+    if number != 0 {
+        return number;
+    }
+    points_field(s, h)
+}
+
+// The head's fields, then each section's by tables that are made once.
 pub(crate) fn fields_number(s: &[u8], h: Head) -> u32
     requires { ⌜ (Laid (now s) h) × (h .flags < 256) ⌝ }
     ensures { λ r. ⌜ r ≡ fieldsNumber (now (s .entry)) ⌝ }
@@ -241,33 +317,7 @@ pub(crate) fn fields_number(s: &[u8], h: Head) -> u32
     if number != 0 {
         return number;
     }
-    let number = countries_field(s, h);
-    if number != 0 {
-        return number;
-    }
-    let number = previous_field(s, h);
-    if number != 0 {
-        return number;
-    }
-    let number = switches_field(s, h);
-    if number != 0 {
-        return number;
-    }
-    let number = provinces_field(s, h);
-    if number != 0 {
-        return number;
-    }
-    let number = events_field(s, h);
-    if number != 0 {
-        return number;
-    }
-    let number = wars_field(s, h);
-    if number != 0 {
-        return number;
-    }
-    let number = ledgers_field(s, h);
-    if number != 0 {
-        return number;
-    }
-    points_field(s, h)
+    let tags = tag::tag_table();
+    let months = date::month_table();
+    sections_number(&tags, &months, s, h)
 }

@@ -1,11 +1,12 @@
-// Number 7: a country tag or a province id twice, or an id above P. Marks in a bit set find a repeat in one pass.
+// Number 7: a country tag or a province id twice, or an id above P. Marks find a repeat in one pass: bits for the many tags,
+// and for the few ids a whole byte each, which is quicker.
 use crate::bytes;
 use crate::head;
 use crate::head::Head;
 use crate::tag::CountryTag;
 ghost use mathlib.Core.Path.{_≡_};
 ghost use mathlib.Core.Bool.{true, _||_};
-ghost use Prim.Native.Nat.{ℕ, _+_, _-_, _*_, _/_, _%_, _<_, _≤_};
+ghost use Prim.Native.Nat.{_+_, _-_, _*_, _/_, _%_, _<_, _≤_};
 ghost use lib.Dec.{ltb};
 ghost use lib.ListN.{length};
 ghost use Rattle.lists.specs.Lists.{anyOf, allOf, twice};
@@ -34,6 +35,10 @@ fn tag_twice(s: &[u8], at: usize, n: usize) -> bool
     requires { ⌜ allOf (λ w. isTag (record { 0 = w })) (rowsAt (λ a. tagAt (now s) a .0) 12 (now s) at n) ≡ true ⌝ }
     ensures { λ r. ⌜ r ≡ twice (rowsAt (λ a. tagAt (now (s .entry)) a .0) 12 (now (s .entry)) at n) ⌝ }
 {
+    // No country: nothing to mark, and the set need not be made.
+    if n == 0 {
+        return false;
+    }
     let mut seen = [0u64; 7415];
     let mut a = at;
     let mut left = n;
@@ -54,7 +59,7 @@ fn id_twice_or_above(s: &[u8], at: usize, n: usize) -> bool
     requires { ⌜ (at + 7 * n ≤ length (now s)) × (n ≤ 8000) ⌝ }
     ensures { λ r. ⌜ r ≡ twice (rowsAt (λ a. idAt (now (s .entry)) a .0) 7 (now (s .entry)) at n) || anyOf (ltb n) (rowsAt (λ a. idAt (now (s .entry)) a .0) 7 (now (s .entry)) at n) ⌝ }
 {
-    let mut seen = [0u64; 126];
+    let mut seen = [false; 8192];
     let mut a = at;
     let mut left = n;
     while 0 < left {
@@ -62,10 +67,10 @@ fn id_twice_or_above(s: &[u8], at: usize, n: usize) -> bool
         if n < id {
             return true;
         }
-        if bitset::marked(&seen, id) {
+        if seen[id] {
             return true;
         }
-        bitset::mark(&mut seen, id);
+        seen[id] = true;
         a += 7;
         left -= 1;
     }

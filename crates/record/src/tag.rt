@@ -1,5 +1,9 @@
 use crate::bytes;
 ghost use mathlib.Core.Path.{_≡_};
+ghost use Prim.Native.Nat.{_+_, _≤_};
+ghost use lib.ListN.{length};
+ghost use Rattle.record.specs.Bytes.{tagAt};
+ghost use Rattle.record.specs.Laid.{TagTable};
 ghost use Rattle.record.specs.Tags.{tagByte, isTag, tested, sameTag, created, tagOfWord};
 
 // A country's tag of three bytes, held as its word a*65536 + b*256 + c: equal words are equal tags, and word order is byte order.
@@ -15,6 +19,30 @@ fn tag_byte(b: u32) -> bool
     ensures { λ r. ⌜ r ≡ tagByte b ⌝ }
 {
     (48 <= b) & (b <= 57) | (65 <= b) & (b <= 90) | (97 <= b) & (b <= 122) | (b == 45)
+}
+
+// The same test of every byte, made once where many tags are to be tested: to look a byte up is quicker than to test it.
+pub(crate) fn tag_table() -> [bool; 256]
+    ensures { λ r. ⌜ TagTable r ⌝ }
+{
+    let mut table = [false; 256];
+    let mut b: usize = 0;
+    while b < 256 {
+        table[b] = tag_byte(b as u32);
+        b += 1;
+    }
+    table
+}
+
+// Whether the three bytes at an offset are tag bytes, by the table.
+pub(crate) fn good_tag_at(table: &[bool; 256], s: &[u8], at: usize) -> bool
+    requires { ⌜ (at + 3 ≤ length (now s)) × (TagTable (now table)) ⌝ }
+    ensures { λ r. ⌜ r ≡ isTag (tagAt (now (s .entry)) at) ⌝ }
+{
+    let a = bytes::byte(s, at) as usize;
+    let b = bytes::byte(s, at + 1) as usize;
+    let c = bytes::byte(s, at + 2) as usize;
+    table[a] & table[b] & table[c]
 }
 
 impl CountryTag {

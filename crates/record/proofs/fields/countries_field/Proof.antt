@@ -1,18 +1,12 @@
-use mathlib.Core.Path.{_≡_, refl, sym, ap, _∙_}
-use Prim.Native.Nat.{ℕ, _+_, _*_, _≤_}
-use lib.ListN.{length}
-use mathlib.Core.List.{List}
+-- The section that the head lays out, in its place.
+use mathlib.Core.Path.{refl, _∙_}
 use Rattle.record.proofs.HeadLaws.{section-told}
-use Rattle.record.specs.declared.head.Head.{Head}
-use Rattle.record.specs.Rows.{rowsAt, countryAt}
+use Rattle.record.specs.Rows.{countryAt}
 use Rattle.record.specs.Refusal.{firstIn, countryNumber}
 use Rattle.record.specs.Head.{countriesAt}
 use borrow.Author.Needs.{needs}
 use Rattle.record.proofs.fields.countries_field.Statement.{statement}
 use Rattle.record.proofs.fields.countries_field.Tie as tie
-use Rattle.record.proofs.fields.countries_field.Reads as reads
-use Rattle.record.proofs.fields.countries_field.Lts as lts
-use Rattle.record.proofs.fields.countries_number.Reads as countries-number-reads
 
 cast-countries-number : tie.Need-cast-countries-number
 cast-countries-number c = search needs
@@ -25,7 +19,7 @@ returns c =
     let s0 = c .before .before .before in
     let g = s0 .args in
     c .countries-number .ensures
-    ∙ section-told (firstIn (countryNumber)) (countryAt (g .s .now)) 12 (g .s .now) (λ h. countriesAt h) (λ h. h .countries) (g .h) _ (s0 .pre .head) refl
+    ∙ section-told (firstIn (countryNumber)) (countryAt (g .s .now)) 12 (g .s .now) (λ h. countriesAt h) (λ h. h .countries) (g .h) _ (s0 .pre .0 .head) refl
 
 pub countries-field-spec : {M : Type 1} → statement M
 countries-field-spec = tie.close (tie.spec cast-countries-number countries-number-requires returns)

@@ -1,23 +1,20 @@
-use mathlib.Core.Path.{_≡_, refl, sym, ap, _∙_}
+-- The rows that are left refuse as all of them do.
+use mathlib.Core.Path.{_≡_, sym, _∙_}
 use native.Mathlib.Omega.{arith}
 use Prim.Native.Nat.{_+_, _*_, _≤_}
 use lib.ListN.{length}
-use mathlib.Core.List.{List}
 use Rattle.record.proofs.FirstLaws.{first-rows-none, first-rows-pass, first-rows-stop}
 use Rattle.record.specs.Rows.{rowsAt, countryAt}
 use Rattle.record.specs.Refusal.{firstIn, countryNumber}
 use borrow.Author.Needs.{needs}
 use Rattle.record.proofs.fields.countries_number.Statement.{statement}
 use Rattle.record.proofs.fields.countries_number.Tie as tie
-use Rattle.record.proofs.fields.countries_number.Reads as reads
-use Rattle.record.proofs.fields.countries_number.Lts as lts
-use Rattle.record.proofs.fields.country_number.Reads as country-number-reads
 
 abbrev Inv-loop : tie.InvT-loop
-Inv-loop s at n a₀ left₀ a left = (a + 12 * left ≤ length s) × (firstIn (countryNumber) (rowsAt (countryAt s) 12 s a left) ≡ firstIn (countryNumber) (rowsAt (countryAt s) 12 s at n))
+Inv-loop tags s at n a₀ left₀ a left = (a + 12 * left ≤ length s) × (firstIn (countryNumber) (rowsAt (countryAt s) 12 s a left) ≡ firstIn (countryNumber) (rowsAt (countryAt s) 12 s at n))
 
 abbrev μ-loop : tie.MeasureT-loop
-μ-loop s at n a₀ left₀ a left = left
+μ-loop tags s at n a₀ left₀ a left = left
 
 loop-holds : tie.Need-loop-holds Inv-loop μ-loop
 loop-holds c = search needs

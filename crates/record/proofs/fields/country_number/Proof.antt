@@ -1,29 +1,20 @@
-use mathlib.Core.Path.{_≡_, refl, sym, ap, _∙_}
-use borrow.Author.Tests.{not-true, not-false, lt-leb, le-leb}
-use Prim.Native.Nat.{ℕ, _+_}
+-- The tag's number, and behind a good tag that of the flags.
+use mathlib.Core.Path.{sym, ap, _∙_}
+use borrow.Author.Tests.{not-true, not-false}
+use Prim.Native.Nat.{ℕ}
 use lib.Dec.{ltb}
-use Rattle.record.specs.Tags.{isTag}
 use Rattle.record.specs.Rows.{countryAt}
 use Rattle.record.specs.Refusal.{firstOf, countryNumber}
 use borrow.Author.Needs.{needs}
 use Rattle.record.proofs.fields.country_number.Statement.{statement}
 use Rattle.record.proofs.fields.country_number.Tie as tie
-use Rattle.record.proofs.fields.country_number.Reads as reads
-use Rattle.record.proofs.fields.country_number.Lts as lts
-use Rattle.record.proofs.bytes.byte.Reads as byte-reads
-use Rattle.record.proofs.bytes.country_flags_defined.Reads as country-flags-defined-reads
-use Rattle.record.proofs.bytes.tag_at.Reads as tag-at-reads
-use Rattle.record.proofs.tag.CountryTag.good.Reads as good-reads
 
-tag-at-requires : tie.Need-tag-at-requires
-tag-at-requires c κs = search needs
-
-good-requires : tie.Need-good-requires
-good-requires c κs = search needs
+good-tag-at-requires : tie.Need-good-tag-at-requires
+good-tag-at-requires c κs = search needs
 
 returns : tie.Need-returns
 unfolding countryNumber countryAt firstOf
-returns c = simp (sym (ap isTag (c .before .before .tag-at .ensures)) ∙ sym (c .before .good2 .ensures) ∙ not-true _ (c .if1 .taken))
+returns c = simp (sym (c .before .good-tag-at .ensures) ∙ not-true _ (c .if1 .taken))
 
 add-byte : tie.Need-add-byte
 add-byte c = search needs
@@ -38,7 +29,7 @@ returns-2 : tie.Need-returns-2
 unfolding countryNumber countryAt firstOf
 returns-2 c =
     simp (
-      sym (ap isTag (c .before .before .before .before .before .tag-at .ensures)) ∙ sym (c .before .before .before .before .good2 .ensures) ∙ not-false _ (c .before .before .before .if1 .left),
+      sym (c .before .before .before .before .good-tag-at .ensures) ∙ not-false _ (c .before .before .before .if1 .left),
       sym (ap (λ (n : ℕ). ltb n 8) (c .before .before .byte .ensures .same)) ∙ sym (c .before .country-flags-defined .ensures) ∙ c .if2 .taken,
     )
 
@@ -46,7 +37,7 @@ returns-3 : tie.Need-returns-3
 unfolding countryNumber countryAt firstOf
 returns-3 c =
     simp (
-      sym (ap isTag (c .before .before .before .before .before .tag-at .ensures)) ∙ sym (c .before .before .before .before .good2 .ensures) ∙ not-false _ (c .before .before .before .if1 .left),
+      sym (c .before .before .before .before .good-tag-at .ensures) ∙ not-false _ (c .before .before .before .if1 .left),
       sym (ap (λ (n : ℕ). ltb n 8) (c .before .before .byte .ensures .same)) ∙ sym (c .before .country-flags-defined .ensures) ∙ c .if2 .left,
     )
 
@@ -54,8 +45,7 @@ pub country-number-spec : {M : Type 1} → statement M
 country-number-spec =
     tie.close
     (tie.spec
-    tag-at-requires
-    good-requires
+    good-tag-at-requires
     returns
     add-byte
     byte-requires

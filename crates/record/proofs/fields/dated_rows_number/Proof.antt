@@ -1,23 +1,20 @@
-use mathlib.Core.Path.{_≡_, refl, sym, ap, _∙_}
+-- The rows that are left refuse as all of them do.
+use mathlib.Core.Path.{_≡_, sym, _∙_}
 use native.Mathlib.Omega.{arith}
 use Prim.Native.Nat.{_+_, _*_, _≤_}
 use lib.ListN.{length}
-use mathlib.Core.List.{List}
 use Rattle.record.proofs.FirstLaws.{first-rows-none, first-rows-pass, first-rows-stop}
 use Rattle.record.specs.Rows.{rowsAt, ownerEventAt}
 use Rattle.record.specs.Refusal.{firstIn, ownerEventNumber}
 use borrow.Author.Needs.{needs}
 use Rattle.record.proofs.fields.dated_rows_number.Statement.{statement}
 use Rattle.record.proofs.fields.dated_rows_number.Tie as tie
-use Rattle.record.proofs.fields.dated_rows_number.Reads as reads
-use Rattle.record.proofs.fields.dated_rows_number.Lts as lts
-use Rattle.record.proofs.fields.dated_number.Reads as dated-number-reads
 
 abbrev Inv-loop : tie.InvT-loop
-Inv-loop s at n a₀ left₀ a left = (a + 7 * left ≤ length s) × (firstIn (ownerEventNumber) (rowsAt (ownerEventAt s) 7 s a left) ≡ firstIn (ownerEventNumber) (rowsAt (ownerEventAt s) 7 s at n))
+Inv-loop tags months s at n a₀ left₀ a left = (a + 7 * left ≤ length s) × (firstIn (ownerEventNumber) (rowsAt (ownerEventAt s) 7 s a left) ≡ firstIn (ownerEventNumber) (rowsAt (ownerEventAt s) 7 s at n))
 
 abbrev μ-loop : tie.MeasureT-loop
-μ-loop s at n a₀ left₀ a left = left
+μ-loop tags months s at n a₀ left₀ a left = left
 
 loop-holds : tie.Need-loop-holds Inv-loop μ-loop
 loop-holds c = search needs

@@ -1,19 +1,12 @@
-use mathlib.Core.Path.{_≡_, refl, sym, ap, _∙_}
-use Prim.Native.Nat.{ℕ, _+_, _*_, _≤_}
-use lib.ListN.{length}
-use mathlib.Core.List.{List}
+-- The section that the head lays out, in its place.
+use mathlib.Core.Path.{_∙_}
 use Rattle.record.proofs.HeadLaws.{section-told}
-use Rattle.record.specs.declared.head.Head.{Head}
-use Rattle.record.specs.Rows.{rowsAt, ownerEventAt}
+use Rattle.record.specs.Rows.{ownerEventAt}
 use Rattle.record.specs.Refusal.{firstIn, ownerEventNumber}
 use Rattle.record.specs.Head.{eventsAt}
 use borrow.Author.Needs.{needs}
 use Rattle.record.proofs.fields.events_field.Statement.{statement}
 use Rattle.record.proofs.fields.events_field.Tie as tie
-use Rattle.record.proofs.fields.events_field.Reads as reads
-use Rattle.record.proofs.fields.events_field.Lts as lts
-use Rattle.record.proofs.fields.dated_rows_number.Reads as dated-rows-number-reads
-use Rattle.record.proofs.head.events_at.Reads as events-at-reads
 
 events-at-requires : tie.Need-events-at-requires
 events-at-requires c κs = search needs
@@ -29,7 +22,7 @@ returns c =
     let s0 = c .before .before .before .before in
     let g = s0 .args in
     c .dated-rows-number .ensures
-    ∙ section-told (firstIn (ownerEventNumber)) (ownerEventAt (g .s .now)) 7 (g .s .now) (λ h. eventsAt h) (λ h. h .events) (g .h) _ (s0 .pre .head) (c .before .before .events-at .ensures)
+    ∙ section-told (firstIn (ownerEventNumber)) (ownerEventAt (g .s .now)) 7 (g .s .now) (λ h. eventsAt h) (λ h. h .events) (g .h) _ (s0 .pre .0 .head) (c .before .before .events-at .ensures)
 
 pub events-field-spec : {M : Type 1} → statement M
 events-field-spec =

@@ -1,11 +1,9 @@
-use mathlib.Core.Path.{_≡_, refl, sym, ap, _∙_}
-use Prim.Native.Nat.{ℕ, _+_, _*_, _≤_}
-use lib.ListN.{length}
-use mathlib.Core.List.{List}
+-- The section that the head lays out, in its place.
+use mathlib.Core.Path.{ap, _∙_}
+use Prim.Native.Nat.{ℕ, _+_}
 use Rattle.record.proofs.HeadLaws.{section-told}
 use Rattle.record.proofs.FirstLaws.{first-rows-same}
-use Rattle.record.specs.declared.head.Head.{Head}
-use Rattle.record.specs.Rows.{rowsAt, ledgerAt}
+use Rattle.record.specs.Rows.{ledgerAt}
 use Rattle.record.specs.Refusal.{firstIn, tagNumber}
 use Rattle.record.specs.Head.{ledgersAt}
 use native.Mathlib.Nat.{add-zero}
@@ -14,10 +12,6 @@ use Rattle.record.specs.Rows.{PackedLedger}
 use borrow.Author.Needs.{needs}
 use Rattle.record.proofs.fields.ledgers_field.Statement.{statement}
 use Rattle.record.proofs.fields.ledgers_field.Tie as tie
-use Rattle.record.proofs.fields.ledgers_field.Reads as reads
-use Rattle.record.proofs.fields.ledgers_field.Lts as lts
-use Rattle.record.proofs.fields.tags_number.Reads as tags-number-reads
-use Rattle.record.proofs.head.ledgers_at.Reads as ledgers-at-reads
 
 ledgers-at-requires : tie.Need-ledgers-at-requires
 ledgers-at-requires c κs = search needs
@@ -35,7 +29,7 @@ returns c =
     let g = s0 .args in
     c .tags-number .ensures
     ∙ first-rows-same (λ t. tagNumber t) (λ (x : ℕ). tagAt (g .s .now) (x + 0)) (λ (r : PackedLedger). tagNumber (r .tag)) (ledgerAt (g .s .now)) 5 (g .s .now) (λ (a : ℕ). ap (λ (x : ℕ). tagNumber (tagAt (g .s .now) x)) (add-zero a)) _ _
-    ∙ section-told (firstIn (λ (r : PackedLedger). tagNumber (r .tag))) (ledgerAt (g .s .now)) 5 (g .s .now) (λ h. ledgersAt h) (λ h. h .ledgers) (g .h) _ (s0 .pre .head) (c .before .before .ledgers-at .ensures)
+    ∙ section-told (firstIn (λ (r : PackedLedger). tagNumber (r .tag))) (ledgerAt (g .s .now)) 5 (g .s .now) (λ h. ledgersAt h) (λ h. h .ledgers) (g .h) _ (s0 .pre .0 .head) (c .before .before .ledgers-at .ensures)
 
 pub ledgers-field-spec : {M : Type 1} → statement M
 ledgers-field-spec =

@@ -1,20 +1,13 @@
-use mathlib.Core.Path.{_≡_, refl, sym, ap, _∙_}
-use Prim.Native.Nat.{ℕ, _+_, _*_, _≤_}
-use lib.ListN.{length}
-use mathlib.Core.List.{List}
+-- The section that the head lays out, in its place.
+use mathlib.Core.Path.{_∙_}
 use Rattle.record.proofs.HeadLaws.{section-told}
-use Rattle.record.specs.declared.head.Head.{Head}
-use Rattle.record.specs.Rows.{rowsAt, pointAt}
+use Rattle.record.specs.Rows.{pointAt}
 use Rattle.record.specs.Refusal.{firstIn, yearNumber}
 use Rattle.record.specs.Head.{pointsAt}
 use Rattle.record.specs.declared.rows.Point.{Point}
 use borrow.Author.Needs.{needs}
 use Rattle.record.proofs.fields.points_field.Statement.{statement}
 use Rattle.record.proofs.fields.points_field.Tie as tie
-use Rattle.record.proofs.fields.points_field.Reads as reads
-use Rattle.record.proofs.fields.points_field.Lts as lts
-use Rattle.record.proofs.fields.points_number.Reads as points-number-reads
-use Rattle.record.proofs.head.points_at.Reads as points-at-reads
 
 points-at-requires : tie.Need-points-at-requires
 points-at-requires c κs = search needs

@@ -1,18 +1,15 @@
-use mathlib.Core.Path.{_≡_, refl, sym, ap, _∙_}
+-- The rows that are left refuse as all of them do; four of them are passed at once.
+use mathlib.Core.Path.{_≡_, sym, _∙_}
+use Prim.Native.Nat.{_+_, _*_, _≤_}
 use native.Mathlib.Omega.{arith}
-use Prim.Native.Nat.{ℕ, _+_, _*_, _≤_}
 use lib.ListN.{length}
-use mathlib.Core.List.{List}
-use Rattle.record.proofs.FirstLaws.{first-rows-none, first-rows-pass, first-rows-stop}
+use Rattle.record.specs.declared.rows.Point.{Point}
 use Rattle.record.specs.Rows.{rowsAt, pointAt}
 use Rattle.record.specs.Refusal.{firstIn, yearNumber}
-use Rattle.record.specs.declared.rows.Point.{Point}
+use Rattle.record.proofs.FirstLaws.{first-rows-skip, first-rows-front}
 use borrow.Author.Needs.{needs}
 use Rattle.record.proofs.fields.points_number.Statement.{statement}
 use Rattle.record.proofs.fields.points_number.Tie as tie
-use Rattle.record.proofs.fields.points_number.Reads as reads
-use Rattle.record.proofs.fields.points_number.Lts as lts
-use Rattle.record.proofs.fields.point_number.Reads as point-number-reads
 
 abbrev Inv-loop : tie.InvT-loop
 Inv-loop s at n a₀ left₀ a left =
@@ -25,37 +22,34 @@ abbrev μ-loop : tie.MeasureT-loop
 loop-holds : tie.Need-loop-holds Inv-loop μ-loop
 loop-holds c = search needs
 
-point-number-requires : tie.Need-point-number-requires Inv-loop μ-loop
-point-number-requires c κs = search needs
+four-points-number-requires : tie.Need-four-points-number-requires Inv-loop μ-loop
+four-points-number-requires c κs = search needs
 
 returns : tie.Need-returns Inv-loop μ-loop
 returns c =
-    let k = c .before .point-number in
+    let k = c .before .four-points-number in
     let l = c .before .before .before .loop in
     k .ensures
-    ∙ sym (first-rows-stop (λ (p : Point). yearNumber (p .year)) (pointAt _) 6 _ _ _ (c .before .before .loop-test .taken) (omega arith) (λ e. c .if1 .taken (k .ensures ∙ e)))
+    ∙ sym (first-rows-front (λ (p : Point). yearNumber (p .year)) (pointAt _) 6 _ _ 4 _ (c .before .before .loop-test .taken) (omega arith) (λ e. c .if1 .taken (k .ensures ∙ e)))
     ∙ l .inv .1
 
 add-a : tie.Need-add-a Inv-loop μ-loop
 add-a c = search needs
-
-sub-left : tie.Need-sub-left Inv-loop μ-loop
-sub-left c = search needs
 
 loop-less : tie.Need-loop-less Inv-loop μ-loop
 loop-less c = search needs
 
 loop-again : tie.Need-loop-again Inv-loop μ-loop
 loop-again c =
-    let k = c .before .point-number in
+    let k = c .before .four-points-number in
     let l = c .before .before .before .loop in
-    (search needs, sym (first-rows-pass (λ (p : Point). yearNumber (p .year)) (pointAt _) 6 _ _ _ (c .before .before .loop-test .taken) (omega arith) (sym (k .ensures) ∙ c .if1 .left)) ∙ l .inv .1)
+    (search needs, sym (first-rows-skip (λ (p : Point). yearNumber (p .year)) (pointAt _) 6 _ _ 4 _ (c .before .before .loop-test .taken) (omega arith) (sym (k .ensures) ∙ c .if1 .left)) ∙ l .inv .1)
+
+last-points-number-requires : tie.Need-last-points-number-requires Inv-loop μ-loop
+last-points-number-requires c κs = search needs
 
 returns-2 : tie.Need-returns-2 Inv-loop μ-loop
-returns-2 c =
-    let l = c .before .loop in
-    let none : l .left ≡ 0 = omega arith in
-    sym (first-rows-none (λ (p : Point). yearNumber (p .year)) (pointAt _) 6 _ _) ∙ (rw none at (l .inv .1))
+returns-2 c = c .last-points-number .ensures ∙ c .before .before .loop .inv .1
 
 pub points-number-spec : {M : Type 1} → statement M
 points-number-spec =
@@ -64,10 +58,10 @@ points-number-spec =
     Inv-loop
     μ-loop
     loop-holds
-    point-number-requires
+    four-points-number-requires
     returns
     add-a
-    sub-left
     loop-less
     loop-again
+    last-points-number-requires
     returns-2)

@@ -1,11 +1,8 @@
-use mathlib.Core.Path.{_≡_, refl, sym, ap, _∙_}
-use Prim.Native.Nat.{ℕ, _+_, _*_, _≤_}
-use lib.ListN.{length}
-use mathlib.Core.List.{List}
+-- The section that the head lays out, in its place.
+use mathlib.Core.Path.{ap, _∙_}
+use Prim.Native.Nat.{ℕ, _+_}
 use Rattle.record.proofs.HeadLaws.{section-told}
 use Rattle.record.proofs.FirstLaws.{first-rows-same}
-use Rattle.record.specs.declared.head.Head.{Head}
-use Rattle.record.specs.Rows.{rowsAt}
 use Rattle.record.specs.Refusal.{firstIn, tagNumber}
 use Rattle.record.specs.Head.{previousAt}
 use native.Mathlib.Nat.{add-zero}
@@ -13,10 +10,6 @@ use Rattle.record.specs.Bytes.{tagAt}
 use borrow.Author.Needs.{needs}
 use Rattle.record.proofs.fields.previous_field.Statement.{statement}
 use Rattle.record.proofs.fields.previous_field.Tie as tie
-use Rattle.record.proofs.fields.previous_field.Reads as reads
-use Rattle.record.proofs.fields.previous_field.Lts as lts
-use Rattle.record.proofs.fields.tags_number.Reads as tags-number-reads
-use Rattle.record.proofs.head.previous_at.Reads as previous-at-reads
 
 previous-at-requires : tie.Need-previous-at-requires
 previous-at-requires c κs = search needs
@@ -33,7 +26,7 @@ returns c =
     let g = s0 .args in
     c .tags-number .ensures
     ∙ first-rows-same (λ t. tagNumber t) (λ (x : ℕ). tagAt (g .s .now) (x + 0)) (λ t. tagNumber t) (tagAt (g .s .now)) 3 (g .s .now) (λ (a : ℕ). ap (λ (x : ℕ). tagNumber (tagAt (g .s .now) x)) (add-zero a)) _ _
-    ∙ section-told (firstIn (λ t. tagNumber t)) (tagAt (g .s .now)) 3 (g .s .now) (λ h. previousAt h) (λ h. h .previous) (g .h) _ (s0 .pre .head) (c .before .before .previous-at .ensures)
+    ∙ section-told (firstIn (λ t. tagNumber t)) (tagAt (g .s .now)) 3 (g .s .now) (λ h. previousAt h) (λ h. h .previous) (g .h) _ (s0 .pre .0 .head) (c .before .before .previous-at .ensures)
 
 pub previous-field-spec : {M : Type 1} → statement M
 previous-field-spec =

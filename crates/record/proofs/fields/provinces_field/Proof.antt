@@ -1,11 +1,9 @@
-use mathlib.Core.Path.{_≡_, refl, sym, ap, _∙_}
-use Prim.Native.Nat.{ℕ, _+_, _*_, _≤_}
-use lib.ListN.{length}
-use mathlib.Core.List.{List}
+-- The section that the head lays out, in its place.
+use mathlib.Core.Path.{refl, _∙_}
+use Prim.Native.Nat.{ℕ, _+_}
 use Rattle.record.proofs.HeadLaws.{section-told}
 use Rattle.record.proofs.FirstLaws.{first-rows-same}
-use Rattle.record.specs.declared.head.Head.{Head}
-use Rattle.record.specs.Rows.{rowsAt, provinceAt}
+use Rattle.record.specs.Rows.{provinceAt}
 use Rattle.record.specs.Refusal.{firstIn, tagNumber}
 use Rattle.record.specs.Head.{provincesAt}
 use Rattle.record.specs.Bytes.{tagAt}
@@ -13,10 +11,6 @@ use Rattle.record.specs.Rows.{PackedProvince}
 use borrow.Author.Needs.{needs}
 use Rattle.record.proofs.fields.provinces_field.Statement.{statement}
 use Rattle.record.proofs.fields.provinces_field.Tie as tie
-use Rattle.record.proofs.fields.provinces_field.Reads as reads
-use Rattle.record.proofs.fields.provinces_field.Lts as lts
-use Rattle.record.proofs.fields.tags_number.Reads as tags-number-reads
-use Rattle.record.proofs.head.provinces_at.Reads as provinces-at-reads
 
 provinces-at-requires : tie.Need-provinces-at-requires
 provinces-at-requires c κs = search needs
@@ -34,7 +28,7 @@ returns c =
     let g = s0 .args in
     c .tags-number .ensures
     ∙ first-rows-same (λ t. tagNumber t) (λ (x : ℕ). tagAt (g .s .now) (x + 2)) (λ (r : PackedProvince). tagNumber (r .owner)) (provinceAt (g .s .now)) 7 (g .s .now) (λ (a : ℕ). refl) _ _
-    ∙ section-told (firstIn (λ (r : PackedProvince). tagNumber (r .owner))) (provinceAt (g .s .now)) 7 (g .s .now) (λ h. provincesAt h) (λ h. h .provinces) (g .h) _ (s0 .pre .head) (c .before .before .provinces-at .ensures)
+    ∙ section-told (firstIn (λ (r : PackedProvince). tagNumber (r .owner))) (provinceAt (g .s .now)) 7 (g .s .now) (λ h. provincesAt h) (λ h. h .provinces) (g .h) _ (s0 .pre .0 .head) (c .before .before .provinces-at .ensures)
 
 pub provinces-field-spec : {M : Type 1} → statement M
 provinces-field-spec =

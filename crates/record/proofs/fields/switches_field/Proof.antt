@@ -1,21 +1,15 @@
-use mathlib.Core.Path.{_≡_, refl, sym, ap, _∙_}
-use Prim.Native.Nat.{ℕ, _+_, _*_, _≤_}
-use lib.ListN.{length}
-use mathlib.Core.List.{List}
+-- The section that the head lays out, in its place.
+use mathlib.Core.Path.{refl, _∙_}
+use Prim.Native.Nat.{ℕ}
 use Rattle.record.proofs.HeadLaws.{section-told}
 use Rattle.record.proofs.FirstLaws.{first-rows-same}
-use Rattle.record.specs.declared.head.Head.{Head}
-use Rattle.record.specs.Rows.{rowsAt, switchAt}
+use Rattle.record.specs.Rows.{switchAt}
 use Rattle.record.specs.Refusal.{firstIn, switchNumber, ownerEventNumber}
 use Rattle.record.specs.Head.{switchesAt}
 use Rattle.record.specs.Rows.{ownerEventAt}
 use borrow.Author.Needs.{needs}
 use Rattle.record.proofs.fields.switches_field.Statement.{statement}
 use Rattle.record.proofs.fields.switches_field.Tie as tie
-use Rattle.record.proofs.fields.switches_field.Reads as reads
-use Rattle.record.proofs.fields.switches_field.Lts as lts
-use Rattle.record.proofs.fields.dated_rows_number.Reads as dated-rows-number-reads
-use Rattle.record.proofs.head.switches_at.Reads as switches-at-reads
 
 switches-at-requires : tie.Need-switches-at-requires
 switches-at-requires c κs = search needs
@@ -33,7 +27,7 @@ returns c =
     let g = s0 .args in
     c .dated-rows-number .ensures
     ∙ first-rows-same (ownerEventNumber) (ownerEventAt (g .s .now)) (switchNumber) (switchAt (g .s .now)) 7 (g .s .now) (λ (a : ℕ). refl) _ _
-    ∙ section-told (firstIn (switchNumber)) (switchAt (g .s .now)) 7 (g .s .now) (λ h. switchesAt h) (λ h. h .switches) (g .h) _ (s0 .pre .head) (c .before .before .switches-at .ensures)
+    ∙ section-told (firstIn (switchNumber)) (switchAt (g .s .now)) 7 (g .s .now) (λ h. switchesAt h) (λ h. h .switches) (g .h) _ (s0 .pre .0 .head) (c .before .before .switches-at .ensures)
 
 pub switches-field-spec : {M : Type 1} → statement M
 switches-field-spec =

@@ -1,8 +1,8 @@
-use mathlib.Core.Path.{_≡_, refl, sym, ap, _∙_}
+-- The rows that are left refuse as all of them do.
+use mathlib.Core.Path.{_≡_, sym, _∙_}
 use native.Mathlib.Omega.{arith}
 use Prim.Native.Nat.{ℕ, _+_, _*_, _≤_}
 use lib.ListN.{length}
-use mathlib.Core.List.{List}
 use Rattle.record.proofs.FirstLaws.{first-rows-none, first-rows-pass, first-rows-stop}
 use Rattle.record.proofs.RowLaws.{one-row}
 use Rattle.record.specs.Rows.{rowsAt}
@@ -11,42 +11,38 @@ use Rattle.record.specs.Bytes.{tagAt}
 use borrow.Author.Needs.{needs}
 use Rattle.record.proofs.fields.tags_number.Statement.{statement}
 use Rattle.record.proofs.fields.tags_number.Tie as tie
-use Rattle.record.proofs.fields.tags_number.Reads as reads
-use Rattle.record.proofs.fields.tags_number.Lts as lts
-use Rattle.record.proofs.bytes.tag_at.Reads as tag-at-reads
-use Rattle.record.proofs.fields.tag_number.Reads as tag-number-reads
 
 abbrev Inv-loop : tie.InvT-loop
-Inv-loop s at width k n a₀ left₀ a left =
+Inv-loop tags s at width k n a₀ left₀ a left =
     (a + width * left ≤ length s)
     × (firstIn (λ t. tagNumber t) (rowsAt (λ (x : ℕ). tagAt s (x + k)) width s a left) ≡ firstIn (λ t. tagNumber t) (rowsAt (λ (x : ℕ). tagAt s (x + k)) width s at n))
 
 abbrev μ-loop : tie.MeasureT-loop
-μ-loop s at width k n a₀ left₀ a left = left
+μ-loop tags s at width k n a₀ left₀ a left = left
 
 loop-holds : tie.Need-loop-holds Inv-loop μ-loop
 loop-holds c = search needs
 
-add-tag-at : tie.Need-add-tag-at Inv-loop μ-loop
-add-tag-at c = omega (arith, one-row (c .before .before .before .args .width) (c .before .loop .left) (c .loop-test .taken))
-
-tag-at-requires : tie.Need-tag-at-requires Inv-loop μ-loop
-tag-at-requires c κs = omega (arith, one-row (c .before .before .before .args .width) (c .before .loop .left) (c .loop-test .taken))
+add-tag-number : tie.Need-add-tag-number Inv-loop μ-loop
+add-tag-number c = omega (arith, one-row (c .before .before .before .args .width) (c .before .loop .left) (c .loop-test .taken))
 
 tag-number-requires : tie.Need-tag-number-requires Inv-loop μ-loop
-tag-number-requires c κs = search needs
+tag-number-requires c κs =
+    let row = one-row (c .before .before .before .args .width) (c .before .loop .left) (c .loop-test .taken) in
+    (omega (arith, row), c .before .before .before .pre .2)
 
 returns : tie.Need-returns Inv-loop μ-loop
 returns c =
-    let l = c .before .before .before .before .loop in
-    let g = c .before .before .before .before .before .before .args in
-    let told = c .before .tag-number .ensures ∙ ap (λ t. tagNumber t) (c .before .before .tag-at .ensures) in
-    told
-    ∙ sym (first-rows-stop (λ t. tagNumber t) (λ (x : ℕ). tagAt (g .s .now) (x + g .k)) (g .width) (g .s .now) (l .a) (l .left) (c .before .before .before .loop-test .taken) (omega (arith, one-row (c .before .before .before .before .before .before .args .width) (c .before .before .before .before .loop .left) (c .before .before .before .loop-test .taken))) (λ e. c .if1 .taken (told ∙ e)))
+    let l = c .before .before .before .loop in
+    let g = c .before .before .before .before .before .args in
+    let some = c .before .before .loop-test .taken in
+    let number = c .before .tag-number .ensures in
+    number
+    ∙ sym (first-rows-stop (λ t. tagNumber t) (λ (x : ℕ). tagAt (g .s .now) (x + g .k)) (g .width) (g .s .now) (l .a) (l .left) some (omega (arith, one-row (g .width) (l .left) some)) (λ e. c .if1 .taken (number ∙ e)))
     ∙ l .inv .1
 
 add-a : tie.Need-add-a Inv-loop μ-loop
-add-a c = omega (arith, one-row (c .before .before .before .before .before .before .args .width) (c .before .before .before .before .loop .left) (c .before .before .before .loop-test .taken))
+add-a c = omega (arith, one-row (c .before .before .before .before .before .args .width) (c .before .before .before .loop .left) (c .before .before .loop-test .taken))
 
 sub-left : tie.Need-sub-left Inv-loop μ-loop
 sub-left c = search needs
@@ -56,11 +52,13 @@ loop-less c = search needs
 
 loop-again : tie.Need-loop-again Inv-loop μ-loop
 loop-again c =
-    let l = c .before .before .before .before .loop in
-    let g = c .before .before .before .before .before .before .args in
-    let told = c .before .tag-number .ensures ∙ ap (λ t. tagNumber t) (c .before .before .tag-at .ensures) in (
-      omega (arith, one-row (c .before .before .before .before .before .before .args .width) (c .before .before .before .before .loop .left) (c .before .before .before .loop-test .taken)),
-      sym (first-rows-pass (λ t. tagNumber t) (λ (x : ℕ). tagAt (g .s .now) (x + g .k)) (g .width) (g .s .now) (l .a) (l .left) (c .before .before .before .loop-test .taken) (omega (arith, one-row (c .before .before .before .before .before .before .args .width) (c .before .before .before .before .loop .left) (c .before .before .before .loop-test .taken))) (sym told ∙ c .if1 .left))
+    let l = c .before .before .before .loop in
+    let g = c .before .before .before .before .before .args in
+    let some = c .before .before .loop-test .taken in
+    let row = one-row (g .width) (l .left) some in
+    let number = c .before .tag-number .ensures in (
+      omega (arith, row),
+      sym (first-rows-pass (λ t. tagNumber t) (λ (x : ℕ). tagAt (g .s .now) (x + g .k)) (g .width) (g .s .now) (l .a) (l .left) some (omega (arith, row)) (sym number ∙ c .if1 .left))
           ∙ l .inv .1,
     )
 
@@ -78,8 +76,7 @@ tags-number-spec =
     Inv-loop
     μ-loop
     loop-holds
-    add-tag-at
-    tag-at-requires
+    add-tag-number
     tag-number-requires
     returns
     add-a

@@ -1,32 +1,26 @@
-use mathlib.Core.Path.{_≡_, refl, sym, ap, _∙_}
+-- The date's number, behind a good date that of the kind, and behind a good kind that of the tag.
+use mathlib.Core.Path.{sym, ap, _∙_}
 use borrow.Author.Tests.{not-true, not-false, lt-leb, le-leb}
-use Rattle.record.specs.Dates.{goodDate}
-use Prim.Native.Nat.{ℕ, _+_}
+use Prim.Native.Nat.{ℕ}
 use lib.Dec.{leb}
+use Rattle.record.specs.Dates.{goodDate}
 use Rattle.record.specs.Rows.{warEventAt}
 use Rattle.record.specs.Refusal.{firstOf, warEventNumber}
 use Rattle.record.proofs.FirstLaws.{first-one}
-use Rattle.record.specs.Refusal.{tagNumber, dateNumber}
 use borrow.Author.Needs.{needs}
 use Rattle.record.proofs.fields.war_event_number.Statement.{statement}
 use Rattle.record.proofs.fields.war_event_number.Tie as tie
-use Rattle.record.proofs.fields.war_event_number.Reads as reads
-use Rattle.record.proofs.fields.war_event_number.Lts as lts
-use Rattle.record.proofs.bytes.byte.Reads as byte-reads
-use Rattle.record.proofs.bytes.date_at.Reads as date-at-reads
-use Rattle.record.proofs.bytes.tag_at.Reads as tag-at-reads
-use Rattle.record.proofs.date.Eu4Date.good.Reads as good-reads
-use Rattle.record.proofs.fields.tag_number.Reads as tag-number-reads
 
 date-at-requires : tie.Need-date-at-requires
 date-at-requires c κs = search needs
 
-good-requires : tie.Need-good-requires
-good-requires c κs = search needs
+good-by-requires : tie.Need-good-by-requires
+good-by-requires c κs = search needs
 
 returns : tie.Need-returns
 unfolding warEventNumber warEventAt firstOf
-returns c = simp (sym (ap goodDate (c .before .before .date-at .ensures)) ∙ sym (c .before .good2 .ensures) ∙ not-true _ (c .if1 .taken))
+returns c =
+    simp (sym (ap goodDate (c .before .before .date-at .ensures)) ∙ sym (c .before .good-by .ensures) ∙ not-true _ (c .if1 .taken))
 
 add-byte : tie.Need-add-byte
 add-byte c = search needs
@@ -37,16 +31,14 @@ byte-requires c κs = search needs
 returns-2 : tie.Need-returns-2
 unfolding warEventNumber warEventAt firstOf
 returns-2 c =
+    let dated = c .before .before .before in
     simp (
-      sym (ap goodDate (c .before .before .before .before .date-at .ensures)) ∙ sym (c .before .before .before .good2 .ensures) ∙ not-false _ (c .before .before .if1 .left),
+      sym (ap goodDate (dated .before .date-at .ensures)) ∙ sym (dated .good-by .ensures) ∙ not-false _ (c .before .before .if1 .left),
       sym (ap (λ (k : ℕ). leb k 4) (c .before .byte .ensures .same)) ∙ lt-leb _ _ (c .if2 .taken),
     )
 
-add-tag-at : tie.Need-add-tag-at
-add-tag-at c = search needs
-
-tag-at-requires : tie.Need-tag-at-requires
-tag-at-requires c κs = search needs
+add-tag-number : tie.Need-add-tag-number
+add-tag-number c = search needs
 
 tag-number-requires : tie.Need-tag-number-requires
 tag-number-requires c κs = search needs
@@ -54,10 +46,11 @@ tag-number-requires c κs = search needs
 returns-3 : tie.Need-returns-3
 unfolding warEventNumber warEventAt firstOf
 returns-3 c =
-    c .tag-number .ensures ∙ ap (λ t. tagNumber t) (c .before .tag-at .ensures)
+    let dated = c .before .before .before .before in
+    c .tag-number .ensures
     ∙ sym (simp (
-      sym (ap goodDate (c .before .before .before .before .before .before .date-at .ensures)) ∙ sym (c .before .before .before .before .before .good2 .ensures) ∙ not-false _ (c .before .before .before .before .if1 .left),
-      sym (ap (λ (k : ℕ). leb k 4) (c .before .before .before .byte .ensures .same)) ∙ le-leb _ _ (c .before .before .if2 .left),
+      sym (ap goodDate (dated .before .date-at .ensures)) ∙ sym (dated .good-by .ensures) ∙ not-false _ (c .before .before .before .if1 .left),
+      sym (ap (λ (k : ℕ). leb k 4) (c .before .before .byte .ensures .same)) ∙ le-leb _ _ (c .before .if2 .left),
     ) (first-one _))
 
 pub war-event-number-spec : {M : Type 1} → statement M
@@ -65,12 +58,11 @@ war-event-number-spec =
     tie.close
     (tie.spec
     date-at-requires
-    good-requires
+    good-by-requires
     returns
     add-byte
     byte-requires
     returns-2
-    add-tag-at
-    tag-at-requires
+    add-tag-number
     tag-number-requires
     returns-3)

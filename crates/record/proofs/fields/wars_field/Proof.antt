@@ -1,19 +1,12 @@
-use mathlib.Core.Path.{_≡_, refl, sym, ap, _∙_}
-use Prim.Native.Nat.{ℕ, _+_, _*_, _≤_}
-use lib.ListN.{length}
-use mathlib.Core.List.{List}
+-- The section that the head lays out, in its place.
+use mathlib.Core.Path.{_∙_}
 use Rattle.record.proofs.HeadLaws.{section-told}
-use Rattle.record.specs.declared.head.Head.{Head}
-use Rattle.record.specs.Rows.{rowsAt, warEventAt}
+use Rattle.record.specs.Rows.{warEventAt}
 use Rattle.record.specs.Refusal.{firstIn, warEventNumber}
 use Rattle.record.specs.Head.{warEventsAt}
 use borrow.Author.Needs.{needs}
 use Rattle.record.proofs.fields.wars_field.Statement.{statement}
 use Rattle.record.proofs.fields.wars_field.Tie as tie
-use Rattle.record.proofs.fields.wars_field.Reads as reads
-use Rattle.record.proofs.fields.wars_field.Lts as lts
-use Rattle.record.proofs.fields.war_events_number.Reads as war-events-number-reads
-use Rattle.record.proofs.head.war_events_at.Reads as war-events-at-reads
 
 war-events-at-requires : tie.Need-war-events-at-requires
 war-events-at-requires c κs = search needs
@@ -29,7 +22,7 @@ returns c =
     let s0 = c .before .before .before .before in
     let g = s0 .args in
     c .war-events-number .ensures
-    ∙ section-told (firstIn (warEventNumber)) (warEventAt (g .s .now)) 8 (g .s .now) (λ h. warEventsAt h) (λ h. h .«war_events») (g .h) _ (s0 .pre .head) (c .before .before .war-events-at .ensures)
+    ∙ section-told (firstIn (warEventNumber)) (warEventAt (g .s .now)) 8 (g .s .now) (λ h. warEventsAt h) (λ h. h .«war_events») (g .h) _ (s0 .pre .0 .head) (c .before .before .war-events-at .ensures)
 
 pub wars-field-spec : {M : Type 1} → statement M
 wars-field-spec =

@@ -1,33 +1,27 @@
+-- One of the ids that are left is marked, stands twice or is above n exactly where one of all stands twice or is above n.
 use mathlib.Core.Path.{_≡_, refl, sym, ap, ap₂, _∙_}
-use native.Mathlib.Omega.{arith}
+use mathlib.Core.Bool.{true, false, _||_}
 use Prim.Native.Nat.{ℕ, _+_, _-_, _*_, _<_, _≤_}
-use lib.ListN.{length}
-use mathlib.Core.List.{List}
-use Rattle.record.proofs.RepeatLaws.{repeats, repeats-start, repeats-nil, rows-hit, number-marked, rows-above, rows-not-above}
-use mathlib.Core.Bool.{Bool, true, false, _||_}
-use lib.Dec.{ltb}
+use native.Mathlib.Omega.{arith}
 use borrow.Author.Tests.{lt-ltb, le-ltb}
-use Rattle.lists.proofs.BoolLaws.{or-true}
+use lib.Dec.{ltb}
+use lib.ListN.{length, set, replicate, length-set}
 use Rattle.lists.specs.Lists.{anyOf, twice}
-use Rattle.bitset.specs.Bitset.{isMarked, marking}
-use Rattle.bitset.proofs.BitsetLaws.{length-marking}
-use Rattle.record.proofs.RowLaws.{rows-none}
-use Rattle.record.specs.Rows.{rowsAt}
+use Rattle.lists.proofs.BoolLaws.{or-true}
+use Rattle.lists.proofs.TableLaws.{blank}
 use Rattle.record.specs.Bytes.{idAt}
+use Rattle.record.specs.Rows.{rowsAt}
+use Rattle.record.proofs.RowLaws.{rows-none}
+use Rattle.record.proofs.RepeatLaws.{repeats, repeats-start, repeats-nil, idSeen, rows-hit, id-marked, rows-above, rows-not-above}
 use borrow.Author.Needs.{needs}
 use Rattle.record.proofs.repeats.id_twice_or_above.Statement.{statement}
 use Rattle.record.proofs.repeats.id_twice_or_above.Tie as tie
-use Rattle.record.proofs.repeats.id_twice_or_above.Reads as reads
-use Rattle.record.proofs.repeats.id_twice_or_above.Lts as lts
-use Rattle.bitset.proofs.mark.Reads as mark-reads
-use Rattle.bitset.proofs.marked.Reads as marked-reads
-use Rattle.record.proofs.bytes.u16_at.Reads as u16-at-reads
 
 abbrev Inv-loop : tie.InvT-loop
 Inv-loop s at n seen₀ a₀ left₀ seen a left =
     (a + 7 * left ≤ length s)
-    × (length seen ≡ 126)
-    × (repeats (λ (k : ℕ). k) seen (rowsAt (λ (x : ℕ). idAt s x .0) 7 s a left) || anyOf (ltb n) (rowsAt (λ (x : ℕ). idAt s x .0) 7 s a left)
+    × (length seen ≡ 8192)
+    × (repeats (idSeen seen) (rowsAt (λ (x : ℕ). idAt s x .0) 7 s a left) || anyOf (ltb n) (rowsAt (λ (x : ℕ). idAt s x .0) 7 s a left)
     ≡ twice (rowsAt (λ (x : ℕ). idAt s x .0) 7 s at n) || anyOf (ltb n) (rowsAt (λ (x : ℕ). idAt s x .0) 7 s at n))
 
 abbrev μ-loop : tie.MeasureT-loop
@@ -36,7 +30,8 @@ abbrev μ-loop : tie.MeasureT-loop
 loop-holds : tie.Need-loop-holds Inv-loop μ-loop
 loop-holds c =
     let g = c .before .args in
-    (search needs, refl, ap (λ r. r || anyOf (ltb (g .n)) (rowsAt (λ (x : ℕ). idAt (g .s .now) x .0) 7 (g .s .now) (g .at) (g .n))) (repeats-start (λ (k : ℕ). k) 126 (rowsAt (λ (x : ℕ). idAt (g .s .now) x .0) 7 (g .s .now) (g .at) (g .n))))
+    let rows = rowsAt (λ (x : ℕ). idAt (g .s .now) x .0) 7 (g .s .now) (g .at) (g .n) in
+    (search needs, refl, ap (λ r. r || anyOf (ltb (g .n)) rows) (repeats-start (idSeen (replicate 8192 false)) (λ y. blank false 8192 y) rows))
 
 u16-at-requires : tie.Need-u16-at-requires Inv-loop μ-loop
 u16-at-requires c κs = search needs
@@ -47,30 +42,29 @@ cast-id c = search needs
 returns : tie.Need-returns Inv-loop μ-loop
 unfolding idAt
 returns c =
-    let g = c .before .before .before .before .before .args in
     let l = c .before .before .before .loop in
+    let g = c .before .before .before .before .before .args in
+    let rows = rowsAt (λ (x : ℕ). idAt (g .s .now) x .0) 7 (g .s .now) (l .a) (l .left) in
     let above = sym (ap (ltb (g .n)) (c .before .u16-at .ensures .same)) ∙ lt-ltb _ _ (c .if1 .taken) in
-    sym (ap (λ x. repeats (λ (k : ℕ). k) (l .seen) (rowsAt (λ (x : ℕ). idAt (g .s .now) x .0) 7 (g .s .now) (l .a) (l .left)) || x) (rows-above (λ (x : ℕ). idAt (g .s .now) x .0) 7 (g .s .now) (l .a) (l .left) (c .before .before .loop-test .taken) (omega arith) (g .n) above) ∙ or-true (repeats (λ (k : ℕ). k) (l .seen) (rowsAt (λ (x : ℕ). idAt (g .s .now) x .0) 7 (g .s .now) (l .a) (l .left)))) ∙ l .inv .2
+    sym (ap (λ x. repeats (idSeen (l .seen)) rows || x) (rows-above (λ (x : ℕ). idAt (g .s .now) x .0) 7 (g .s .now) (l .a) (l .left) (c .before .before .loop-test .taken) (omega arith) (g .n) above)
+    ∙ or-true (repeats (idSeen (l .seen)) rows))
+    ∙ l .inv .2
 
-slice-aggregate-marked : tie.Need-slice-aggregate-marked Inv-loop μ-loop
-slice-aggregate-marked c = search needs
-
-marked-requires : tie.Need-marked-requires Inv-loop μ-loop
-marked-requires c κs = search needs
+array-read-if2 : tie.Need-array-read-if2 Inv-loop μ-loop
+array-read-if2 c = search needs
 
 returns-2 : tie.Need-returns-2 Inv-loop μ-loop
 unfolding idAt
 returns-2 c =
-    let g = c .before .before .before .before .before .before .before .before .args in
-    let l = c .before .before .before .before .before .before .loop in
-    let hit = ap (isMarked (l .seen)) (sym (c .before .before .before .before .u16-at .ensures .same)) ∙ sym (c .before .marked .ensures) ∙ c .if2 .taken in
-    sym (ap (λ x. x || anyOf (ltb (g .n)) (rowsAt (λ (x : ℕ). idAt (g .s .now) x .0) 7 (g .s .now) (l .a) (l .left))) (rows-hit (λ (x : ℕ). idAt (g .s .now) x .0) 7 (g .s .now) (l .a) (l .left) (c .before .before .before .before .before .loop-test .taken) (omega arith) (λ (k : ℕ). k) (l .seen) hit)) ∙ l .inv .2
+    let l = c .before .before .before .before .loop in
+    let g = c .before .before .before .before .before .before .args in
+    let rows = rowsAt (λ (x : ℕ). idAt (g .s .now) x .0) 7 (g .s .now) (l .a) (l .left) in
+    let hit = ap (idSeen (l .seen)) (sym (c .before .before .u16-at .ensures .same)) ∙ c .if2 .taken in
+    sym (ap (λ x. x || anyOf (ltb (g .n)) rows) (rows-hit (λ (x : ℕ). idAt (g .s .now) x .0) 7 (g .s .now) (l .a) (l .left) (c .before .before .before .loop-test .taken) (omega arith) (idSeen (l .seen)) hit))
+    ∙ l .inv .2
 
-slice-aggregate-mark : tie.Need-slice-aggregate-mark Inv-loop μ-loop
-slice-aggregate-mark c = search needs
-
-mark-requires : tie.Need-mark-requires Inv-loop μ-loop
-mark-requires c κs = search needs
+array-write-seen : tie.Need-array-write-seen Inv-loop μ-loop
+array-write-seen c = search needs
 
 add-a : tie.Need-add-a Inv-loop μ-loop
 add-a c = search needs
@@ -84,30 +78,30 @@ loop-less c = search needs
 loop-again : tie.Need-loop-again Inv-loop μ-loop
 unfolding idAt
 loop-again c =
-    let g = c .before .before .before .before .before .before .before .before .before .before .before .args in
-    let l = c .before .before .before .before .before .before .before .before .before .loop in
-    let some = c .before .before .before .before .before .before .before .before .loop-test .taken in
+    let l = c .before .before .before .before .loop in
+    let g = c .before .before .before .before .before .before .args in
+    let some = c .before .before .before .loop-test .taken in
     let inside : l .a + 7 ≤ length (g .s .now) = omega arith in
-    let id = c .before .before .before .before .before .before .before .u16-at in
-    let above = sym (ap (ltb (g .n)) (id .ensures .same)) ∙ le-ltb _ _ (c .before .before .before .before .before .before .if1 .left) in
-    let miss = ap (isMarked (l .seen)) (sym (id .ensures .same)) ∙ sym (c .before .before .before .before .marked .ensures) ∙ c .before .before .before .if2 .left in
-    let told = c .before .mark .ensures ∙ ap (marking (l .seen)) (id .ensures .same) in
-    let small : idAt (g .s .now) (l .a) .0 < 64 * length (l .seen) = omega (arith, id .ensures .same, l .inv .1, c .before .before .before .before .before .before .if1 .left) in (
+    let id = c .before .before .u16-at .ensures .same in
+    let above = sym (ap (ltb (g .n)) id) ∙ le-ltb _ _ (c .before .if1 .left) in
+    let miss = ap (idSeen (l .seen)) (sym id) ∙ c .if2 .left in
+    let small : idAt (g .s .now) (l .a) .0 < length (l .seen) = omega (arith, id) in
+    let rest = rowsAt (λ (x : ℕ). idAt (g .s .now) x .0) 7 (g .s .now) (l .a + 7) (l .left - 1) in (
       omega arith,
-      ap length told ∙ length-marking (l .seen) _ ∙ l .inv .1,
-      ap (λ seen. repeats (λ (k : ℕ). k) seen (rowsAt (λ (x : ℕ). idAt (g .s .now) x .0) 7 (g .s .now) (l .a + 7) (l .left - 1)) || anyOf (ltb (g .n)) (rowsAt (λ (x : ℕ). idAt (g .s .now) x .0) 7 (g .s .now) (l .a + 7) (l .left - 1))) told
-          ∙ ap₂ _||_ (sym (number-marked (λ (x : ℕ). idAt (g .s .now) x .0) 7 (g .s .now) (l .a) (l .left) some inside (l .seen) small miss))
+      simp length-set (l .inv .1),
+      ap (λ (k : ℕ). repeats (idSeen (set (l .seen) k true)) rest || anyOf (ltb (g .n)) rest) id
+          ∙ ap₂ _||_ (sym (id-marked (λ (x : ℕ). idAt (g .s .now) x .0) 7 (g .s .now) (l .a) (l .left) some inside (l .seen) small miss))
           (sym (rows-not-above (λ (x : ℕ). idAt (g .s .now) x .0) 7 (g .s .now) (l .a) (l .left) some inside (g .n) above))
           ∙ l .inv .2,
     )
 
 returns-3 : tie.Need-returns-3 Inv-loop μ-loop
 returns-3 c =
-    let g = c .before .before .before .args in
     let l = c .before .loop in
+    let g = c .before .before .before .args in
     let none : l .left ≡ 0 = omega arith in
     let nothing = rows-none (λ (x : ℕ). idAt (g .s .now) x .0) 7 (g .s .now) (l .a) in
-    let end = ap₂ _||_ (ap (repeats (λ (k : ℕ). k) (l .seen)) nothing ∙ repeats-nil (λ (k : ℕ). k) (l .seen)) (ap (anyOf (ltb (g .n))) nothing) in
+    let end = ap₂ _||_ (ap (repeats (idSeen (l .seen))) nothing ∙ repeats-nil (idSeen (l .seen))) (ap (anyOf (ltb (g .n))) nothing) in
     sym end ∙ (rw none at (l .inv .2))
 
 pub id-twice-or-above-spec : {M : Type 1} → statement M
@@ -120,11 +114,9 @@ id-twice-or-above-spec =
     u16-at-requires
     cast-id
     returns
-    slice-aggregate-marked
-    marked-requires
+    array-read-if2
     returns-2
-    slice-aggregate-mark
-    mark-requires
+    array-write-seen
     add-a
     sub-left
     loop-less
