@@ -1,6 +1,6 @@
 -- Which numbers are marked in words of zeros, and after one more is marked.
 use mathlib.Core.Path.{_≡_, refl, sym, ap, _∙_}
-use mathlib.Core.Bool.{Bool, true, false, _||_}
+use mathlib.Core.Bool.{false, _||_}
 use mathlib.Core.List.{List}
 use Prim.Native.Nat.{ℕ, zero, suc, _+_, _-_, _*_, _/_, _%_, _^_, _<_, _≤_, max}
 use native.Mathlib.Nat.{zero-div, div-eq-of-lt, div-self, mul-mod-left}
@@ -10,7 +10,7 @@ use borrow.Author.Tests.{eq-eqb, ne-eqb}
 use lib.Arith.{digits-mod}
 use lib.Bits.{bitOr, or-shr, or-step}
 use lib.Dec.{eqb}
-use lib.ListN.{length, getD, set, replicate, length-set, length-replicate, getD-replicate, List·getD-eq-default}
+use lib.ListN.{length, replicate, length-set, length-replicate, getD-replicate, List·getD-eq-default}
 use lib.Pow.{pow-add, pow-pos, pow-lt, shl-shr}
 use lib.Seq.{getD-set-same, getD-set-other}
 use Rattle.bitset.specs.Bitset.{bit, withBit, isMarked, marking}

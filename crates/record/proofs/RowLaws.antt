@@ -1,6 +1,5 @@
 -- Rows at an offset: one at a time, the first so many, and those behind them; and one field of each row.
-use mathlib.Core.Path.{_≡_, refl, sym, ap, ap₂, _∙_}
-use mathlib.Core.Bool.{Bool, true, false}
+use mathlib.Core.Path.{_≡_, refl, ap, ap₂, _∙_}
 use mathlib.Core.List.{List, [], _∷_, map}
 use Prim.Native.Nat.{ℕ, zero, suc, _+_, _-_, _*_, _<_, _≤_, min}
 use native.Mathlib.Nat.{add-zero, mul-zero, mul-suc, sub-zero, suc-sub-suc, zero-min, min-zero, suc-min-suc}

@@ -1,5 +1,5 @@
 -- A number past the words has a word of 0; else the code is the definition.
-use mathlib.Core.Path.{_≡_, refl, sym}
+use mathlib.Core.Path.{refl, sym}
 use borrow.Author.Needs.{needs}
 use Rattle.bitset.specs.Bitset.{bit, isMarked}
 use Rattle.bitset.proofs.BitsetLaws.{past-words}

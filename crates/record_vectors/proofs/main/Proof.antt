@@ -5,13 +5,6 @@ use lib.ListN.{length}
 use borrow.Author.Needs.{needs}
 use Rattle.record_vectors.proofs.main.Statement.{statement}
 use Rattle.record_vectors.proofs.main.Tie as tie
-use Rattle.record_vectors.proofs.main.Reads as reads
-use Rattle.record_vectors.proofs.main.Lts as lts
-use Rattle.io.proofs.print_decimal.Reads as print-decimal-reads
-use Rattle.io.proofs.write_all.Reads as write-all-reads
-use Rattle.libc.proofs.close.Reads as close-reads
-use Rattle.os.proofs.open_read.Reads as open-read-reads
-use Rattle.record_vectors.proofs.replay.Reads as replay-reads
 
 abbrev Inv-loop : tie.InvT-loop
 Inv-loop buf₀ records₀ wrong₀ file t7 t8 buf records wrong = (length buf ≡ 65536) × (wrong ≤ records) × (records ≤ 100000)

@@ -1,10 +1,7 @@
 use Rattle.record.proofs.FlagLaws.{bit-test}
 use Rattle.record.proofs.bytes.bit0.Statement.{statement}
 use Rattle.record.proofs.bytes.bit0.Tie as tie
-use Rattle.record.proofs.bytes.bit0.Reads as reads
-use Rattle.record.proofs.bytes.bit0.Lts as lts
 
--- src/bytes.rt:67:1
 returns : tie.Need-returns
 returns c = bit-test 0 (c .args .flags)
 

@@ -1,10 +1,7 @@
 use Rattle.record.proofs.FlagLaws.{bit-test}
 use Rattle.record.proofs.bytes.bit1.Statement.{statement}
 use Rattle.record.proofs.bytes.bit1.Tie as tie
-use Rattle.record.proofs.bytes.bit1.Reads as reads
-use Rattle.record.proofs.bytes.bit1.Lts as lts
 
--- src/bytes.rt:73:1
 returns : tie.Need-returns
 returns c = bit-test 1 (c .args .flags)
 

@@ -1,10 +1,7 @@
 use Rattle.record.proofs.FlagLaws.{bit-test}
 use Rattle.record.proofs.bytes.bit2.Statement.{statement}
 use Rattle.record.proofs.bytes.bit2.Tie as tie
-use Rattle.record.proofs.bytes.bit2.Reads as reads
-use Rattle.record.proofs.bytes.bit2.Lts as lts
 
--- src/bytes.rt:79:1
 returns : tie.Need-returns
 returns c = bit-test 2 (c .args .flags)
 

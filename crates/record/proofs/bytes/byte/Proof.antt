@@ -3,18 +3,13 @@ use mathlib.Core.Path.{refl}
 use borrow.Author.Needs.{needs}
 use Rattle.record.proofs.bytes.byte.Statement.{statement}
 use Rattle.record.proofs.bytes.byte.Tie as tie
-use Rattle.record.proofs.bytes.byte.Reads as reads
-use Rattle.record.proofs.bytes.byte.Lts as lts
 
--- src/bytes.rt:14:5
 shared-slice-read-result : tie.Need-shared-slice-read-result
 shared-slice-read-result c = search needs
 
--- src/bytes.rt:14:5
 cast-result : tie.Need-cast-result
 cast-result c = omega (arith, c .shared-slice-known .given (c .before .args .at))
 
--- src/bytes.rt:10:1
 returns : tie.Need-returns
 returns c = record { same = refl; small = omega (arith, c .shared-slice-known .given (c .before .args .at)) }
 

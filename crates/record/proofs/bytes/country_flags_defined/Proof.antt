@@ -5,10 +5,7 @@ use lib.Bits.{and-high}
 use Rattle.record.proofs.FlagLaws.{below-test}
 use Rattle.record.proofs.bytes.country_flags_defined.Statement.{statement}
 use Rattle.record.proofs.bytes.country_flags_defined.Tie as tie
-use Rattle.record.proofs.bytes.country_flags_defined.Reads as reads
-use Rattle.record.proofs.bytes.country_flags_defined.Lts as lts
 
--- src/bytes.rt:94:1
 returns : tie.Need-returns
 returns c =
     let n = c .args .flags in

@@ -1,17 +1,11 @@
-use native.Mathlib.Omega.{arith}
 use Rattle.record.specs.Bytes.{dateAt}
 use borrow.Author.Needs.{needs}
 use Rattle.record.proofs.bytes.date_at.Statement.{statement}
 use Rattle.record.proofs.bytes.date_at.Tie as tie
-use Rattle.record.proofs.bytes.date_at.Reads as reads
-use Rattle.record.proofs.bytes.date_at.Lts as lts
-use Rattle.record.proofs.bytes.u32_at.Reads as u32-at-reads
 
--- src/bytes.rt:55:13
 u32-at-requires : tie.Need-u32-at-requires
 u32-at-requires c κs = search needs
 
--- src/bytes.rt:51:1
 returns : tie.Need-returns
 unfolding dateAt
 returns c = cc

@@ -3,32 +3,24 @@ use Prim.Native.Nat.{ℕ, zero, suc, _-_, _<_}
 use native.Mathlib.Nat.{zero-add}
 use native.Mathlib.Omega.{arith}
 use lib.IntN.{ℤ, pos, negsuc, _-ℤ_}
-use lib.Dec.{ltb}
 use mir.Syntax.{w32}
-use mir.Val.{SFits, toZ, ofZ}
+use mir.Val.{SFits, toZ}
 use mir.Facts.{toZ-pos, toZ-ofZ}
 use borrow.Author.Tests.{lt-ltb, le-ltb}
 use borrow.Author.Needs.{needs}
 use Rattle.record.specs.Bytes.{signed32}
 use Rattle.record.proofs.bytes.i32_at.Statement.{statement}
 use Rattle.record.proofs.bytes.i32_at.Tie as tie
-use Rattle.record.proofs.bytes.i32_at.Reads as reads
-use Rattle.record.proofs.bytes.i32_at.Lts as lts
-use Rattle.record.proofs.bytes.u32_at.Reads as u32-at-reads
 
--- src/lib.rt:32:9
 u32-at-requires : tie.Need-u32-at-requires
 u32-at-requires c κs = search needs
 
--- src/lib.rt:34:9
 cast-result : tie.Need-cast-result
 cast-result c = search needs
 
--- src/lib.rt:36:16
 sub-result : tie.Need-sub-result
 sub-result c = search needs
 
--- src/lib.rt:36:15
 cast-result-2 : tie.Need-cast-result-2
 cast-result-2 c = search needs
 
@@ -46,13 +38,11 @@ fits w h = subst⁻¹ (λ (z : ℤ). SFits w32 z) (minus w h) (record { sfits = 
 sub-result-2 : tie.Need-sub-result-2
 sub-result-2 c = fits (c .before .u32-at .result) (omega arith)
 
--- src/lib.rt:28:1
 returns : tie.Need-returns
 unfolding signed32
 returns c =
     toZ-pos w32 (c .if1 .taken) ∙ sym (ap signed32 (sym (c .before .u32-at .ensures .same)) ∙ simp (lt-ltb _ _ (c .if1 .taken)))
 
--- src/lib.rt:28:1
 returns-2 : tie.Need-returns-2
 unfolding signed32
 returns-2 c =

@@ -1,49 +1,35 @@
-use native.Mathlib.Omega.{arith}
 use Rattle.record.specs.Bytes.{tagAt}
 use borrow.Author.Needs.{needs}
 use Rattle.record.proofs.bytes.tag_at.Statement.{statement}
 use Rattle.record.proofs.bytes.tag_at.Tie as tie
-use Rattle.record.proofs.bytes.tag_at.Reads as reads
-use Rattle.record.proofs.bytes.tag_at.Lts as lts
-use Rattle.record.proofs.bytes.byte.Reads as byte-reads
 
--- src/bytes.rt:48:16
 byte-requires : tie.Need-byte-requires
 byte-requires c κs = search needs
 
--- src/bytes.rt:48:16
 mul-t4 : tie.Need-mul-t4
 mul-t4 c = search needs
 
--- src/bytes.rt:48:46
 add-byte : tie.Need-add-byte
 add-byte c = search needs
 
--- src/bytes.rt:48:38
 byte-requires-2 : tie.Need-byte-requires-2
 byte-requires-2 c κs = search needs
 
--- src/bytes.rt:48:38
 mul-t7 : tie.Need-mul-t7
 mul-t7 c = search needs
 
--- src/bytes.rt:48:16
 add-t8 : tie.Need-add-t8
 add-t8 c = search needs
 
--- src/bytes.rt:48:70
 add-byte-2 : tie.Need-add-byte-2
 add-byte-2 c = search needs
 
--- src/bytes.rt:48:62
 byte-requires-3 : tie.Need-byte-requires-3
 byte-requires-3 c κs = search needs
 
--- src/bytes.rt:48:16
 add-t11 : tie.Need-add-t11
 add-t11 c = search needs
 
--- src/bytes.rt:44:1
 returns : tie.Need-returns
 unfolding tagAt
 returns c = cc

@@ -3,31 +3,22 @@ use Rattle.record.specs.Bytes.{le16}
 use borrow.Author.Needs.{needs}
 use Rattle.record.proofs.bytes.u16_at.Statement.{statement}
 use Rattle.record.proofs.bytes.u16_at.Tie as tie
-use Rattle.record.proofs.bytes.u16_at.Reads as reads
-use Rattle.record.proofs.bytes.u16_at.Lts as lts
-use Rattle.record.proofs.bytes.byte.Reads as byte-reads
 
--- src/bytes.rt:21:5
 byte-requires : tie.Need-byte-requires
 byte-requires c κs = search needs
 
--- src/bytes.rt:21:27
 add-byte : tie.Need-add-byte
 add-byte c = search needs
 
--- src/bytes.rt:21:19
 byte-requires-2 : tie.Need-byte-requires-2
 byte-requires-2 c κs = search needs
 
--- src/bytes.rt:21:19
 mul-result : tie.Need-mul-result
 mul-result c = search needs
 
--- src/bytes.rt:21:5
 add-result : tie.Need-add-result
 add-result c = search needs
 
--- src/bytes.rt:17:1
 returns : tie.Need-returns
 unfolding le16
 returns c = record { same = omega arith; small = omega arith }

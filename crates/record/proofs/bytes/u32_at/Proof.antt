@@ -3,63 +3,46 @@ use Rattle.record.specs.Bytes.{le32}
 use borrow.Author.Needs.{needs}
 use Rattle.record.proofs.bytes.u32_at.Statement.{statement}
 use Rattle.record.proofs.bytes.u32_at.Tie as tie
-use Rattle.record.proofs.bytes.u32_at.Reads as reads
-use Rattle.record.proofs.bytes.u32_at.Lts as lts
-use Rattle.record.proofs.bytes.byte.Reads as byte-reads
 
--- src/bytes.rt:28:5
 byte-requires : tie.Need-byte-requires
 byte-requires c κs = search needs
 
--- src/bytes.rt:28:27
 add-byte : tie.Need-add-byte
 add-byte c = search needs
 
--- src/bytes.rt:28:19
 byte-requires-2 : tie.Need-byte-requires-2
 byte-requires-2 c κs = search needs
 
--- src/bytes.rt:28:19
 mul-result : tie.Need-mul-result
 mul-result c = search needs
 
--- src/bytes.rt:28:5
 add-result : tie.Need-add-result
 add-result c = search needs
 
--- src/bytes.rt:28:51
 add-byte-2 : tie.Need-add-byte-2
 add-byte-2 c = search needs
 
--- src/bytes.rt:28:43
 byte-requires-3 : tie.Need-byte-requires-3
 byte-requires-3 c κs = search needs
 
--- src/bytes.rt:28:43
 mul-result-2 : tie.Need-mul-result-2
 mul-result-2 c = search needs
 
--- src/bytes.rt:28:5
 add-result-2 : tie.Need-add-result-2
 add-result-2 c = search needs
 
--- src/bytes.rt:28:77
 add-byte-3 : tie.Need-add-byte-3
 add-byte-3 c = search needs
 
--- src/bytes.rt:28:69
 byte-requires-4 : tie.Need-byte-requires-4
 byte-requires-4 c κs = search needs
 
--- src/bytes.rt:28:69
 mul-result-3 : tie.Need-mul-result-3
 mul-result-3 c = search needs
 
--- src/bytes.rt:28:5
 add-result-3 : tie.Need-add-result-3
 add-result-3 c = search needs
 
--- src/bytes.rt:24:1
 returns : tie.Need-returns
 unfolding le32
 returns c = record { same = omega arith; small = omega arith }

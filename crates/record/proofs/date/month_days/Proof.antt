@@ -1,12 +1,12 @@
 -- Two bits hold each month's days over 28, by one test computed over the table of months; there is no month 0 and none past 12.
-use mathlib.Core.Path.{_≡_, refl, sym, ap, _∙_}
-use mathlib.Core.Bool.{Bool, true, false, _||_}
+use mathlib.Core.Path.{_≡_, refl, sym, ap}
+use mathlib.Core.Bool.{Bool, _||_}
 use Prim.Native.Nat.{ℕ, _+_, _*_, _/_, _%_, _^_}
 use native.Mathlib.Omega.{arith}
 use borrow.Author.Needs.{needs}
 use borrow.Author.Tests.{eqb-true, le-ltb}
 use lib.Dec.{eqb, ltb}
-use lib.ListN.{getD, List·getD-eq-default}
+use lib.ListN.{List·getD-eq-default}
 use Rattle.lists.proofs.TableLaws.{entry}
 use Rattle.record.specs.Dates.{monthTable, monthDays}
 use Rattle.record.proofs.date.month_days.Statement.{statement}

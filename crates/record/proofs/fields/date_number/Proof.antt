@@ -1,10 +1,7 @@
-use mathlib.Core.Path.{_≡_, refl, sym, ap, _∙_}
+use mathlib.Core.Path.{sym, _∙_}
 use borrow.Author.Needs.{needs}
 use Rattle.record.proofs.fields.date_number.Statement.{statement}
 use Rattle.record.proofs.fields.date_number.Tie as tie
-use Rattle.record.proofs.fields.date_number.Reads as reads
-use Rattle.record.proofs.fields.date_number.Lts as lts
-use Rattle.record.proofs.date.Eu4Date.good.Reads as good-reads
 
 good-requires : tie.Need-good-requires
 good-requires c κs = search needs

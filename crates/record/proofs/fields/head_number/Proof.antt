@@ -1,15 +1,10 @@
-use mathlib.Core.Path.{_≡_, refl, sym, ap, _∙_}
-use borrow.Author.Tests.{not-true, not-false, lt-leb, le-leb}
+use mathlib.Core.Path.{sym, _∙_}
+use borrow.Author.Tests.{not-true, not-false}
 use Rattle.record.specs.Refusal.{firstOf, headNumber}
 use Rattle.record.proofs.FirstLaws.{first-one}
 use borrow.Author.Needs.{needs}
 use Rattle.record.proofs.fields.head_number.Statement.{statement}
 use Rattle.record.proofs.fields.head_number.Tie as tie
-use Rattle.record.proofs.fields.head_number.Reads as reads
-use Rattle.record.proofs.fields.head_number.Lts as lts
-use Rattle.record.proofs.bytes.head_flags_defined.Reads as head-flags-defined-reads
-use Rattle.record.proofs.date.Eu4Date.good.Reads as good-reads
-use Rattle.record.proofs.fields.date_number.Reads as date-number-reads
 
 head-flags-defined-requires : tie.Need-head-flags-defined-requires
 head-flags-defined-requires c κs = search needs

@@ -1,14 +1,11 @@
-use mathlib.Core.Path.{_≡_, refl, sym, ap, _∙_}
-use borrow.Author.Tests.{not-true, not-false, lt-leb, le-leb}
+use mathlib.Core.Path.{sym, ap, _∙_}
+use borrow.Author.Tests.{lt-leb, le-leb}
 use lib.Dec.{leb}
 use Prim.Native.Nat.{ℕ}
 use Rattle.record.specs.Rows.{pointAt}
 use borrow.Author.Needs.{needs}
 use Rattle.record.proofs.fields.point_number.Statement.{statement}
 use Rattle.record.proofs.fields.point_number.Tie as tie
-use Rattle.record.proofs.fields.point_number.Reads as reads
-use Rattle.record.proofs.fields.point_number.Lts as lts
-use Rattle.record.proofs.bytes.u16_at.Reads as u16-at-reads
 
 u16-at-requires : tie.Need-u16-at-requires
 u16-at-requires c κs = search needs

@@ -1,9 +1,7 @@
-use mathlib.Core.Path.{_≡_, refl, sym, ap, _∙_}
+use mathlib.Core.Path.{refl}
 use Rattle.record.specs.Head.{withinLimits}
 use Rattle.record.proofs.head.within_limits.Statement.{statement}
 use Rattle.record.proofs.head.within_limits.Tie as tie
-use Rattle.record.proofs.head.within_limits.Reads as reads
-use Rattle.record.proofs.head.within_limits.Lts as lts
 
 returns : tie.Need-returns
 unfolding withinLimits

@@ -2,10 +2,6 @@ use Rattle.record.specs.Laid.{recordAt}
 use borrow.Author.Needs.{needs}
 use Rattle.record.proofs.opened.countries_from.Statement.{statement}
 use Rattle.record.proofs.opened.countries_from.Tie as tie
-use Rattle.record.proofs.opened.countries_from.Reads as reads
-use Rattle.record.proofs.opened.countries_from.Lts as lts
-use Rattle.record.proofs.head.previous_at.Reads as previous-at-reads
-use Rattle.record.proofs.head.switches_at.Reads as switches-at-reads
 
 cast-t2 : tie.Need-cast-t2
 cast-t2 c = search needs

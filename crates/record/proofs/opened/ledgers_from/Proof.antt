@@ -2,10 +2,6 @@ use Rattle.record.specs.Laid.{recordAt}
 use borrow.Author.Needs.{needs}
 use Rattle.record.proofs.opened.ledgers_from.Statement.{statement}
 use Rattle.record.proofs.opened.ledgers_from.Tie as tie
-use Rattle.record.proofs.opened.ledgers_from.Reads as reads
-use Rattle.record.proofs.opened.ledgers_from.Lts as lts
-use Rattle.record.proofs.head.ledgers_at.Reads as ledgers-at-reads
-use Rattle.record.proofs.head.points_at.Reads as points-at-reads
 
 ledgers-at-requires : tie.Need-ledgers-at-requires
 ledgers-at-requires c κs = search needs

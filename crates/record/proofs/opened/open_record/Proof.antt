@@ -1,21 +1,10 @@
-use mathlib.Core.Path.{_≡_, sym, _∙_}
+use mathlib.Core.Path.{sym, _∙_}
 use Rattle.record.specs.Laid.{recordAt}
 use Rattle.record.proofs.AcceptLaws.{accepted, accepted-long}
 use Rattle.record.proofs.OpenedLaws.{rightly-opened}
 use borrow.Author.Needs.{needs}
 use Rattle.record.proofs.opened.open_record.Statement.{statement}
 use Rattle.record.proofs.opened.open_record.Tie as tie
-use Rattle.record.proofs.opened.open_record.Reads as reads
-use Rattle.record.proofs.opened.open_record.Lts as lts
-use Rattle.record.proofs.bytes.bit0.Reads as bit0-reads
-use Rattle.record.proofs.bytes.bit1.Reads as bit1-reads
-use Rattle.record.proofs.head.read_head.Reads as read-head-reads
-use Rattle.record.proofs.opened.countries_from.Reads as countries-from-reads
-use Rattle.record.proofs.opened.ledgers_from.Reads as ledgers-from-reads
-use Rattle.record.proofs.opened.provinces_from.Reads as provinces-from-reads
-use Rattle.record.proofs.opened.strings_from.Reads as strings-from-reads
-use Rattle.record.proofs.opened.wars_from.Reads as wars-from-reads
-use Rattle.record.proofs.refusal.check.Reads as check-reads
 
 check-requires : tie.Need-check-requires
 check-requires c κs = search needs

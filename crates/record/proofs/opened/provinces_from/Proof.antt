@@ -2,10 +2,6 @@ use Rattle.record.specs.Laid.{recordAt}
 use borrow.Author.Needs.{needs}
 use Rattle.record.proofs.opened.provinces_from.Statement.{statement}
 use Rattle.record.proofs.opened.provinces_from.Tie as tie
-use Rattle.record.proofs.opened.provinces_from.Reads as reads
-use Rattle.record.proofs.opened.provinces_from.Lts as lts
-use Rattle.record.proofs.head.events_at.Reads as events-at-reads
-use Rattle.record.proofs.head.provinces_at.Reads as provinces-at-reads
 
 provinces-at-requires : tie.Need-provinces-at-requires
 provinces-at-requires c κs = search needs

@@ -2,9 +2,6 @@ use Rattle.record.specs.Laid.{recordAt}
 use borrow.Author.Needs.{needs}
 use Rattle.record.proofs.opened.strings_from.Statement.{statement}
 use Rattle.record.proofs.opened.strings_from.Tie as tie
-use Rattle.record.proofs.opened.strings_from.Reads as reads
-use Rattle.record.proofs.opened.strings_from.Lts as lts
-use Rattle.record.proofs.head.strings_at.Reads as strings-at-reads
 
 strings-at-requires : tie.Need-strings-at-requires
 strings-at-requires c κs = search needs

@@ -2,10 +2,6 @@ use Rattle.record.specs.Laid.{recordAt}
 use borrow.Author.Needs.{needs}
 use Rattle.record.proofs.opened.wars_from.Statement.{statement}
 use Rattle.record.proofs.opened.wars_from.Tie as tie
-use Rattle.record.proofs.opened.wars_from.Reads as reads
-use Rattle.record.proofs.opened.wars_from.Lts as lts
-use Rattle.record.proofs.head.war_events_at.Reads as war-events-at-reads
-use Rattle.record.proofs.head.wars_at.Reads as wars-at-reads
 
 wars-at-requires : tie.Need-wars-at-requires
 wars-at-requires c κs = search needs

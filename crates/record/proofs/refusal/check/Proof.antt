@@ -1,8 +1,8 @@
-use mathlib.Core.Path.{_≡_, sym, ap, ap₂, _∙_}
+use mathlib.Core.Path.{sym, ap, ap₂, _∙_}
 use native.Mathlib.Omega.{arith}
-use borrow.Author.Tests.{not-true, not-false, lt-leb, le-leb}
+use borrow.Author.Tests.{not-true, not-false}
 use borrow.Author.Tests.{eq-eqb, ne-eqb}
-use Rattle.record.proofs.FirstLaws.{first-pass, first-stop}
+use Rattle.record.proofs.FirstLaws.{first-stop}
 use Rattle.record.specs.Refusal.{firstOf, fieldsNumber, repeatsNumber, orderNumber, refusal}
 use mathlib.Core.List.{[], _∷_}
 use Rattle.record.specs.Head.{headOf}
@@ -12,14 +12,6 @@ use Rattle.record.proofs.RepeatLaws.{fields-countries}
 use borrow.Author.Needs.{needs}
 use Rattle.record.proofs.refusal.check.Statement.{statement}
 use Rattle.record.proofs.refusal.check.Tie as tie
-use Rattle.record.proofs.refusal.check.Reads as reads
-use Rattle.record.proofs.refusal.check.Lts as lts
-use Rattle.record.proofs.date.Eu4Date.earlier.Reads as earlier-reads
-use Rattle.record.proofs.fields.fields_number.Reads as fields-number-reads
-use Rattle.record.proofs.head.read_head.Reads as read-head-reads
-use Rattle.record.proofs.refusal.opens_record.Reads as opens-record-reads
-use Rattle.record.proofs.repeats.repeated.Reads as repeated-reads
-use Rattle.record.proofs.sizes.sizes_agree.Reads as sizes-agree-reads
 
 opens-record-requires : tie.Need-opens-record-requires
 opens-record-requires c κs = search needs

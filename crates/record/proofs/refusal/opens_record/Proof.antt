@@ -1,11 +1,8 @@
-use mathlib.Core.Path.{_≡_, refl, sym, ap, _∙_}
-use borrow.Author.Tests.{le-leb, lt-leb, eq-eqb, ne-eqb, lt-ltb, le-ltb, not-true, not-false}
+use borrow.Author.Tests.{le-leb, lt-leb}
 use Rattle.record.specs.Refusal.{opens}
 use borrow.Author.Needs.{needs}
 use Rattle.record.proofs.refusal.opens_record.Statement.{statement}
 use Rattle.record.proofs.refusal.opens_record.Tie as tie
-use Rattle.record.proofs.refusal.opens_record.Reads as reads
-use Rattle.record.proofs.refusal.opens_record.Lts as lts
 
 returns : tie.Need-returns
 unfolding opens

@@ -3,8 +3,6 @@ use Rattle.record.proofs.TagLaws.{tag-bytes}
 use borrow.Author.Needs.{needs}
 use Rattle.record.proofs.repeats.place.Statement.{statement}
 use Rattle.record.proofs.repeats.place.Tie as tie
-use Rattle.record.proofs.repeats.place.Reads as reads
-use Rattle.record.proofs.repeats.place.Lts as lts
 
 sub-a : tie.Need-sub-a
 sub-a c = omega (arith, tag-bytes (c .args .t) (c .pre) .first)

@@ -1,4 +1,4 @@
-use mathlib.Core.Path.{_≡_, ap, ap₂, _∙_}
+use mathlib.Core.Path.{ap, ap₂, _∙_}
 use native.Mathlib.Omega.{arith}
 use Rattle.record.proofs.RepeatLaws.{countries-good, tag-twice-told, id-twice-told}
 use Rattle.record.proofs.HeadLaws.{limits-of}
@@ -8,11 +8,6 @@ use Rattle.record.specs.Rows.{rowsAt, countryAt}
 use borrow.Author.Needs.{needs}
 use Rattle.record.proofs.repeats.repeated.Statement.{statement}
 use Rattle.record.proofs.repeats.repeated.Tie as tie
-use Rattle.record.proofs.repeats.repeated.Reads as reads
-use Rattle.record.proofs.repeats.repeated.Lts as lts
-use Rattle.record.proofs.head.provinces_at.Reads as provinces-at-reads
-use Rattle.record.proofs.repeats.id_twice_or_above.Reads as id-twice-or-above-reads
-use Rattle.record.proofs.repeats.tag_twice.Reads as tag-twice-reads
 
 cast-tag-twice : tie.Need-cast-tag-twice
 cast-tag-twice c = search needs

@@ -1,19 +1,15 @@
-use mathlib.Core.Path.{_≡_, refl, sym, ap, ap₂, _∙_}
+use mathlib.Core.Path.{_≡_, sym, ap, _∙_}
 use native.Mathlib.Omega.{arith}
 use borrow.Author.Tests.{ne-eqb}
 use lib.Dec.{eqb}
 use Prim.Native.Nat.{ℕ, _+_, _-_, _≤_}
 use Rattle.record.specs.Bytes.{byteAt}
 use lib.ListN.{length}
-use mathlib.Core.List.{List}
 use Rattle.record.proofs.SizeLaws.{strings-end-none, strings-end-more, strings-end-past}
 use Rattle.record.specs.Rows.{stringsEnd}
 use borrow.Author.Needs.{needs}
 use Rattle.record.proofs.sizes.length_agrees.Statement.{statement}
 use Rattle.record.proofs.sizes.length_agrees.Tie as tie
-use Rattle.record.proofs.sizes.length_agrees.Reads as reads
-use Rattle.record.proofs.sizes.length_agrees.Lts as lts
-use Rattle.record.proofs.bytes.byte.Reads as byte-reads
 
 abbrev Inv-loop : tie.InvT-loop
 Inv-loop s at n a₀ left₀ a left = (a ≤ length s) × (stringsEnd s a left ≡ stringsEnd s at n)

@@ -1,6 +1,6 @@
-use mathlib.Core.Path.{_≡_, refl, sym, ap, _∙_}
+use mathlib.Core.Path.{sym, ap, _∙_}
 use native.Mathlib.Omega.{arith}
-use borrow.Author.Tests.{not-true, not-false, lt-leb, le-leb}
+use borrow.Author.Tests.{not-true, not-false}
 use Rattle.record.proofs.SizeLaws.{length-short, sizes-short, sizes-told}
 use Rattle.record.specs.Head.{headOf, withinLimits, stringsAt}
 use Rattle.record.specs.Refusal.{sizesAgree}
@@ -9,12 +9,6 @@ use lib.ListN.{length}
 use borrow.Author.Needs.{needs}
 use Rattle.record.proofs.sizes.sizes_agree.Statement.{statement}
 use Rattle.record.proofs.sizes.sizes_agree.Tie as tie
-use Rattle.record.proofs.sizes.sizes_agree.Reads as reads
-use Rattle.record.proofs.sizes.sizes_agree.Lts as lts
-use Rattle.record.proofs.head.strings_at.Reads as strings-at-reads
-use Rattle.record.proofs.head.within_limits.Reads as within-limits-reads
-use Rattle.record.proofs.sizes.length_agrees.Reads as length-agrees-reads
-use Rattle.record.proofs.sizes.totals_agree.Reads as totals-agree-reads
 
 within-limits-requires : tie.Need-within-limits-requires
 within-limits-requires c κs = search needs

@@ -1,12 +1,9 @@
-use mathlib.Core.Path.{_≡_, refl, sym, ap, _∙_}
+use mathlib.Core.Path.{refl, sym, _∙_}
 use native.Mathlib.Omega.{arith}
-use Prim.Native.Nat.{ℕ, _+_, _*_, _≤_}
-use lib.ListN.{length}
-use mathlib.Core.List.{List}
+use Prim.Native.Nat.{ℕ, _+_}
 use Rattle.record.proofs.HeadLaws.{section-told}
 use Rattle.record.proofs.HeadLaws.{limits-of}
 use Rattle.record.proofs.SizeLaws.{sum-rows-same}
-use Rattle.record.specs.Rows.{rowsAt}
 use Rattle.record.specs.Bytes.{le16}
 use Rattle.record.specs.Head.{countriesAt}
 use Rattle.lists.specs.Lists.{sumOf}
@@ -14,9 +11,6 @@ use Rattle.record.specs.Rows.{PackedCountry, countryAt}
 use borrow.Author.Needs.{needs}
 use Rattle.record.proofs.sizes.switches_total.Statement.{statement}
 use Rattle.record.proofs.sizes.switches_total.Tie as tie
-use Rattle.record.proofs.sizes.switches_total.Reads as reads
-use Rattle.record.proofs.sizes.switches_total.Lts as lts
-use Rattle.record.proofs.sizes.total.Reads as total-reads
 
 cast-total : tie.Need-cast-total
 cast-total c = search needs

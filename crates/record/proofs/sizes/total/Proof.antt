@@ -1,8 +1,7 @@
-use mathlib.Core.Path.{_≡_, refl, sym, ap, _∙_}
+use mathlib.Core.Path.{_≡_}
 use native.Mathlib.Omega.{arith}
 use Prim.Native.Nat.{ℕ, _+_, _*_, _≤_}
 use lib.ListN.{length}
-use mathlib.Core.List.{List}
 use Rattle.record.proofs.SizeLaws.{sum-rows-none, sum-rows-more}
 use Rattle.record.proofs.RowLaws.{one-row}
 use Rattle.lists.specs.Lists.{sumOf}
@@ -11,9 +10,6 @@ use Rattle.record.specs.Bytes.{le16}
 use borrow.Author.Needs.{needs}
 use Rattle.record.proofs.sizes.total.Statement.{statement}
 use Rattle.record.proofs.sizes.total.Tie as tie
-use Rattle.record.proofs.sizes.total.Reads as reads
-use Rattle.record.proofs.sizes.total.Lts as lts
-use Rattle.record.proofs.bytes.u16_at.Reads as u16-at-reads
 
 abbrev Inv-loop : tie.InvT-loop
 Inv-loop s at width k n sum₀ a₀ left₀ sum a left =

@@ -1,15 +1,7 @@
-use mathlib.Core.Path.{_≡_, refl, sym, ap, _∙_}
 use Rattle.record.proofs.SizeLaws.{totals-told}
 use borrow.Author.Needs.{needs}
 use Rattle.record.proofs.sizes.totals_agree.Statement.{statement}
 use Rattle.record.proofs.sizes.totals_agree.Tie as tie
-use Rattle.record.proofs.sizes.totals_agree.Reads as reads
-use Rattle.record.proofs.sizes.totals_agree.Lts as lts
-use Rattle.record.proofs.sizes.events_total.Reads as events-total-reads
-use Rattle.record.proofs.sizes.points_total.Reads as points-total-reads
-use Rattle.record.proofs.sizes.previous_total.Reads as previous-total-reads
-use Rattle.record.proofs.sizes.switches_total.Reads as switches-total-reads
-use Rattle.record.proofs.sizes.war_events_total.Reads as war-events-total-reads
 
 previous-total-requires : tie.Need-previous-total-requires
 previous-total-requires c κs = search needs

@@ -1,12 +1,9 @@
-use mathlib.Core.Path.{_≡_, refl, sym, ap, _∙_}
+use mathlib.Core.Path.{sym, ap, _∙_}
 use native.Mathlib.Omega.{arith}
-use Prim.Native.Nat.{ℕ, _+_, _*_, _≤_}
-use lib.ListN.{length}
-use mathlib.Core.List.{List}
+use Prim.Native.Nat.{ℕ, _+_}
 use Rattle.record.proofs.HeadLaws.{section-told}
 use Rattle.record.proofs.HeadLaws.{limits-of}
 use Rattle.record.proofs.SizeLaws.{sum-rows-same}
-use Rattle.record.specs.Rows.{rowsAt}
 use Rattle.record.specs.Bytes.{le16}
 use Rattle.record.specs.Head.{warsAt}
 use Rattle.lists.specs.Lists.{sumOf}
@@ -14,10 +11,6 @@ use native.Mathlib.Nat.{add-zero}
 use borrow.Author.Needs.{needs}
 use Rattle.record.proofs.sizes.war_events_total.Statement.{statement}
 use Rattle.record.proofs.sizes.war_events_total.Tie as tie
-use Rattle.record.proofs.sizes.war_events_total.Reads as reads
-use Rattle.record.proofs.sizes.war_events_total.Lts as lts
-use Rattle.record.proofs.head.wars_at.Reads as wars-at-reads
-use Rattle.record.proofs.sizes.total.Reads as total-reads
 
 wars-at-requires : tie.Need-wars-at-requires
 wars-at-requires c κs = search needs

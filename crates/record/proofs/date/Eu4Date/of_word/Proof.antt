@@ -3,20 +3,14 @@ use Rattle.record.specs.Dates.{dateOfWord}
 use borrow.Author.Needs.{needs}
 use Rattle.record.proofs.date.Eu4Date.of_word.Statement.{statement}
 use Rattle.record.proofs.date.Eu4Date.of_word.Tie as tie
-use Rattle.record.proofs.date.Eu4Date.of_word.Reads as reads
-use Rattle.record.proofs.date.Eu4Date.of_word.Lts as lts
-use Rattle.record.proofs.date.Eu4Date.good.Reads as good-reads
 
--- src/date.rt:40:12
 good-requires : tie.Need-good-requires
 good-requires c κs = search needs
 
--- src/date.rt:37:5
 returns : tie.Need-returns
 unfolding dateOfWord
 returns c = simp (sym (c .before .good2 .ensures) ∙ c .if1 .taken)
 
--- src/date.rt:37:5
 returns-2 : tie.Need-returns-2
 unfolding dateOfWord
 returns-2 c = simp (sym (c .before .good2 .ensures) ∙ c .if1 .left)

@@ -2,23 +2,16 @@ use Rattle.record.specs.Tags.{isTag}
 use borrow.Author.Needs.{needs}
 use Rattle.record.proofs.tag.CountryTag.good.Statement.{statement}
 use Rattle.record.proofs.tag.CountryTag.good.Tie as tie
-use Rattle.record.proofs.tag.CountryTag.good.Reads as reads
-use Rattle.record.proofs.tag.CountryTag.good.Lts as lts
-use Rattle.record.proofs.tag.tag_byte.Reads as tag-byte-reads
 
--- src/tag.rt:29:9
 tag-byte-requires : tie.Need-tag-byte-requires
 tag-byte-requires c κs = search needs
 
--- src/tag.rt:29:31
 tag-byte-requires-2 : tie.Need-tag-byte-requires-2
 tag-byte-requires-2 c κs = search needs
 
--- src/tag.rt:29:57
 tag-byte-requires-3 : tie.Need-tag-byte-requires-3
 tag-byte-requires-3 c κs = search needs
 
--- src/tag.rt:25:5
 returns : tie.Need-returns
 unfolding isTag
 returns c = cc

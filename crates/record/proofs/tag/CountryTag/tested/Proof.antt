@@ -3,20 +3,14 @@ use Rattle.record.specs.Tags.{tested}
 use borrow.Author.Needs.{needs}
 use Rattle.record.proofs.tag.CountryTag.tested.Statement.{statement}
 use Rattle.record.proofs.tag.CountryTag.tested.Tie as tie
-use Rattle.record.proofs.tag.CountryTag.tested.Reads as reads
-use Rattle.record.proofs.tag.CountryTag.tested.Lts as lts
-use Rattle.record.proofs.tag.CountryTag.good.Reads as good-reads
 
--- src/tag.rt:52:12
 good-requires : tie.Need-good-requires
 good-requires c κs = search needs
 
--- src/tag.rt:49:5
 returns : tie.Need-returns
 unfolding tested
 returns c = simp (sym (c .before .good2 .ensures) ∙ c .if1 .taken)
 
--- src/tag.rt:49:5
 returns-2 : tie.Need-returns-2
 unfolding tested
 returns-2 c = simp (sym (c .before .good2 .ensures) ∙ c .if1 .left)
