@@ -1,3 +1,4 @@
+-- The mask of bit 0.
 use Rattle.record.proofs.FlagLaws.{bit-test}
 use Rattle.record.proofs.bytes.bit0.Statement.{statement}
 use Rattle.record.proofs.bytes.bit0.Tie as tie

@@ -1,3 +1,4 @@
+-- The mask of bit 1.
 use Rattle.record.proofs.FlagLaws.{bit-test}
 use Rattle.record.proofs.bytes.bit1.Statement.{statement}
 use Rattle.record.proofs.bytes.bit1.Tie as tie

@@ -1,3 +1,4 @@
+-- The mask of bit 2.
 use Rattle.record.proofs.FlagLaws.{bit-test}
 use Rattle.record.proofs.bytes.bit2.Statement.{statement}
 use Rattle.record.proofs.bytes.bit2.Tie as tie

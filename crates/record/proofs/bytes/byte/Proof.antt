@@ -1,3 +1,4 @@
+-- An element of the slice is below 256.
 use native.Mathlib.Omega.{arith}
 use mathlib.Core.Path.{refl}
 use borrow.Author.Needs.{needs}

@@ -1,3 +1,4 @@
+-- The word as it was read.
 use Rattle.record.specs.Bytes.{dateAt}
 use borrow.Author.Needs.{needs}
 use Rattle.record.proofs.bytes.date_at.Statement.{statement}

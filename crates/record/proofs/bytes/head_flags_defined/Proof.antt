@@ -1,3 +1,4 @@
+-- The mask keeps the bits from 2 on: none is set exactly below 4.
 use Prim.Native.Nat.{_<_, _/_, _*_}
 use native.Mathlib.Nat.{mod-eq-of-lt}
 use native.Mathlib.Omega.{arith}

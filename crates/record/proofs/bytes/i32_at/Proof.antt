@@ -1,3 +1,4 @@
+-- Below 2^31 the word is the number; from there on it is counted down from -1.
 use mathlib.Core.Path.{_≡_, refl, sym, subst⁻¹, ap, _∙_}
 use Prim.Native.Nat.{ℕ, zero, suc, _-_, _<_}
 use native.Mathlib.Nat.{zero-add}

@@ -1,3 +1,4 @@
+-- The number as it was read.
 use Rattle.record.specs.Bytes.{idAt}
 use borrow.Author.Needs.{needs}
 use Rattle.record.proofs.bytes.id_at.Statement.{statement}

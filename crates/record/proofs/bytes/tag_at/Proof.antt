@@ -1,3 +1,4 @@
+-- Three bytes make the word.
 use Rattle.record.specs.Bytes.{tagAt}
 use borrow.Author.Needs.{needs}
 use Rattle.record.proofs.bytes.tag_at.Statement.{statement}

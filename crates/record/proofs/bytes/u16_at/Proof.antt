@@ -1,3 +1,4 @@
+-- Two bytes, low byte first.
 use native.Mathlib.Omega.{arith}
 use Rattle.record.specs.Bytes.{le16}
 use borrow.Author.Needs.{needs}

@@ -1,3 +1,4 @@
+-- Four bytes, low byte first.
 use native.Mathlib.Omega.{arith}
 use Rattle.record.specs.Bytes.{le32}
 use borrow.Author.Needs.{needs}

@@ -1,3 +1,4 @@
+-- One test decides the number.
 use mathlib.Core.Path.{sym, _∙_}
 use borrow.Author.Needs.{needs}
 use Rattle.record.proofs.fields.date_number.Statement.{statement}

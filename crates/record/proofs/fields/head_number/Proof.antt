@@ -1,3 +1,4 @@
+-- The head's fields in the order of their offsets.
 use mathlib.Core.Path.{sym, _∙_}
 use borrow.Author.Tests.{not-true, not-false}
 use Rattle.record.specs.Refusal.{firstOf, headNumber}

@@ -1,3 +1,4 @@
+-- One test decides the number.
 use mathlib.Core.Path.{sym, ap, _∙_}
 use borrow.Author.Tests.{lt-leb, le-leb}
 use lib.Dec.{leb}

@@ -1,3 +1,4 @@
+-- Each field is read at its offset.
 use Rattle.record.specs.Head.{headOf}
 use borrow.Author.Needs.{needs}
 use Rattle.record.proofs.head.read_head.Statement.{statement}

@@ -1,3 +1,4 @@
+-- The code is the definition, without a branch.
 use mathlib.Core.Path.{refl}
 use Rattle.record.specs.Head.{withinLimits}
 use Rattle.record.proofs.head.within_limits.Statement.{statement}

@@ -1,3 +1,4 @@
+-- A refused record gives its number; an accepted one has a head, whose cursors have left the campaign's rows.
 use mathlib.Core.Path.{sym, _∙_}
 use Rattle.record.specs.Laid.{recordAt}
 use Rattle.record.proofs.AcceptLaws.{accepted, accepted-long}

@@ -1,3 +1,4 @@
+-- Each part is where the head puts it.
 use Rattle.record.specs.Laid.{recordAt}
 use borrow.Author.Needs.{needs}
 use Rattle.record.proofs.opened.wars_from.Statement.{statement}

@@ -1,3 +1,4 @@
+-- The checks in order: each that passed gives 0, and the first that refuses gives its number. What one check shows, the next may require.
 use mathlib.Core.Path.{sym, ap, ap₂, _∙_}
 use native.Mathlib.Omega.{arith}
 use borrow.Author.Tests.{not-true, not-false}

@@ -1,3 +1,4 @@
+-- Under 44 bytes the first test fails; else the three bytes decide.
 use borrow.Author.Tests.{le-leb, lt-leb}
 use Rattle.record.specs.Refusal.{opens}
 use borrow.Author.Needs.{needs}

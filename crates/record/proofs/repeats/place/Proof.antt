@@ -1,3 +1,4 @@
+-- The three bytes of a good tag are at least 45, so that no difference falls below 0.
 use native.Mathlib.Omega.{arith}
 use Rattle.record.proofs.TagLaws.{tag-bytes}
 use borrow.Author.Needs.{needs}

@@ -1,3 +1,4 @@
+-- Two passes, each told of the head's own section; the countries' tags are good because no country was refused.
 use mathlib.Core.Path.{ap, ap₂, _∙_}
 use native.Mathlib.Omega.{arith}
 use Rattle.record.proofs.RepeatLaws.{countries-good, tag-twice-told, id-twice-told}

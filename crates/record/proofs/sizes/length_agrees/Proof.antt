@@ -1,3 +1,4 @@
+-- Invariant: from here the strings left end where all of them do. A string takes a byte at least, so that past the end they cannot agree.
 use mathlib.Core.Path.{_≡_, sym, ap, _∙_}
 use native.Mathlib.Omega.{arith}
 use borrow.Author.Tests.{ne-eqb}

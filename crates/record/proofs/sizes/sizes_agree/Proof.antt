@@ -1,3 +1,4 @@
+-- Limits first; then sections that end inside the bytes; then totals and length.
 use mathlib.Core.Path.{sym, ap, _∙_}
 use native.Mathlib.Omega.{arith}
 use borrow.Author.Tests.{not-true, not-false}

@@ -1,3 +1,4 @@
+-- The general sum, told of the head's own section.
 use mathlib.Core.Path.{refl, sym, _∙_}
 use native.Mathlib.Omega.{arith}
 use Prim.Native.Nat.{ℕ, _+_}

@@ -1,3 +1,4 @@
+-- Invariant: the sum so far and the sum of the counts left make the whole sum; each count is below 65,536, so that it fits.
 use mathlib.Core.Path.{_≡_}
 use native.Mathlib.Omega.{arith}
 use Prim.Native.Nat.{ℕ, _+_, _*_, _≤_}

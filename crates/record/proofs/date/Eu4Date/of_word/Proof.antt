@@ -1,3 +1,4 @@
+-- One test decides both answers.
 use mathlib.Core.Path.{sym, _∙_}
 use Rattle.record.specs.Dates.{dateOfWord}
 use borrow.Author.Needs.{needs}

@@ -1,3 +1,4 @@
+-- A text of another length is no tag; of three bytes, their word is tested.
 use mathlib.Core.Path.{ap, _∙_}
 use borrow.Author.Tests.{eq-eqb, ne-eqb}
 use Rattle.record.specs.Tags.{created, tested}

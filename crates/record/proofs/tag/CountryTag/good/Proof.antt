@@ -1,3 +1,4 @@
+-- The three bytes of the word, each tested.
 use Rattle.record.specs.Tags.{isTag}
 use borrow.Author.Needs.{needs}
 use Rattle.record.proofs.tag.CountryTag.good.Statement.{statement}
