@@ -8,9 +8,9 @@ use native.Mathlib.Omega.{arith}
 use borrow.Author.Tests.{ltb-false, eqb-true, le-leb}
 use lib.Dec.{ltb}
 use lib.ListN.{length, drop}
-use Rattle.lists.specs.Lists.{anyOf, twice}
+use Rattle.lists.specs.Lists.{All, anyOf, twice}
 use Rattle.lists.proofs.BoolLaws.{neither, both}
-use Rattle.lists.proofs.ListLaws.{All, all-map, all-take, all-unmap}
+use Rattle.lists.proofs.ListLaws.{all-map, all-take, all-unmap}
 use Rattle.record.specs.declared.tag.CountryTag.{CountryTag}
 use Rattle.record.specs.declared.rows.Switch.{Switch}
 use Rattle.record.specs.declared.rows.OwnerEvent.{OwnerEvent}

@@ -8,9 +8,9 @@ use native.Mathlib.Omega.{arith}
 use borrow.Author.Tests.{ltb-true, ltb-false, eqb-true}
 use lib.ListN.{length, getD, length-map}
 use lib.Seq.{ext-getD}
-use Rattle.lists.specs.Lists.{countOf, one, joinOf, firstOr, numbersFrom}
+use Rattle.lists.specs.Lists.{All, countOf, one, joinOf, firstOr, numbersFrom}
 use Rattle.lists.proofs.BoolLaws.{cases}
-use Rattle.lists.proofs.ListLaws.{All, all-of-map, all-join, any-map, any-count, map-then, length-numbers, numbers-at, sgn, InOrder, order-map, count-append}
+use Rattle.lists.proofs.ListLaws.{all-of-map, all-join, any-map, any-count, map-then, length-numbers, numbers-at, sgn, InOrder, order-map, count-append}
 use Rattle.sorting.proofs.SortLaws.{all-sort, count-sort, order-sort}
 use Rattle.record.specs.declared.tag.CountryTag.{CountryTag}
 use Rattle.record.specs.declared.date.Eu4Date.{Eu4Date}
@@ -20,11 +20,11 @@ use Rattle.record.specs.declared.rows.OwnerEvent.{OwnerEvent}
 use Rattle.record.specs.Tags.{sameTag}
 use Rattle.record.specs.Dates.{earlier, notAfter}
 use Rattle.record.specs.Campaign.{Campaign, Country, Province}
-use Rattle.chronicle.specs.Chronicle.{Change, Kind, switch, Entry}
+use Rattle.chronicle.specs.Chronicle.{Change, Kind, switch, isAppeared, isAnnexed, Entry}
 use Rattle.chronicle.specs.Changes.{sameDate, changesFrom, provinceChanges, byDateAndId, changesOf}
 use Rattle.chronicle.specs.Nations.{matches, lastTarget, switchChain, switchEntries, slotsOf, startHolder, startHolders, allSwitches, Move, moveOf, movesOf, turnsOf, livesOf, entriesOf, lastHolder, holdersOf}
 use Rattle.chronicle.specs.Holding.{holderOn, holdsOn}
-use Rattle.chronicle.specs.Demand.{isAppeared, isAnnexed, counted}
+use Rattle.chronicle.specs.Demand.{counted}
 use Rattle.chronicle.proofs.LivingLaws.{afterMoves, due, length-after, at-after, lastOn, inDays, balance}
 
 -- What acceptance gives: no id above P.

@@ -8,8 +8,8 @@ use native.Mathlib.Omega.{arith}
 use borrow.Author.Tests.{leb-true, leb-false}
 use lib.ListN.{length, take, drop, getElem?, length-map}
 use lib.Seq.{take-at}
-use Rattle.lists.specs.Lists.{lastOr, without}
-use Rattle.lists.proofs.ListLaws.{All, all-images, all-at, map-at, InOrder}
+use Rattle.lists.specs.Lists.{All, lastOr, without}
+use Rattle.lists.proofs.ListLaws.{all-images, all-at, map-at, InOrder}
 use Rattle.sorting.proofs.SortLaws.{order-sort}
 use Rattle.record.specs.declared.date.Eu4Date.{Eu4Date}
 use Rattle.record.specs.Tags.{isTag}
@@ -24,7 +24,8 @@ use Rattle.chronicle.specs.Holding.{wears}
 use Rattle.chronicle.specs.NationRows.{nationWidth, entryWidth, nationWords, entryWords, nationsIn, wellShaped}
 use Rattle.chronicle.specs.Resolver.{resolvedNation, resolve, walked, resolveOn}
 use Rattle.chronicle.specs.Bookings.{Booking, joiningsOf, bookingOf, bookingsOf, bookingRows, bookingsIn, bookingWidth}
-use Rattle.chronicle.specs.Outcomes.{Counts, answersOf, NationCells, cellsOf, allFit, allWritten, countsOf, callNationEvents, callResolveOn, callWarParticipants, askedTag, askedDate}
+use Rattle.chronicle.specs.Outcomes.{Counts, answersOf, NationCells, cellsOf, allFit, allWritten, countsOf, callNationEvents, callResolveOn, callWarParticipants}
+use Rattle.chronicle.specs.Refusals.{askedTag, askedDate}
 use Rattle.chronicle.specs.Demand.{Living, nationsLeft, entriesLeft, changesLeft, bookingsLeft, OnDay, Chronicled, Demand3}
 use Rattle.chronicle.proofs.CampaignLaws.{InRange, living}
 use Rattle.chronicle.proofs.ResolverLaws.{walked-worn, found-at}

@@ -1,5 +1,4 @@
 pub mod Computes
-pub mod TableLaws
 pub mod LivingLaws
 pub mod CampaignLaws
 pub mod ResolverLaws

@@ -10,18 +10,18 @@ use borrow.Author.Tests.{leb-true, leb-false, eqb-true, eqb-false, lt-ltb, le-lt
 use lib.Dec.{eqb}
 use lib.ListN.{length, getD, set, length-set}
 use lib.Seq.{getD-set-same, getD-set-other}
-use Rattle.lists.specs.Lists.{keep, countOf, one, lastOr}
+use Rattle.lists.specs.Lists.{All, keep, countOf, one, lastOr}
 use Rattle.lists.proofs.BoolLaws.{cases}
-use Rattle.lists.proofs.ListLaws.{All, all-map, keep-none, InOrder, count-append, count-set, count-pos, sgn}
+use Rattle.lists.proofs.ListLaws.{all-map, keep-none, InOrder, count-append, count-set, count-pos, sgn}
 use Rattle.record.specs.declared.tag.CountryTag.{CountryTag}
 use Rattle.record.specs.declared.date.Eu4Date.{Eu4Date}
 use Rattle.record.specs.declared.rows.ProvinceId.{ProvinceId}
 use Rattle.record.specs.Tags.{sameTag}
 use Rattle.record.specs.Dates.{earlier, notAfter}
-use Rattle.chronicle.specs.Chronicle.{appeared, annexed, Entry}
+use Rattle.chronicle.specs.Chronicle.{appeared, annexed, isAppeared, isAnnexed, Entry}
 use Rattle.chronicle.specs.Changes.{sameId}
 use Rattle.chronicle.specs.Nations.{matches, Move, turnsFrom, turnEntries, turnCount, livesFrom}
-use Rattle.chronicle.specs.Demand.{isAppeared, isAnnexed, counted}
+use Rattle.chronicle.specs.Demand.{counted}
 
 -- ## Holders after moves
 

@@ -7,9 +7,9 @@ use Prim.Native.Nat.{ℕ, suc}
 use borrow.Author.Tests.{eq-eqb}
 use lib.Dec.{leb}
 use lib.ListN.{take, drop, getElem?}
-use Rattle.lists.specs.Lists.{keep, anyOf, lastOr, last, orElse, without, greaterOf, greatest}
+use Rattle.lists.specs.Lists.{All, keep, anyOf, lastOr, last, orElse, without, greaterOf, greatest}
 use Rattle.lists.proofs.BoolLaws.{cases, neither}
-use Rattle.lists.proofs.ListLaws.{All, all-map, any-none, keep-none, keep-append, join-append, join-none, at-split, InOrder, leading-keep}
+use Rattle.lists.proofs.ListLaws.{all-map, any-none, keep-none, keep-append, join-append, join-none, at-split, InOrder, leading-keep}
 use Rattle.record.specs.declared.tag.CountryTag.{CountryTag}
 use Rattle.record.specs.declared.date.Eu4Date.{Eu4Date}
 use Rattle.record.specs.Tags.{sameTag}

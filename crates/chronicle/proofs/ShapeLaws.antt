@@ -8,8 +8,8 @@ use native.Mathlib.Omega.{arith}
 use borrow.Author.Tests.{eq-eqb}
 use lib.Dec.{leb, eqb}
 use lib.ListN.{length, length-append, length-map}
-use Rattle.lists.specs.Lists.{keep, allOf, countOf, firstOr}
-use Rattle.lists.proofs.ListLaws.{All, all-map, all-append, all-keep, all-getD, all-last, all-of-map, all-join}
+use Rattle.lists.specs.Lists.{All, keep, allOf, countOf, firstOr}
+use Rattle.lists.proofs.ListLaws.{all-map, all-append, all-keep, all-getD, all-last, all-of-map, all-join}
 use Rattle.sorting.proofs.SortLaws.{all-sort}
 use Rattle.record.specs.declared.tag.CountryTag.{CountryTag}
 use Rattle.record.specs.declared.date.Eu4Date.{Eu4Date}

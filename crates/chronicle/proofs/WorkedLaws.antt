@@ -10,7 +10,7 @@ use Rattle.chronicle.specs.Lent.{gives}
 use Rattle.chronicle.specs.NationRows.{nationsIn}
 use Rattle.chronicle.specs.Outcomes.{NationCells, callNationEvents, callResolveOn, callWarParticipants}
 use Rattle.chronicle.specs.Demand.{nationsLeft, entriesLeft, bookingsLeft, OnDay, Chronicled}
-use Rattle.chronicle.specs.Table.{ENG, GBR, worked, dated}
+use Rattle.chronicle.specs.Worked.{ENG, GBR, dated, worked}
 use Rattle.chronicle.proofs.Computes.{computes}
 use Rattle.chronicle.proofs.DemandLaws.{demand3}
 

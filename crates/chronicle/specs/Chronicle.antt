@@ -1,4 +1,5 @@
 -- 01, Nations: what a chronicle is made of.
+use mathlib.Core.Bool.{Bool, true, false}
 use mathlib.Core.List.{List}
 use Rattle.record.specs.declared.tag.CountryTag.{CountryTag}
 use Rattle.record.specs.declared.date.Eu4Date.{Eu4Date}
@@ -17,6 +18,19 @@ pub data Kind : Type 0 where
   appeared : Kind
   annexed : Kind
 
+-- It is Appeared.
+abbrev pub isAppeared : Kind → Bool
+isAppeared (switch t) = false
+isAppeared appeared = true
+isAppeared annexed = false
+
+-- It is Annexed.
+abbrev pub isAnnexed : Kind → Bool
+isAnnexed (switch t) = false
+isAnnexed appeared = false
+isAnnexed annexed = true
+
+-- An entry of a nation, with its date.
 pub record Entry : Type 0 where
   pub date : Eu4Date
   pub kind : Kind

@@ -13,7 +13,7 @@ use Rattle.record.specs.Tags.{sameTag}
 use Rattle.record.specs.Dates.{goodDate, earlier, notAfter}
 use Rattle.record.specs.Campaign.{Campaign, campaignOf}
 use Rattle.record.specs.Refusal.{refusal}
-use Rattle.chronicle.specs.Chronicle.{Kind, switch, appeared, annexed, Entry, Nation}
+use Rattle.chronicle.specs.Chronicle.{Kind, isAppeared, isAnnexed, Entry, Nation}
 use Rattle.chronicle.specs.Lent.{Answer, refused, gives, fits, Outcome}
 use Rattle.chronicle.specs.Changes.{changesOf, changeRows, changeWidth}
 use Rattle.chronicle.specs.Nations.{nationsOf}
@@ -24,17 +24,6 @@ use Rattle.chronicle.specs.Bookings.{Joining, joiningsOf, Booking, booki
 use Rattle.chronicle.specs.Outcomes.{answersOf, NationCells, cellsOf, allFit, Counts, countsOf, callNationEvents, callResolveOn, callWarParticipants}
 
 -- ## What is counted, and whose tag it is
-
--- The kinds that the living equation counts.
-abbrev pub isAppeared : Kind → Bool
-isAppeared (switch t) = false
-isAppeared appeared = true
-isAppeared annexed = false
-
-abbrev pub isAnnexed : Kind → Bool
-isAnnexed (switch t) = false
-isAnnexed appeared = false
-isAnnexed annexed = true
 
 -- How many entries of a kind are dated after the start and up to D.
 abbrev pub counted : (Kind → Bool) → Eu4Date → Eu4Date → List Entry → ℕ

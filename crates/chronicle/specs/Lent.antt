@@ -1,4 +1,5 @@
--- 00, demand 1: what a call answers, and what lent memory holds afterwards.
+-- 00, demand 1, and 01, Who can be refused: what a call answers, and what lent memory holds afterwards. Every call that is lent memory
+-- to write has an `outcome`; one that is lent none has an answer alone.
 use mathlib.Core.Bool.{Bool, cond}
 use mathlib.Core.List.{List, _++_}
 use Prim.Native.Nat.{ℕ, zero, suc}
@@ -15,12 +16,12 @@ abbrev pub answerNumber : {A : Type 0} → Answer A → ℕ
 answerNumber (refused n) = n
 answerNumber (gives a) = 0
 
--- A number above 0 refuses; with 0 the call gives its values.
+-- A refusal returns only its number; with 0 the call gives its values. "None" is a normal answer: values may say that there is nothing.
 abbrev pub answered : {A : Type 0} → ℕ → A → Answer A
 answered zero values = gives values
 answered (suc n) values = refused (suc n)
 
--- A lent slice after a call: exactly its former content if a number refuses, else what the call leaves.
+-- Lent memory after a call: exactly its former content if a number refuses, else what the call leaves.
 abbrev pub leaves : {M : Type 0} → ℕ → M → M → M
 leaves zero after before = after
 leaves (suc n) after before = before

@@ -1,46 +1,24 @@
--- 01, Who can be refused, and by which number: the outcome of each call on owner changes, nations, resolver and war bookings.
--- Each takes what it is given as it is given: the record's bytes, lent words, a question's tag and date as words.
--- Numbers are listed in the order of the checks: the record's own, then 11, 12, 10.
-use mathlib.Core.Bool.{Bool, cond, _&&_}
+-- 01, Who can be refused, and by which number: the outcome of each call on owner changes, nations, resolver, war bookings and ledger.
+-- Each takes what it is given as it is given: the record's bytes, lent words, a question's tag, date or nation number as words.
+-- Numbers are listed in the order of the checks: the record's own, then 11, 12, 13, 10.
+use mathlib.Core.Bool.{Bool, _&&_}
 use mathlib.Core.List.{List, [], _∷_, map}
-use mathlib.Core.Option.{Option}
+use mathlib.Core.Option.{Option, none, some}
 use Prim.Native.Nat.{ℕ}
-use lib.ListN.{length}
+use lib.ListN.{length, getElem?}
 use Rattle.lists.specs.Lists.{joinOf}
 use Rattle.record.specs.declared.tag.CountryTag.{CountryTag}
-use Rattle.record.specs.declared.date.Eu4Date.{Eu4Date}
-use Rattle.record.specs.Tags.{isTag}
-use Rattle.record.specs.Dates.{goodDate}
 use Rattle.record.specs.Campaign.{Campaign, campaignOf}
 use Rattle.record.specs.Refusal.{refusal, firstOf}
 use Rattle.chronicle.specs.Chronicle.{Change, Nation}
 use Rattle.chronicle.specs.Lent.{Answer, answered, written, fits, roomNumber, Outcome, outcome}
 use Rattle.chronicle.specs.Changes.{changesOf, changeRows, Run, eventsOn}
 use Rattle.chronicle.specs.Nations.{nationsOf, holdersOf, heldOf}
-use Rattle.chronicle.specs.NationRows.{nationWords, entryWords, nationsIn, wellShaped, holderWord}
+use Rattle.chronicle.specs.NationRows.{nationWords, entryWords, nationsIn, holderWord}
 use Rattle.chronicle.specs.Resolver.{TagData, resolve, initial, resolveOn, initialOn}
 use Rattle.chronicle.specs.Bookings.{bookingsOf, bookingRows}
-
--- ## Numbers
-
--- 11: chronicle rows not well shaped.
-abbrev pub shapeNumber : List ℕ → List ℕ → ℕ
-shapeNumber ws es = cond (wellShaped ws es) 0 11
-
--- A question's tag or date, given as a word.
-abbrev pub askedTag : ℕ → CountryTag
-askedTag w = record { 0 = w }
-
-abbrev pub askedDate : ℕ → Eu4Date
-askedDate w = record { 0 = w }
-
--- 12: a bad tag.
-abbrev pub askedTagNumber : ℕ → ℕ
-askedTagNumber w = cond (isTag (askedTag w)) 0 12
-
--- 12: a bad date.
-abbrev pub askedDateNumber : ℕ → ℕ
-askedDateNumber w = cond (goodDate (askedDate w)) 0 12
+use Rattle.chronicle.specs.Ledger.{LedgerPoint, nationLedger, pointRows}
+use Rattle.chronicle.specs.Refusals.{chronicleNumber, askedTag, askedDate, askedTagNumber, askedDateNumber, askedNationNumber}
 
 -- ## `province_owners`: the number of changes, and their rows
 
@@ -141,24 +119,24 @@ callNationEvents xs before =
 -- Plain resolve of (tag, date): 11, 12.
 unfoldable pub callResolve : List ℕ → List ℕ → ℕ → ℕ → Answer (Option TagData)
 callResolve ws es tag date =
-    answered (firstOf (shapeNumber ws es ∷ askedTagNumber tag ∷ askedDateNumber date ∷ []))
+    answered (firstOf (chronicleNumber ws es ∷ askedTagNumber tag ∷ askedDateNumber date ∷ []))
     (resolve (nationsIn ws es) (askedTag tag) (askedDate date))
 
 -- Plain initial of a tag: 11, 12.
 unfoldable pub callInitial : List ℕ → List ℕ → ℕ → Answer (Option TagData)
 callInitial ws es tag =
-    answered (firstOf (shapeNumber ws es ∷ askedTagNumber tag ∷ [])) (initial (nationsIn ws es) (askedTag tag))
+    answered (firstOf (chronicleNumber ws es ∷ askedTagNumber tag ∷ [])) (initial (nationsIn ws es) (askedTag tag))
 
 -- Set to a day, resolve of (tag, date): 11, 12.
 unfoldable pub callResolveOn : List ℕ → List ℕ → ℕ → ℕ → ℕ → Answer (Option TagData)
 callResolveOn ws es day tag date =
-    answered (firstOf (shapeNumber ws es ∷ askedDateNumber day ∷ askedTagNumber tag ∷ askedDateNumber date ∷ []))
+    answered (firstOf (chronicleNumber ws es ∷ askedDateNumber day ∷ askedTagNumber tag ∷ askedDateNumber date ∷ []))
     (resolveOn (askedDate day) (nationsIn ws es) (askedTag tag) (askedDate date))
 
 -- Set to a day, initial of a tag: 11, 12.
 unfoldable pub callInitialOn : List ℕ → List ℕ → ℕ → ℕ → Answer (Option TagData)
 callInitialOn ws es day tag =
-    answered (firstOf (shapeNumber ws es ∷ askedDateNumber day ∷ askedTagNumber tag ∷ []))
+    answered (firstOf (chronicleNumber ws es ∷ askedDateNumber day ∷ askedTagNumber tag ∷ []))
     (initialOn (askedDate day) (nationsIn ws es) (askedTag tag))
 
 -- ## `war_participants`: the number of bookings, and their rows
@@ -168,5 +146,21 @@ unfoldable pub callWarParticipants : List ℕ → List ℕ → List ℕ → List
 callWarParticipants xs ws es before =
     let bookings = bookingsOf (campaignOf xs) (nationsIn ws es) in
     let rows = bookingRows bookings in
-    outcome (firstOf (refusal xs ∷ shapeNumber ws es ∷ roomNumber (fits rows before) ∷ []))
+    outcome (firstOf (refusal xs ∷ chronicleNumber ws es ∷ roomNumber (fits rows before) ∷ []))
     (length bookings) (written rows before) before
+
+-- ## `nation_ledger`: the number of points, and their rows
+
+-- The points of the nation that is asked for; no nation has none.
+abbrev pub askedPoints : Campaign → Option Nation → List LedgerPoint
+askedPoints c none = []
+askedPoints c (some n) = nationLedger c n
+
+-- Refused by the record's number, 11, 13, or 10. It is given the record, the nation and entry words, a nation number and the lent slice.
+unfoldable pub callNationLedger : List ℕ → List ℕ → List ℕ → ℕ → List ℕ → Outcome ℕ (List ℕ)
+callNationLedger xs ws es number before =
+    let nation = getElem? (nationsIn ws es) number in
+    let points = askedPoints (campaignOf xs) nation in
+    let rows = pointRows points in
+    outcome (firstOf (refusal xs ∷ chronicleNumber ws es ∷ askedNationNumber nation ∷ roomNumber (fits rows before) ∷ []))
+    (length points) (written rows before) before

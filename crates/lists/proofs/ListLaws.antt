@@ -11,14 +11,9 @@ use lib.Dec.{leb}
 use lib.ListN.{length, getD, set, take, drop, getElem?, length-append}
 use lib.Seq.{take-at, drop-at, getD-take, getD-drop}
 use Rattle.lists.proofs.BoolLaws.{cases, clash, neither, both}
-use Rattle.lists.specs.Lists.{keep, anyOf, allOf, countOf, leading, one, joinOf, lastOr, numbersFrom, rowsIn}
+use Rattle.lists.specs.Lists.{All, keep, anyOf, allOf, countOf, leading, one, joinOf, lastOr, numbersFrom, rowsIn}
 
 -- ## All elements
-
--- P holds of each element.
-abbrev pub All : {A : Type 0} → (A → Type 0) → List A → Type 0
-All P [] = Unit {0}
-All P (x ∷ xs) = P x × All P xs
 
 module _ {A : Type 0} where
   pub all-map : {P Q : A → Type 0} → ((a : A) → P a → Q a) → (xs : List A) → All P xs → All Q xs

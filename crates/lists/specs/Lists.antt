@@ -1,11 +1,15 @@
 -- General functions on lists. They render no rule of 01: the definitions above are written with them.
 use mathlib.Core.Bool.{Bool, true, false, cond, _||_, _&&_}
-use mathlib.Core.List.{List, [], _∷_}
-use mathlib.Core.List.{_++_}
+use mathlib.Core.List.{List, [], _∷_, _++_}
 use mathlib.Core.Option.{Option, none, some}
 use Prim.Native.Nat.{ℕ, zero, suc, _+_, _/_, _%_}
 use lib.Dec.{leb, eqb}
 use lib.ListN.{length, take, drop}
+
+-- P holds of each element.
+abbrev pub All : {A : Type 0} → (A → Type 0) → List A → Type 0
+All P [] = Unit {0}
+All P (x ∷ xs) = P x × All P xs
 
 module _ {A : Type 0} (p : A → Bool) where
   -- Those that fit, in order.
@@ -33,6 +37,16 @@ module _ {A : Type 0} (p : A → Bool) where
   leading [] = []
   leading (x ∷ xs) = cond (p x) (x ∷ leading xs) []
 
+  -- Those from the first that does not fit on.
+  abbrev pub skipping : List A → List A
+  skipping [] = []
+  skipping (x ∷ xs) = cond (p x) (skipping xs) (x ∷ xs)
+
+  -- The first that fits, if there is one.
+  abbrev pub firstThat : List A → Option A
+  firstThat [] = none
+  firstThat (x ∷ xs) = cond (p x) (some x) (firstThat xs)
+
 -- 1 if it is so, else 0.
 abbrev pub one : Bool → ℕ
 one true = 1
@@ -47,6 +61,13 @@ sumOf f (x ∷ xs) = f x + sumOf f xs
 abbrev pub twice : List ℕ → Bool
 twice [] = false
 twice (x ∷ xs) = anyOf (eqb x) xs || twice xs
+
+-- Two lists hold the same numbers in the same order.
+abbrev pub sameNumbers : List ℕ → List ℕ → Bool
+sameNumbers [] [] = true
+sameNumbers [] (y ∷ ys) = false
+sameNumbers (x ∷ xs) [] = false
+sameNumbers (x ∷ xs) (y ∷ ys) = eqb x y && sameNumbers xs ys
 
 -- The lists that the elements give, one behind the other.
 abbrev pub joinOf : {A B : Type 0} → (A → List B) → List A → List B
@@ -68,6 +89,12 @@ module _ {A : Type 0} where
   abbrev pub last : List A → Option A
   last [] = none
   last (x ∷ xs) = some (lastOr x xs)
+
+  -- All but the last.
+  abbrev pub butLast : List A → List A
+  butLast [] = []
+  butLast (x ∷ []) = []
+  butLast (x ∷ y ∷ ys) = x ∷ butLast (y ∷ ys)
 
   -- The first if it is there, else the second.
   abbrev pub orElse : Option A → Option A → Option A

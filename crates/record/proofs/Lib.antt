@@ -1,3 +1,4 @@
+pub mod Computes
 pub mod FlagLaws
 pub mod RowLaws
 pub mod RunLaws
