@@ -8,3 +8,11 @@ pub mod AcceptLaws
 pub mod DemandLaws
 pub mod WorkedLaws
 pub mod OrderLaws
+pub mod ChangeLaws
+pub mod KeyLaws
+pub mod LentLaws
+pub mod WriteLaws
+pub mod FillLaws
+pub mod OutcomeLaws
+pub mod CountLaws
+pub mod OpenLaws

@@ -16,3 +16,5 @@ pub mod Outcomes
 pub mod PlayerOutcomes
 pub mod Demand
 pub mod Worked
+pub mod Cases
+pub mod ChangeSteps

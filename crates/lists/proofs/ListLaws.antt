@@ -20,6 +20,10 @@ module _ {A : Type 0} where
   all-map f [] q = tt
   all-map f (x ∷ xs) q = (f x (q .0), all-map f xs (q .1))
 
+  pub all-both : (P Q : A → Type 0) (xs : List A) → All P xs → All Q xs → All (λ x. P x × Q x) xs
+  all-both P Q [] p q = tt
+  all-both P Q (x ∷ xs) p q = ((p .0, q .0), all-both P Q xs (p .1) (q .1))
+
   module _ (P : A → Type 0) where
     pub all-append : (xs ys : List A) → All P xs → All P ys → All P (xs ++ ys)
     all-append [] ys p q = q

@@ -5,6 +5,8 @@ use Prim.Native.Nat.{ℕ, zero, suc, _+_, _-_, _*_, _<_, _≤_}
 use native.Mathlib.Nat.{min-eq-left}
 use native.Mathlib.Omega.{arith}
 use lib.ListN.{length, take, drop, take-append-drop}
+use Rattle.lists.specs.Lists.{All}
+use Rattle.lists.proofs.ListLaws.{all-unmap}
 use Rattle.record.specs.Rows.{rowsAt}
 use Rattle.record.specs.Refusal.{firstOf, firstIn}
 use Rattle.record.proofs.RowLaws.{rows-none, rows-more, rows-take, rows-drop, map-rows-same}
@@ -28,6 +30,15 @@ pub first-zero : (n : ℕ) (ns : List ℕ) → firstOf (n ∷ ns) ≡ 0 → (n �
 unfolding firstOf
 first-zero zero ns h = (refl, h)
 first-zero (suc n) ns h = absurd (omega arith)
+
+-- nothing refuses: no number of the list, no row of the section
+pub all-zero : (ns : List ℕ) → firstOf ns ≡ 0 → All (λ n. n ≡ 0) ns
+all-zero [] h = tt
+all-zero (n ∷ ns) h = let z = first-zero n ns h in (z .0, all-zero ns (z .1))
+
+pub rows-zero : {A : Type 0} (number : A → ℕ) (rows : List A) → firstIn number rows ≡ 0 → All (λ r. number r ≡ 0) rows
+unfolding firstIn
+rows-zero number rows h = all-unmap (λ n. n ≡ 0) number rows (all-zero (map number rows) h)
 
 -- a list of one number
 pub first-one : (n : ℕ) → firstOf (n ∷ []) ≡ n

@@ -13,6 +13,7 @@ use Rattle.record.specs.Rows.{rowsAt}
 pub record Limits (h : Head) : Type 0 where
   pub countries : h .countries ≤ 2000
   pub provinces : h .provinces ≤ 8000
+  pub events : h .events ≤ 60000
   pub wars : h .wars ≤ 5000
   pub ledgers : h .ledgers ≤ 2000
   pub strings : h .strings ≤ 1000
@@ -40,6 +41,7 @@ limits-of h t0 =
     record {
       countries = leb-true (h .countries) 2000 (and-left c (leb (h .provinces) 8000) tp);
       provinces = leb-true (h .provinces) 8000 (and-right c (leb (h .provinces) 8000) tp);
+      events = leb-true (h .events) 60000 (and-right b (leb (h .events) 60000) te);
       wars = leb-true (h .wars) 5000 (and-right n (leb (h .wars) 5000) tw);
       ledgers = leb-true (h .ledgers) 2000 (and-right v (leb (h .ledgers) 2000) tg);
       strings = leb-true (h .strings) 1000 (and-right e (leb (h .strings) 1000) tn);

@@ -10,3 +10,4 @@ pub mod RepeatLaws
 pub mod HeadLaws
 pub mod AcceptLaws
 pub mod OpenedLaws
+pub mod BoundLaws

@@ -1,7 +1,7 @@
 -- An opened record: refused by its number exactly when its check refuses it, else its campaign, through cursors.
 use mathlib.Core.Path.{_≡_}
 use mathlib.Core.List.{List}
-use Prim.Native.Nat.{ℕ}
+use Prim.Native.Nat.{ℕ, _<_}
 use lib.ListN.{length}
 use Rattle.record.specs.declared.opened.Record.{Record}
 use Rattle.record.specs.declared.opened.Opened.{Opened}
@@ -29,10 +29,10 @@ pub record Tells (xs : List ℕ) (r : Record) : Type 0 where
   pub countryCount : r .countries .rows .left ≡ length (campaignOf xs .countries)
   pub provinceCount : r .provinces .rows .left ≡ length (campaignOf xs .provinces)
 
--- What an accepted record's rows are; a refused one has none.
+-- What an accepted record's rows are; a refused one has none, and a number above 0.
 abbrev pub Rows : List ℕ → Opened → Type 0
 Rows xs (Accepted r) = Tells xs r
-Rows xs (Refused n) = Unit {0}
+Rows xs (Refused n) = 0 < n
 
 pub record RightlyOpened (xs : List ℕ) (r : Opened) : Type 0 where
   pub number : openedNumber r ≡ refusal xs

@@ -17,9 +17,9 @@ ghost use Rattle.record.specs.Cursors.{countriesLeft, countryTold, provi
 ghost use Rattle.record.specs.Cursors.{ledgersLeft, ledgerTold, stringsLeft, stringTold, textOf};
 
 // Rows of one width: where the next one stands, and how many are left.
-pub(crate) struct Run {
-    pub at: usize,
-    pub left: usize,
+pub struct Run {
+    pub(crate) at: usize,
+    pub(crate) left: usize,
 }
 
 fn least(a: usize, b: usize) -> usize
