@@ -1,4 +1,4 @@
--- The living equation of every country of a campaign whose province ids are in range, whether it is listed or not.
+-- The living equation of every country of a sound campaign, whether it is listed or not: no province id is above P.
 use mathlib.Core.Path.{_≡_, refl, sym, ap, _∙_}
 use mathlib.Core.Bool.{Bool, true, false, _&&_, true≢false, false≢true}
 use mathlib.Core.List.{List, [], _∷_, _++_, map}
@@ -20,16 +20,13 @@ use Rattle.record.specs.declared.rows.OwnerEvent.{OwnerEvent}
 use Rattle.record.specs.Tags.{sameTag}
 use Rattle.record.specs.Dates.{earlier, notAfter}
 use Rattle.record.specs.Campaign.{Campaign, Country, Province}
+use Rattle.record.specs.Sound.{GoodProvince, Sound}
 use Rattle.chronicle.specs.Chronicle.{Change, Kind, switch, isAppeared, isAnnexed, Entry}
 use Rattle.chronicle.specs.Changes.{sameDate, changesFrom, provinceChanges, byDateAndId, changesOf}
 use Rattle.chronicle.specs.Nations.{matches, lastTarget, switchChain, switchEntries, slotsOf, startHolder, startHolders, allSwitches, Move, moveOf, movesOf, turnsOf, livesOf, entriesOf, lastHolder, holdersOf}
 use Rattle.chronicle.specs.Holding.{holderOn, holdsOn}
 use Rattle.chronicle.specs.Demand.{counted}
 use Rattle.chronicle.proofs.LivingLaws.{afterMoves, due, length-after, at-after, lastOn, inDays, balance}
-
--- What acceptance gives: no id above P.
-pub record InRange (c : Campaign) : Type 0 where
-  pub ids : All (λ p. p .id .0 ≤ length (c .provinces)) (c .provinces)
 
 -- ## Changes and moves
 
@@ -89,12 +86,12 @@ pub length-start : (c : Campaign) → length (startHolders c) ≡ suc (length (c
 unfolding startHolders
 length-start c = length-map (slotsOf c) (startHolder c) ∙ length-slots c
 
-moves-slots : (c : Campaign) → InRange c → All (λ m. m .slot .0 < length (startHolders c)) (movesOf c)
+moves-slots : (c : Campaign) → Sound c → All (λ m. m .slot .0 < length (startHolders c)) (movesOf c)
 moves-slots c r =
     simp (length-start c)
-    (all-moves c (λ p. p .id .0 ≤ length (c .provinces)) (λ x. x .id .0 ≤ length (c .provinces)) (λ m. m .slot .0 < suc (length (c .provinces)))
-    (λ p h. all-changes (λ x. x .id .0 ≤ length (c .provinces)) (p .id) (p .owner) (p .events) (every _ (λ e from. h) (p .events)))
-    (λ x h. omega arith) (r .ids))
+    (all-moves c (GoodProvince (length (c .provinces))) (λ x. x .id .0 ≤ length (c .provinces)) (λ m. m .slot .0 < suc (length (c .provinces)))
+    (λ p h. all-changes (λ x. x .id .0 ≤ length (c .provinces)) (p .id) (p .owner) (p .events) (every _ (λ e from. h .id) (p .events)))
+    (λ x h. omega arith) (r .provinces))
 
 -- A function of the slots 0 to P, at a slot.
 at-slot : (c : Campaign) (f : ProvinceId → Option CountryTag) (i : ℕ) → i < suc (length (c .provinces))
@@ -159,7 +156,7 @@ holds-count c day t =
     ap one (sym (any-map (matches t) (holderOn c day) (slotsOf c)))
     ∙ (any-count (matches t) (map (holderOn c day) (slotsOf c)) ∙ ap (λ (hs : List (Option CountryTag)). sgn (countOf (matches t) hs)) (holders-on c day))
 
-pub living : (c : Campaign) (k : Country) (day : Eu4Date) → InRange c → c .start .0 ≤ day .0
+pub living : (c : Campaign) (k : Country) (day : Eu4Date) → Sound c → c .start .0 ≤ day .0
     → one (holdsOn c (c .start) (k .tag)) + counted isAppeared (c .start) day (entriesOf c k)
     ≡ one (holdsOn c day (k .tag)) + counted isAnnexed (c .start) day (entriesOf c k)
 unfolding livesOf turnsOf

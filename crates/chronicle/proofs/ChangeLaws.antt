@@ -1,7 +1,7 @@
 -- The walk over owner changes in entry order, event by event, and how many they can be.
-use mathlib.Core.Path.{_≡_, refl, sym, ap, _∙_}
+use mathlib.Core.Path.{_≡_, refl, ap}
 use mathlib.Core.Bool.{true, false}
-use mathlib.Core.List.{List, [], _∷_, _++_}
+use mathlib.Core.List.{List, [], _∷_}
 use Prim.Native.Nat.{ℕ, _+_, _≤_, _<_}
 use native.Mathlib.Omega.{arith}
 use lib.ListN.{length, length-append}
@@ -23,7 +23,7 @@ use Rattle.record.specs.Campaign.{Province, campaignOf}
 use Rattle.record.specs.Cursors.{ownerEventsLeft, ownerEventTold, provincesLeft, provinceTold}
 use Rattle.record.specs.Refusal.{refusal}
 use Rattle.record.proofs.CampaignLaws.{told-row, told-end}
-use Rattle.record.proofs.BoundLaws.{SmallProvince, small-provinces, few-events}
+use Rattle.record.proofs.BoundLaws.{small-provinces, few-events}
 use Rattle.chronicle.specs.Chronicle.{Change}
 use Rattle.chronicle.specs.Changes.{changesFrom, provinceChanges, byDateAndId, changesOf}
 use Rattle.chronicle.specs.ChangeSteps.{changesLeft, entered}

@@ -16,6 +16,8 @@ use Rattle.record.specs.Tags.{isTag}
 use Rattle.record.specs.Dates.{goodDate, notAfter}
 use Rattle.record.specs.Campaign.{Campaign, Country, campaignOf}
 use Rattle.record.specs.Refusal.{refusal, firstOf}
+use Rattle.record.specs.Sound.{Sound}
+use Rattle.record.proofs.SoundLaws.{sound}
 use Rattle.chronicle.specs.Chronicle.{Nation}
 use Rattle.chronicle.specs.Lent.{gives, written, fits, Outcome}
 use Rattle.chronicle.specs.Changes.{changeWidth, changesOf, changeRows}
@@ -27,15 +29,14 @@ use Rattle.chronicle.specs.Bookings.{Booking, joiningsOf, bookingOf, boo
 use Rattle.chronicle.specs.Outcomes.{Counts, answersOf, NationCells, cellsOf, allFit, allWritten, countsOf, callNationEvents, callResolveOn, callWarParticipants}
 use Rattle.chronicle.specs.Refusals.{askedTag, askedDate}
 use Rattle.chronicle.specs.Demand.{Living, nationsLeft, entriesLeft, changesLeft, bookingsLeft, OnDay, Chronicled, Demand3}
-use Rattle.chronicle.proofs.CampaignLaws.{InRange, living}
+use Rattle.chronicle.proofs.CampaignLaws.{living}
 use Rattle.chronicle.proofs.ResolverLaws.{walked-worn, found-at}
 use Rattle.chronicle.proofs.RowLaws.{allEntries, length-nationWords, length-entryWords, length-changeRows, length-bookingRows, bookings-in, read-written}
 use Rattle.chronicle.proofs.ShapeLaws.{GoodNation, nations-good, well-shaped, wears-tag}
-use Rattle.chronicle.proofs.AcceptLaws.{passed, in-range, good-tags}
 
 -- ## Each listed nation by itself
 
-record Sound (c : Campaign) (n : Nation) : Type 0 where
+record Balanced (c : Campaign) (n : Nation) : Type 0 where
   order : InOrder (λ e. e .date .0) (n .entries)
   sums : (day : Eu4Date) → c .start .0 ≤ day .0 → Living c n day
 
@@ -45,10 +46,10 @@ entries-order c k =
     order-sort (λ a b. notAfter (a .date) (b .date)) (λ e. e .date .0) (λ a b. leb-true (a .date .0) (b .date .0))
     (λ a b h. omega (arith, leb-false (a .date .0) (b .date .0) h)) (switchEntries k ++ livesOf c (k .tag))
 
-sound : (c : Campaign) → InRange c → All (Sound c) (nationsOf c)
+balanced : (c : Campaign) → Sound c → All (Balanced c) (nationsOf c)
 unfolding nationsOf
-sound c r =
-    all-images (Sound c) (nationOf c) (λ k. record { order = entries-order c k; sums = λ day h. living c k day r h }) (listedCountries c)
+balanced c r =
+    all-images (Balanced c) (nationOf c) (λ k. record { order = entries-order c k; sums = λ day h. living c k day r h }) (listedCountries c)
 
 -- ## Rows written are rows read
 
@@ -76,12 +77,12 @@ module _ (xs : List ℕ) (accepted : refusal xs ≡ 0) (ns : List Nation) (ws es
       simp (bookings-answer lent room)
       (ap bookingsIn (front bookingWidth (length (joiningsOf (campaignOf xs))) (bookingRows bs) lent len) ∙ bookings-in bs)
 
-  module _ (sounds : All (Sound (campaignOf xs)) ns) (goods : All GoodNation ns) where
+  module _ (balances : All (Balanced (campaignOf xs)) ns) (goods : All GoodNation ns) where
     on-day : (i : ℕ) (n : Nation) (day : Eu4Date) → getElem? ns i ≡ some n → goodDate day ≡ true → notAfter (campaignOf xs .start) day ≡ true
         → OnDay xs ws es n (without i ns) day
     unfolding callResolveOn resolveOn resolve bookingOf firstOf
     on-day i n day at good after =
-        let s : Sound (campaignOf xs) n = all-at (Sound (campaignOf xs)) ns i n at sounds in
+        let s : Balanced (campaignOf xs) n = all-at (Balanced (campaignOf xs)) ns i n at balances in
         let g : GoodNation n = all-at GoodNation ns i n at goods in
         let w : isTag (askedTag (wears n day .0)) ≡ true = wears-tag n day g in
         let d : goodDate (askedDate (day .0)) ≡ true = good in
@@ -119,16 +120,16 @@ module _ (xs : List ℕ) (accepted : refusal xs ≡ 0) (lent : NationCells) (roo
       simp nations-answer (front entryWidth (length (allEntries ns)) (entryWords ns) (lent .entries) (length-entryWords ns)) in
       let change-rows : changesLeft o ≡ changeRows (changesOf c) =
       simp nations-answer (front changeWidth (length (changesOf c)) (changeRows (changesOf c)) (lent .changes) (length-changeRows (changesOf c))) in
-      let p = passed xs accepted in
+      let s : Sound c = sound xs accepted in
       let told : nationsIn (nationWords ns) (entryWords ns) ≡ ns = read-written ns in
-      let goods : All GoodNation ns = nations-good c (good-tags xs p) in
+      let goods : All GoodNation ns = nations-good c s in
       record {
         answer = ap (λ (x : Outcome Counts NationCells). x .answer) nations-answer;
         changes = change-rows;
         nations = rw (nation-rows, entry-rows) told;
         onDay =
             rw (nation-rows, entry-rows, told)
-            (on-day xs accepted ns (nationWords ns) (entryWords ns) told (well-shaped ns goods) (sound c (in-range xs p)) goods);
+            (on-day xs accepted ns (nationWords ns) (entryWords ns) told (well-shaped ns goods) (balanced c s) goods);
       }
 
 pub demand3 : (xs : List ℕ) → Demand3 xs

@@ -2,7 +2,7 @@
 use mathlib.Core.Path.{_≡_, refl}
 use Prim.Native.Nat.{ℕ, zero, suc, _<_}
 use native.Mathlib.Omega.{arith}
-use Rattle.chronicle.specs.Lent.{Answer, refused, gives, answered, Outcome, outcome}
+use Rattle.chronicle.specs.Lent.{refused, gives, answered, outcome}
 
 module _ {A : Type 0} (n : ℕ) (values : A) where
   pub answered-refused : 0 < n → answered n values ≡ refused n

@@ -4,15 +4,12 @@ pub mod CampaignLaws
 pub mod ResolverLaws
 pub mod RowLaws
 pub mod ShapeLaws
-pub mod AcceptLaws
 pub mod DemandLaws
 pub mod WorkedLaws
 pub mod OrderLaws
 pub mod ChangeLaws
 pub mod KeyLaws
 pub mod LentLaws
-pub mod WriteLaws
 pub mod FillLaws
 pub mod OutcomeLaws
 pub mod CountLaws
-pub mod OpenLaws

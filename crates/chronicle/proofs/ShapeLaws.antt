@@ -1,4 +1,4 @@
--- The rows that a campaign of good tags and dates gives are well shaped, and the tag that a nation wears is a tag.
+-- The rows that a sound campaign gives are well shaped, and the tag that a nation wears is a tag.
 use mathlib.Core.Path.{_≡_, refl}
 use mathlib.Core.Bool.{Bool, true, false, cond, _&&_}
 use mathlib.Core.List.{List, [], _∷_, _++_, map}
@@ -14,9 +14,9 @@ use Rattle.sorting.proofs.SortLaws.{all-sort}
 use Rattle.record.specs.declared.tag.CountryTag.{CountryTag}
 use Rattle.record.specs.declared.date.Eu4Date.{Eu4Date}
 use Rattle.record.specs.declared.rows.Switch.{Switch}
-use Rattle.record.specs.Tags.{isTag}
-use Rattle.record.specs.Dates.{goodDate, earlier, notAfter}
+use Rattle.record.specs.Dates.{earlier, notAfter}
 use Rattle.record.specs.Campaign.{Campaign, Country}
+use Rattle.record.specs.Sound.{GoodTag, GoodDate, GoodSwitch, GoodCountry, GoodProvince, Sound}
 use Rattle.chronicle.specs.Chronicle.{Kind, switch, appeared, annexed, Entry, Nation}
 use Rattle.chronicle.specs.Nations.{initialFrom, initialOf, lastTarget, switchChain, switchEntries, matches, isMapped, startHolders, turnsFrom, turnsOf, turnEntries, livesFrom, livesOf, entriesOf, kindTarget, targets, nationOf, heldEver, listedCountries, nationsOf, Move, movesOf}
 use Rattle.chronicle.specs.Holding.{wears}
@@ -24,54 +24,34 @@ use Rattle.chronicle.specs.NationRows.{nationRowsFrom, kindWord, targetW
 use Rattle.chronicle.proofs.CampaignLaws.{all-changes, all-moves}
 use Rattle.chronicle.proofs.RowLaws.{allEntries, length-nationWords, length-entryWords, nation-rows, entry-rows}
 
-abbrev pub Tag : CountryTag → Type 0
-Tag t = isTag t ≡ true
-
-abbrev pub Good : Eu4Date → Type 0
-Good d = goodDate d ≡ true
-
-pub record GoodSwitch (s : Switch) : Type 0 where
-  pub date : Good (s .date)
-  pub from : Tag (s .from)
-
-pub record GoodCountry (k : Country) : Type 0 where
-  pub tag : Tag (k .tag)
-  pub previous : All Tag (k .previous)
-  pub switches : All GoodSwitch (k .switches)
-
--- What acceptance gives of tags and dates.
-pub record GoodTags (c : Campaign) : Type 0 where
-  pub countries : All GoodCountry (c .countries)
-  pub events : All (λ p. All (λ e. Good (e .date)) (p .events)) (c .provinces)
-
 -- ## Entries
 
 -- The kind's target, if it has one, is a tag.
 abbrev GoodKind : Kind → Type 0
-GoodKind (switch t) = Tag t
+GoodKind (switch t) = GoodTag t
 GoodKind appeared = Unit {0}
 GoodKind annexed = Unit {0}
 
 pub record GoodEntry (e : Entry) : Type 0 where
-  pub date : Good (e .date)
+  pub date : GoodDate (e .date)
   pub kind : GoodKind (e .kind)
 
-initial-tag : (ss : List Switch) (ps : List CountryTag) (k : CountryTag) → All GoodSwitch ss → All Tag ps → Tag k → Tag (initialFrom ss ps k)
+initial-tag : (ss : List Switch) (ps : List CountryTag) (k : CountryTag) → All GoodSwitch ss → All GoodTag ps → GoodTag k → GoodTag (initialFrom ss ps k)
 unfolding initialFrom
 initial-tag [] [] k a b h = h
 initial-tag [] (p ∷ ps) k a b h = b .0
 initial-tag (s ∷ ss) ps k a b h = a .0 .from
 
-from-tag : (end : CountryTag) (ss : List Switch) → Tag end → All GoodSwitch ss → Tag (firstOr end (map (λ x. x .from) ss))
+from-tag : (end : CountryTag) (ss : List Switch) → GoodTag end → All GoodSwitch ss → GoodTag (firstOr end (map (λ x. x .from) ss))
 from-tag end [] h q = h
 from-tag end (s ∷ ss) h q = q .0 .from
 
-chain-good : (end : CountryTag) (ss : List Switch) → Tag end → All GoodSwitch ss → All GoodEntry (switchChain end ss)
+chain-good : (end : CountryTag) (ss : List Switch) → GoodTag end → All GoodSwitch ss → All GoodEntry (switchChain end ss)
 unfolding switchChain
 chain-good end [] h q = tt
 chain-good end (s ∷ ss) h q = (record { date = q .0 .date; kind = from-tag end ss h (q .1) }, chain-good end ss h (q .1))
 
-turn-good : (start d : Eu4Date) (loses gains : Bool) (n : ℕ) → Good d → All GoodEntry (turnEntries start d loses gains n)
+turn-good : (start d : Eu4Date) (loses gains : Bool) (n : ℕ) → GoodDate d → All GoodEntry (turnEntries start d loses gains n)
 unfolding turnEntries
 turn-good start d loses gains n h = go (loses && eqb (n - 1) 0) (gains && eqb (cond loses (n - 1) n) 0 && earlier start d)
   where
@@ -81,61 +61,61 @@ turn-good start d loses gains n h = go (loses && eqb (n - 1) 0) (gains && eqb (c
     go false true = (record { date = h; kind = tt }, tt)
     go false false = tt
 
-lives-good : (start : Eu4Date) (t : CountryTag) (ms : List Move) (holders : List (Option CountryTag)) (n : ℕ) → All (λ m. Good (m .date)) ms
+lives-good : (start : Eu4Date) (t : CountryTag) (ms : List Move) (holders : List (Option CountryTag)) (n : ℕ) → All (λ m. GoodDate (m .date)) ms
     → All GoodEntry (livesFrom start t (turnsFrom holders ms) n)
 unfolding livesFrom turnsFrom
 lives-good start t [] holders n q = tt
 lives-good start t (m ∷ ms) holders n q =
     all-append GoodEntry (turnEntries start (m .date) _ _ n) _ (turn-good start (m .date) _ _ n (q .0)) (lives-good start t ms _ _ (q .1))
 
-moves-good : (c : Campaign) → GoodTags c → All (λ m. Good (m .date)) (movesOf c)
+moves-good : (c : Campaign) → Sound c → All (λ m. GoodDate (m .date)) (movesOf c)
 moves-good c g =
-    all-moves c (λ p. All (λ e. Good (e .date)) (p .events)) (λ x. Good (x .date)) (λ m. Good (m .date))
-    (λ p q. all-changes (λ x. Good (x .date)) (p .id) (p .owner) (p .events) (all-map (λ e h from. h) (p .events) q))
-    (λ x h. h) (g .events)
+    all-moves c (GoodProvince (length (c .provinces))) (λ x. GoodDate (x .date)) (λ m. GoodDate (m .date))
+    (λ p q. all-changes (λ x. GoodDate (x .date)) (p .id) (p .owner) (p .events) (all-map (λ e h from. h .date) (p .events) (q .events)))
+    (λ x h. h) (g .provinces)
 
-entries-good : (c : Campaign) (k : Country) → GoodTags c → GoodCountry k → All GoodEntry (entriesOf c k)
+entries-good : (c : Campaign) (k : Country) → Sound c → GoodCountry k → All GoodEntry (entriesOf c k)
 unfolding entriesOf livesOf turnsOf
 entries-good c k g h =
     all-sort (λ a b. notAfter (a .date) (b .date)) GoodEntry (switchEntries k ++ livesOf c (k .tag))
     (all-append GoodEntry (switchEntries k) (livesOf c (k .tag))
-    (chain-good (lastTarget k) (k .switches) (all-getD Tag (k .previous) (length (k .switches)) (k .tag) (h .previous) (h .tag)) (h .switches))
+    (chain-good (lastTarget k) (k .switches) (all-getD GoodTag (k .previous) (length (k .switches)) (k .tag) (h .previous) (h .tag)) (h .switches))
     (lives-good (c .start) (k .tag) (movesOf c) (startHolders c) (countOf (matches (k .tag)) (startHolders c)) (moves-good c g)))
 
 -- ## Nations
 
-targets-good : (es : List Entry) → All GoodEntry es → All Tag (targets es)
-targets-good es q = all-join Tag (λ e. kindTarget (e .kind)) (λ e h. go (e .kind) (h .kind)) es q
+targets-good : (es : List Entry) → All GoodEntry es → All GoodTag (targets es)
+targets-good es q = all-join GoodTag (λ e. kindTarget (e .kind)) (λ e h. go (e .kind) (h .kind)) es q
   where
-    go : (k : Kind) → GoodKind k → All Tag (kindTarget k)
+    go : (k : Kind) → GoodKind k → All GoodTag (kindTarget k)
     go (switch t) h = (h, tt)
     go appeared h = tt
     go annexed h = tt
 
 pub record GoodNation (n : Nation) : Type 0 where
-  pub initial : Tag (n .initial)
-  pub latest : Tag (n .latest)
-  pub stored : Tag (n .stored)
+  pub initial : GoodTag (n .initial)
+  pub latest : GoodTag (n .latest)
+  pub stored : GoodTag (n .stored)
   pub entries : All GoodEntry (n .entries)
 
-pub wears-tag : (n : Nation) (day : Eu4Date) → GoodNation n → Tag (wears n day)
+pub wears-tag : (n : Nation) (day : Eu4Date) → GoodNation n → GoodTag (wears n day)
 unfolding wears
 wears-tag n day g =
     let es : List Entry = keep (λ e. notAfter (e .date) day) (n .entries) in
-    all-last Tag (targets es) (n .initial) (targets-good es (all-keep GoodEntry (λ e. notAfter (e .date) day) (n .entries) (g .entries))) (g .initial)
+    all-last GoodTag (targets es) (n .initial) (targets-good es (all-keep GoodEntry (λ e. notAfter (e .date) day) (n .entries) (g .entries))) (g .initial)
 
-nation-good : (c : Campaign) → GoodTags c → (k : Country) → GoodCountry k → GoodNation (nationOf c k)
+nation-good : (c : Campaign) → Sound c → (k : Country) → GoodCountry k → GoodNation (nationOf c k)
 nation-good c g k h =
-    let i : Tag (initialOf k) = initial-tag (k .switches) (k .previous) (k .tag) (h .switches) (h .previous) (h .tag) in
+    let i : GoodTag (initialOf k) = initial-tag (k .switches) (k .previous) (k .tag) (h .switches) (h .previous) (h .tag) in
     let es : All GoodEntry (entriesOf c k) = entries-good c k g h in
     record {
       initial = i;
-      latest = all-last Tag (targets (entriesOf c k)) (initialOf k) (targets-good (entriesOf c k) es) i;
+      latest = all-last GoodTag (targets (entriesOf c k)) (initialOf k) (targets-good (entriesOf c k) es) i;
       stored = h .tag;
       entries = es;
     }
 
-pub nations-good : (c : Campaign) → GoodTags c → All GoodNation (nationsOf c)
+pub nations-good : (c : Campaign) → Sound c → All GoodNation (nationsOf c)
 unfolding nationsOf listedCountries
 nations-good c g =
     let listed : Country → Bool = λ k. isMapped (c .countries) k && heldEver c k in

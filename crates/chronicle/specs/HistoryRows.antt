@@ -1,5 +1,5 @@
 -- 01, Players: history rows, written and read back, and when words are well shaped. Positions of words stand here and nowhere above.
-use mathlib.Core.Bool.{Bool, cond, _&&_}
+use mathlib.Core.Bool.{Bool, _&&_}
 use mathlib.Core.List.{List, [], _∷_, map}
 use mathlib.Core.Option.{Option, none, some}
 use Prim.Native.Nat.{ℕ, _+_}

@@ -16,13 +16,13 @@ use Rattle.chronicle.specs.Chronicle.{Kind, switch, appeared, annexed, E
 
 -- ## Spans
 
--- A SPAN: the nation wore this tag from the start date to the end date.
+-- A SPAN of a nation: a tag, and the start and end dates whose years bound the points that it takes of that tag's ledger row.
 pub record Span : Type 0 where
   pub tag : CountryTag
   pub start : Eu4Date
   pub end : Eu4Date
 
--- The span that is running: its tag and start, and whether Annexed came last.
+-- The span that is running while the entries are walked: its tag and start, and whether Annexed came last.
 pub record Running : Type 0 where
   pub tag : CountryTag
   pub start : Eu4Date

@@ -10,9 +10,6 @@ use Rattle.record.specs.Tags.{tagOf}
 abbrev pub ENG : CountryTag
 ENG = tagOf 69 78 71
 
-abbrev pub FRA : CountryTag
-FRA = tagOf 70 82 65
-
 abbrev pub GBR : CountryTag
 GBR = tagOf 71 66 82
 

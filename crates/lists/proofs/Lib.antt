@@ -2,3 +2,4 @@ pub mod BoolLaws
 pub mod TableLaws
 pub mod ListLaws
 pub mod ScanLaws
+pub mod WriteLaws

@@ -1,6 +1,6 @@
 -- Laws of lists: of all elements, of counts, of choosing and joining, of rows, and of lists that are in order by a number.
 use mathlib.Core.Path.{_≡_, refl, sym, ap, ap₂, _∙_}
-use mathlib.Core.Bool.{Bool, true, false, _&&_, _||_, true≢false, false≢true}
+use mathlib.Core.Bool.{Bool, true, false, _||_}
 use mathlib.Core.List.{List, [], _∷_, _++_, map, append-assoc}
 use mathlib.Core.Option.{some, Option·map, Option·none-ne-some, Option·some-injective}
 use Prim.Native.Nat.{ℕ, zero, suc, _+_, _*_, _≤_, _<_}
@@ -10,7 +10,7 @@ use borrow.Author.Tests.{leb-false, lt-leb}
 use lib.Dec.{leb}
 use lib.ListN.{length, getD, set, take, drop, getElem?, length-append}
 use lib.Seq.{take-at, drop-at, getD-take, getD-drop}
-use Rattle.lists.proofs.BoolLaws.{cases, clash, neither, both}
+use Rattle.lists.proofs.BoolLaws.{cases, neither}
 use Rattle.lists.specs.Lists.{All, keep, anyOf, allOf, countOf, leading, one, joinOf, lastOr, numbersFrom, rowsIn}
 
 -- ## All elements

@@ -1,2 +1,3 @@
 pub mod Computes
 pub mod TableLaws
+pub mod HostLaws

@@ -1,3 +1,4 @@
 pub mod Page
 pub mod Outcomes
 pub mod Table
+pub mod Host

@@ -7,6 +7,7 @@ use native.Mathlib.Omega.{arith}
 use borrow.Author.Tests.{eqb-true, ltb-false}
 use lib.Dec.{eqb, ltb}
 use lib.ListN.{length}
+use Rattle.lists.proofs.BoolLaws.{neither}
 use Rattle.record.specs.Head.{headOf}
 use Rattle.record.specs.Laid.{Laid}
 use Rattle.record.specs.Refusal.{refusal, opens, sizesAgree, fieldsNumber, tagTwice, idTwiceOrAbove}
@@ -31,15 +32,6 @@ pub number-false : (b : Bool) (n : ℕ) → 0 < n → cond b n 0 ≡ 0 → b ≡
 number-false true n p h = absurd (omega arith)
 number-false false n p h = refl
 
-or-false-left : (a b : Bool) → a || b ≡ false → a ≡ false
-or-false-left true b h = h
-or-false-left false b h = refl
-
-or-false-right : (a b : Bool) → a || b ≡ false → b ≡ false
-or-false-right true true h = h
-or-false-right true false h = refl
-or-false-right false b h = h
-
 pub accepted : (xs : List ℕ) → refusal xs ≡ 0 → Accepted xs
 unfolding refusal
 accepted xs h =
@@ -49,14 +41,14 @@ accepted xs h =
     let d = first-zero _ _ (c .1) in
     let e = first-zero _ _ (d .1) in
     let f = first-zero _ _ (e .1) in
-    let once = number-false (tagTwice xs || idTwiceOrAbove xs) 7 (omega arith) (e .0) in
+    let once = neither (tagTwice xs) (idTwiceOrAbove xs) (number-false (tagTwice xs || idTwiceOrAbove xs) 7 (omega arith) (e .0)) in
     record {
       opened = number-true (opens xs) 1 (omega arith) (a .0);
       version = eqb-true (headOf xs .version) 1 (number-true (eqb (headOf xs .version) 1) 2 (omega arith) (b .0));
       sizes = number-true (sizesAgree xs) 3 (omega arith) (c .0);
       fields = d .0;
-      tagsOnce = or-false-left (tagTwice xs) (idTwiceOrAbove xs) once;
-      idsOnce = or-false-right (tagTwice xs) (idTwiceOrAbove xs) once;
+      tagsOnce = once .0;
+      idsOnce = once .1;
       order = ltb-false (headOf xs .current .0) (headOf xs .start .0) (number-false (ltb (headOf xs .current .0) (headOf xs .start .0)) 8 (omega arith) (f .0));
     }
 

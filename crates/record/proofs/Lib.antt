@@ -11,3 +11,5 @@ pub mod HeadLaws
 pub mod AcceptLaws
 pub mod OpenedLaws
 pub mod BoundLaws
+pub mod ToldLaws
+pub mod SoundLaws

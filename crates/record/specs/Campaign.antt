@@ -6,7 +6,6 @@ use lib.IntN.{ℤ}
 use lib.ListN.{take, drop}
 use Rattle.record.specs.declared.tag.CountryTag.{CountryTag}
 use Rattle.record.specs.declared.date.Eu4Date.{Eu4Date}
-use Rattle.record.specs.declared.head.Head.{Head}
 use Rattle.record.specs.declared.rows.ProvinceId.{ProvinceId}
 use Rattle.record.specs.declared.rows.Switch.{Switch}
 use Rattle.record.specs.declared.rows.OwnerEvent.{OwnerEvent}
@@ -16,42 +15,51 @@ use Rattle.record.specs.Bytes.{bit, le16, tagAt}
 use Rattle.record.specs.Head.{headOf, countriesAt, previousAt, switchesAt, provincesAt, eventsAt, warsAt, warEventsAt, ledgersAt, pointsAt, stringsAt}
 use Rattle.record.specs.Rows.{rowsAt, PackedCountry, countryAt, switchAt, PackedProvince, provinceAt, ownerEventAt, warEventAt, PackedLedger, ledgerAt, pointAt, stringsFrom}
 
--- ## The sections, flat
+-- ## The sections, flat: each section's rows in file order, so many as the head says
 
+-- Countries.
 abbrev pub countryRows : List ℕ → List PackedCountry
 countryRows xs = rowsAt (countryAt xs) 12 xs (countriesAt (headOf xs)) (headOf xs .countries)
 
+-- Previous tags of all countries.
 abbrev pub previousTags : List ℕ → List CountryTag
 previousTags xs = rowsAt (tagAt xs) 3 xs (previousAt (headOf xs)) (headOf xs .previous)
 
+-- Switches of all countries.
 abbrev pub switchRows : List ℕ → List Switch
 switchRows xs = rowsAt (switchAt xs) 7 xs (switchesAt (headOf xs)) (headOf xs .switches)
 
+-- Provinces.
 abbrev pub provinceRows : List ℕ → List PackedProvince
 provinceRows xs = rowsAt (provinceAt xs) 7 xs (provincesAt (headOf xs)) (headOf xs .provinces)
 
+-- Owner events of all provinces.
 abbrev pub ownerEvents : List ℕ → List OwnerEvent
 ownerEvents xs = rowsAt (ownerEventAt xs) 7 xs (eventsAt (headOf xs)) (headOf xs .events)
 
--- A war's row is the count of its events.
+-- Wars: a war's row is the count of its events.
 abbrev pub warRows : List ℕ → List ℕ
 warRows xs = rowsAt (le16 xs) 2 xs (warsAt (headOf xs)) (headOf xs .wars)
 
+-- War events of all wars.
 abbrev pub warEvents : List ℕ → List WarEvent
 warEvents xs = rowsAt (warEventAt xs) 8 xs (warEventsAt (headOf xs)) (headOf xs .«war_events»)
 
+-- Ledger names.
 abbrev pub ledgerRows : List ℕ → List PackedLedger
 ledgerRows xs = rowsAt (ledgerAt xs) 5 xs (ledgersAt (headOf xs)) (headOf xs .ledgers)
 
+-- Points of all ledger names.
 abbrev pub points : List ℕ → List Point
 points xs = rowsAt (pointAt xs) 6 xs (pointsAt (headOf xs)) (headOf xs .points)
 
+-- Strings.
 abbrev pub strings : List ℕ → List (List ℕ)
 strings xs = stringsFrom xs (stringsAt (headOf xs)) (headOf xs .strings)
 
 -- ## Rows with what they own
 
--- A country's flags: bit 0 human, 1 was_player, 2 has_switched_nation.
+-- A country with its previous tags and switches. Its flags: bit 0 human, 1 was_player, 2 has_switched_nation.
 pub record Country : Type 0 where
   pub tag : CountryTag
   pub human : Bool
@@ -61,11 +69,13 @@ pub record Country : Type 0 where
   pub previous : List CountryTag
   pub switches : List Switch
 
+-- A province with its owner events.
 pub record Province : Type 0 where
   pub id : ProvinceId
   pub owner : CountryTag
   pub events : List OwnerEvent
 
+-- A ledger name with its points.
 pub record Ledger : Type 0 where
   pub tag : CountryTag
   pub points : List Point
@@ -100,7 +110,7 @@ groupLedgers (r ∷ rs) ps = record { tag = r .tag; points = take (r .points) ps
 
 -- ## The campaign
 
--- The record's flags: bit 0 ironman, bit 1 multiplayer.
+-- All that a record tells; a war is the list of its events. The record's flags: bit 0 ironman, bit 1 multiplayer.
 pub record Campaign : Type 0 where
   pub ironman : Bool
   pub multiplayer : Bool
@@ -112,6 +122,7 @@ pub record Campaign : Type 0 where
   pub ledgers : List Ledger
   pub strings : List (List ℕ)
 
+-- The campaign of a record's bytes.
 unfoldable pub campaignOf : List ℕ → Campaign
 campaignOf xs =
     record {

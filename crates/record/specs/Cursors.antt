@@ -4,8 +4,8 @@
 use mathlib.Core.Bool.{Bool, cond, _&&_}
 use mathlib.Core.List.{List, [], _∷_}
 use Prim.Native.Nat.{ℕ, _+_, _-_, _*_, min}
-use lib.Dec.{leb, ltb, eqb}
-use lib.ListN.{length, take, drop}
+use lib.Dec.{leb, ltb}
+use lib.ListN.{take, drop}
 use Rattle.record.specs.declared.tag.CountryTag.{CountryTag}
 use Rattle.record.specs.declared.rows.Switch.{Switch}
 use Rattle.record.specs.declared.rows.OwnerEvent.{OwnerEvent}

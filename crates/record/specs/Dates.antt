@@ -8,6 +8,7 @@ use Rattle.record.specs.declared.date.Eu4Date.{Eu4Date}
 use Rattle.record.specs.declared.date.Dated.{Dated}
 use Rattle.record.specs.declared.date.Dated.the-variants.{Date, NoDate}
 
+-- Its year, month and day.
 abbrev pub year : Eu4Date → ℕ
 year d = d .0 / 10000
 

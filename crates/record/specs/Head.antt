@@ -2,8 +2,7 @@
 use mathlib.Core.Bool.{Bool, _&&_}
 use mathlib.Core.List.{List}
 use Prim.Native.Nat.{ℕ, _+_, _*_}
-use lib.Dec.{leb, eqb}
-use lib.ListN.{length}
+use lib.Dec.{leb}
 use Rattle.record.specs.declared.head.Head.{Head}
 use Rattle.record.specs.Bytes.{byteAt, le16, le32, dateAt}
 

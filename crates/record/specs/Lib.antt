@@ -8,3 +8,4 @@ pub mod Campaign
 pub mod Refusal
 pub mod Cursors
 pub mod Opened
+pub mod Sound

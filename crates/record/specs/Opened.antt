@@ -34,6 +34,7 @@ abbrev pub Rows : List ℕ → Opened → Type 0
 Rows xs (Accepted r) = Tells xs r
 Rows xs (Refused n) = 0 < n
 
+-- What `open_record` promises.
 pub record RightlyOpened (xs : List ℕ) (r : Opened) : Type 0 where
   pub number : openedNumber r ≡ refusal xs
   pub rows : Rows xs r

@@ -1,8 +1,8 @@
 -- 01, Who can be refused, and by which number: the host that wrote the record. Checks run 1, 2, 3; then 4, 5, 6, 9, where the
 -- lowest offset wins; then 7, 8.
-use mathlib.Core.Bool.{Bool, true, false, cond, _&&_, _||_}
+use mathlib.Core.Bool.{Bool, cond, _&&_, _||_}
 use mathlib.Core.List.{List, [], _∷_, map}
-use Prim.Native.Nat.{ℕ, zero, suc, _+_}
+use Prim.Native.Nat.{ℕ, zero, suc}
 use lib.Dec.{leb, ltb, eqb}
 use lib.ListN.{length}
 use Rattle.lists.specs.Lists.{anyOf, sumOf, twice}
@@ -12,12 +12,11 @@ use Rattle.record.specs.declared.head.Head.{Head}
 use Rattle.record.specs.declared.rows.Switch.{Switch}
 use Rattle.record.specs.declared.rows.OwnerEvent.{OwnerEvent}
 use Rattle.record.specs.declared.rows.WarEvent.{WarEvent}
-use Rattle.record.specs.declared.rows.Point.{Point}
 use Rattle.record.specs.Tags.{isTag}
 use Rattle.record.specs.Dates.{goodDate, earlier}
-use Rattle.record.specs.Bytes.{byteAt, bit}
+use Rattle.record.specs.Bytes.{byteAt}
 use Rattle.record.specs.Head.{headOf, withinLimits, stringsAt}
-use Rattle.record.specs.Rows.{PackedCountry, PackedProvince, PackedLedger, stringsEnd}
+use Rattle.record.specs.Rows.{PackedCountry, stringsEnd}
 use Rattle.record.specs.Campaign.{countryRows, previousTags, switchRows, provinceRows, ownerEvents, warRows, warEvents, ledgerRows, points}
 
 -- The first of some numbers that refuses; 0 refuses nothing.
@@ -55,6 +54,7 @@ totalsAgree xs =
 unfoldable pub lengthAgrees : List ℕ → Bool
 lengthAgrees xs = eqb (stringsEnd xs (stringsAt (headOf xs)) (headOf xs .strings)) (length xs)
 
+-- Counts within their limits, totals that agree, and the length that the rows need.
 unfoldable pub sizesAgree : List ℕ → Bool
 sizesAgree xs = withinLimits (headOf xs) && totalsAgree xs && lengthAgrees xs
 

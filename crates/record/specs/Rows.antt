@@ -1,5 +1,5 @@
 -- 01, The packed record: the rows of each section, as fields with names. Offsets stand here and in Head, and nowhere above.
-use mathlib.Core.Bool.{Bool, cond}
+use mathlib.Core.Bool.{cond}
 use mathlib.Core.List.{List, [], _∷_}
 use Prim.Native.Nat.{ℕ, zero, suc, _+_}
 use lib.Dec.{leb}

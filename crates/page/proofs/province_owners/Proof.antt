@@ -1,0 +1,58 @@
+-- The answer by its case: a count of at most 60,000 rows is the same signed number.
+use mathlib.Core.Path.{sym, ap, _∙_}
+use Prim.Native.Nat.{_≤_}
+use native.Mathlib.Omega.{arith}
+use mir.Syntax.{w64}
+use mir.Facts.{toZ-pos, toZ-ofZ}
+use Rattle.chronicle.specs.Cases.{ownersAnswer, ownersOutcome}
+use Rattle.chronicle.proofs.OutcomeLaws.{owners-few}
+use Rattle.page.proofs.HostLaws.{returns-of}
+use borrow.Author.Needs.{needs}
+use Rattle.page.proofs.province_owners.Statement.{statement}
+use Rattle.page.proofs.province_owners.Tie as tie
+
+-- Not many rows were written.
+few : (c : tie.After-known-told) → c .before .n .given .0 .0 ≤ 60000
+few c =
+    owners-few _ _ _ (sym (ap ownersAnswer (c .before .n .given .1)) ∙ ap (λ o. o .answer) (c .before .before .before .before .before .province-owners .ensures))
+
+province-owners-requires : tie.Need-province-owners-requires
+province-owners-requires c κs = search needs
+
+enum-known-n : tie.Need-enum-known-n
+enum-known-n c = search needs
+
+cast-result : tie.Need-cast-result
+cast-result c = omega (arith, few c)
+
+enum-known-number : tie.Need-enum-known-number
+enum-known-number c = search needs
+
+minus-requires : tie.Need-minus-requires
+minus-requires c κs = search needs
+
+same-length : tie.Need-same-length
+same-length c = search needs
+
+returns : tie.Need-returns
+returns c = returns-of (sym (ap (λ r. ownersOutcome r (c .before .before .before .before .before .province-owners .last .1 .0)) (c .before .n .given .1)) ∙ c .before .before .before .before .before .province-owners .ensures) (toZ-pos w64 (omega (arith, few c)))
+
+same-length-2 : tie.Need-same-length-2
+same-length-2 c = search needs
+
+returns-2 : tie.Need-returns-2
+returns-2 c = returns-of (sym (ap (λ r. ownersOutcome r (c .before .before .before .before .before .before .province-owners .last .1 .0)) (c .before .before .number .given .1)) ∙ c .before .before .before .before .before .before .province-owners .ensures) (toZ-ofZ {w = w64} (record { sfits = c .minus .ok }) ∙ c .minus .ensures)
+
+pub province-owners-spec : {M : Type 1} → statement M
+province-owners-spec =
+    tie.close
+    (tie.spec
+    province-owners-requires
+    enum-known-n
+    cast-result
+    enum-known-number
+    minus-requires
+    same-length
+    returns
+    same-length-2
+    returns-2)

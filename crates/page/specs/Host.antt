@@ -1,0 +1,34 @@
+-- 01, Page: the C functions that the host calls. An outcome comes back as one signed number and the lent slice.
+use mathlib.Core.Path.{_≡_}
+use mathlib.Core.List.{List, [], _∷_}
+use Prim.Native.Nat.{ℕ}
+use lib.IntN.{ℤ, pos, negℤ}
+use lib.ListN.{length}
+use Rattle.chronicle.specs.Lent.{Answer, refused, gives, written, fits, roomNumber, Outcome, outcome}
+use Rattle.chronicle.specs.Changes.{Run}
+use Rattle.chronicle.specs.Outcomes.{callEventsOn}
+
+-- The number that is given, or minus the refusal number.
+abbrev pub returned : Answer ℕ → ℤ
+returned (gives n) = pos n
+returned (refused n) = negℤ (pos n)
+
+-- What a call returns and leaves in the slice that it was lent.
+pub record Returns (o : Outcome ℕ (List ℕ)) (r : ℤ) (after : List ℕ) : Type 0 where
+  pub answer : r ≡ returned (o .answer)
+  pub cells : after ≡ o .memory
+
+-- ## `events_on`, with the run in a lent slice
+
+-- Two words: where the run begins, and its length.
+abbrev pub runWords : Run → List ℕ
+runWords run = run .first ∷ run .count ∷ []
+
+-- The number of words, and the slice with them in it: refused as before, or by 10.
+abbrev pub inCells : Answer Run → List ℕ → Outcome ℕ (List ℕ)
+inCells (refused n) before = record { answer = refused n; memory = before }
+inCells (gives run) before =
+    outcome (roomNumber (fits (runWords run) before)) (length (runWords run)) (written (runWords run) before) before
+
+unfoldable pub callEventsOnCells : List ℕ → ℕ → List ℕ → Outcome ℕ (List ℕ)
+callEventsOnCells xs date before = inCells (callEventsOn xs date) before

@@ -1,0 +1,68 @@
+-- What the campaign of an accepted record satisfies, for the layer above: if `refusal xs` is 0, then `campaignOf xs` is `Sound`
+-- (proofs/SoundLaws). These are the rules behind 4 to 9, told of rows instead of bytes.
+use mathlib.Core.Path.{_≡_}
+use mathlib.Core.Bool.{true, false}
+use mathlib.Core.List.{map}
+use Prim.Native.Nat.{ℕ, _≤_}
+use lib.ListN.{length}
+use Rattle.lists.specs.Lists.{All, twice}
+use Rattle.record.specs.declared.tag.CountryTag.{CountryTag}
+use Rattle.record.specs.declared.date.Eu4Date.{Eu4Date}
+use Rattle.record.specs.declared.rows.Switch.{Switch}
+use Rattle.record.specs.declared.rows.OwnerEvent.{OwnerEvent}
+use Rattle.record.specs.declared.rows.WarEvent.{WarEvent}
+use Rattle.record.specs.Tags.{isTag}
+use Rattle.record.specs.Dates.{goodDate}
+use Rattle.record.specs.Campaign.{Country, Province, Ledger, Campaign}
+
+-- 4 and 5: the tag is a tag, the date is good.
+abbrev pub GoodTag : CountryTag → Type 0
+GoodTag t = isTag t ≡ true
+
+abbrev pub GoodDate : Eu4Date → Type 0
+GoodDate d = goodDate d ≡ true
+
+-- A switch with a good date and tag.
+pub record GoodSwitch (s : Switch) : Type 0 where
+  pub date : GoodDate (s .date)
+  pub from : GoodTag (s .from)
+
+-- A country with good tags and switches.
+pub record GoodCountry (k : Country) : Type 0 where
+  pub tag : GoodTag (k .tag)
+  pub previous : All GoodTag (k .previous)
+  pub switches : All GoodSwitch (k .switches)
+
+-- An owner event with a good date and tag.
+pub record GoodOwnerEvent (e : OwnerEvent) : Type 0 where
+  pub date : GoodDate (e .date)
+  pub tag : GoodTag (e .tag)
+
+-- A province with a good owner and good events. 7: its id is not above P.
+pub record GoodProvince (P : ℕ) (p : Province) : Type 0 where
+  pub id : p .id .0 ≤ P
+  pub owner : GoodTag (p .owner)
+  pub events : All GoodOwnerEvent (p .events)
+
+-- A war event with a good date and tag. 6: its kind is 0 to 4.
+pub record GoodWarEvent (e : WarEvent) : Type 0 where
+  pub date : GoodDate (e .date)
+  pub kind : e .kind ≤ 4
+  pub tag : GoodTag (e .tag)
+
+-- A ledger name that is a tag. 9: no year of its points is above 9999.
+pub record GoodLedger (l : Ledger) : Type 0 where
+  pub tag : GoodTag (l .tag)
+  pub points : All (λ p. p .year ≤ 9999) (l .points)
+
+-- All rows are good; 7: no tag and no id stands twice; 8: the current date is not before the start date.
+pub record Sound (c : Campaign) : Type 0 where
+  pub start : GoodDate (c .start)
+  pub current : GoodDate (c .current)
+  pub order : c .start .0 ≤ c .current .0
+  pub countries : All GoodCountry (c .countries)
+  pub tagsOnce : twice (map (λ k. k .tag .0) (c .countries)) ≡ false
+  pub provinces : All (GoodProvince (length (c .provinces))) (c .provinces)
+  pub idsOnce : twice (map (λ p. p .id .0) (c .provinces)) ≡ false
+  pub wars : All (λ es. All GoodWarEvent es) (c .wars)
+  pub ledgers : All GoodLedger (c .ledgers)
