@@ -163,7 +163,7 @@ impl Target {
     /// assert!(target.aimed_at(Refusal::BadTag).len() > 100);
     /// ```
     pub fn aimed_at(&self, refusal: Refusal) -> &[Damage] {
-        &self.writes[usize::from(refusal.number()) - 1]
+        self.writes.get(usize::from(refusal.number()) - 1).map_or(&[], Vec::as_slice)
     }
 
     /// Every write, every cut, some extensions and every exchange of neighbours.
@@ -390,7 +390,7 @@ mod tests {
         let mut misses = [0; 9];
         for _ in 0..40 {
             let target = Target::new(pack(&campaign(&mut random, &Knobs::small())));
-            for aim in Refusal::ALL {
+            for aim in Refusal::ALL.into_iter().filter(|aim| aim.is_of_record()) {
                 for damage in target.aimed_at(aim) {
                     let mut record = target.record().to_vec();
                     damage.apply(&mut record);

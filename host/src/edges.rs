@@ -2,8 +2,9 @@
 //!
 //! The numbers are written here by hand; neither checker is asked.
 
+use crate::calendar::DAYS;
 use crate::damage::{Damage, MONTH_DAYS, TAG_EDGES, YEARS};
-use crate::generate::{sized, DAYS};
+use crate::generate::sized;
 use crate::layout::{Counts, HEAD_COUNTS};
 use crate::pack::{
     pack, Campaign, Country, Date, LedgerName, Point, Province, Switch, Tag, War, WarEvent, NONE,

@@ -4,6 +4,7 @@
 
 use std::collections::BTreeSet;
 
+use crate::calendar::DAYS;
 use crate::layout::{Counts, LIMITS};
 use crate::pack::{
     Campaign, Country, Date, LedgerName, OwnerEvent, Point, Province, Switch, Tag, War, WarEvent,
@@ -12,9 +13,6 @@ use crate::pack::{
 
 /// The bytes a tag may have.
 pub const TAG_BYTES: &[u8; 63] = b"-0123456789ABCDEFGHIJKLMNOPQRSTUVWXYZabcdefghijklmnopqrstuvwxyz";
-
-/// Days of each month, January first.
-pub const DAYS: [u32; 12] = [31, 28, 31, 30, 31, 30, 31, 31, 30, 31, 30, 31];
 
 /// A small seeded generator (splitmix64): the same seed gives the same runs everywhere.
 #[derive(Clone, Debug)]
@@ -378,7 +376,7 @@ impl Pools {
 }
 
 /// A good date, at the ends of the calendar and of months more often than chance would have it.
-fn draw_date(random: &mut Random) -> Date {
+pub(crate) fn draw_date(random: &mut Random) -> Date {
     let year = match random.below(16) {
         0 => 1,
         1 => 9999,
@@ -402,11 +400,11 @@ fn spread(total: usize, rows: usize) -> Vec<usize> {
     (0..rows).map(|row| total * (row + 1) / rows - total * row / rows).collect()
 }
 
-fn repeat<T>(times: usize, make: impl FnMut() -> T) -> Vec<T> {
+pub(crate) fn repeat<T>(times: usize, make: impl FnMut() -> T) -> Vec<T> {
     std::iter::repeat_with(make).take(times).collect()
 }
 
-fn shuffle<T>(random: &mut Random, items: &mut [T]) {
+pub(crate) fn shuffle<T>(random: &mut Random, items: &mut [T]) {
     for last in (1..items.len()).rev() {
         items.swap(last, random.below(last + 1));
     }

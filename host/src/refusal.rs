@@ -1,7 +1,7 @@
 use std::error::Error;
 use std::fmt;
 
-/// Why a call was refused, by 01's numbers. Numbers 10 and up are not the record's.
+/// Why a call was refused, by 01's numbers. Those from [`Refusal::NoRoom`] on are not the record's.
 #[derive(Clone, Copy, Debug, PartialEq, Eq, PartialOrd, Ord, Hash)]
 #[non_exhaustive]
 #[repr(u8)]
@@ -24,11 +24,19 @@ pub enum Refusal {
     DatesReversed = 8,
     /// A ledger year above 9999.
     LedgerYear = 9,
+    /// An output slice shorter than its answer.
+    NoRoom = 10,
+    /// Chronicle or history rows that are not well shaped.
+    NotWellShaped = 11,
+    /// A question about a bad tag or date.
+    BadQuestion = 12,
+    /// A nation number that is not in the list.
+    NoSuchNation = 13,
 }
 
 impl Refusal {
     /// Every refusal, in the order of the numbers.
-    pub const ALL: [Refusal; 9] = [
+    pub const ALL: [Refusal; 13] = [
         Refusal::NotARecord,
         Refusal::UnknownVersion,
         Refusal::SizesDisagree,
@@ -38,7 +46,23 @@ impl Refusal {
         Refusal::Repeated,
         Refusal::DatesReversed,
         Refusal::LedgerYear,
+        Refusal::NoRoom,
+        Refusal::NotWellShaped,
+        Refusal::BadQuestion,
+        Refusal::NoSuchNation,
     ];
+
+    /// Those that are about the record: numbers 1 to 9.
+    ///
+    /// ```
+    /// use chronicle_host::Refusal;
+    ///
+    /// assert!(Refusal::BadTag.is_of_record());
+    /// assert!(!Refusal::NoRoom.is_of_record());
+    /// ```
+    pub fn is_of_record(self) -> bool {
+        self.number() <= Refusal::LedgerYear.number()
+    }
 
     /// The refusal's number in 01.
     ///
@@ -78,6 +102,10 @@ impl Refusal {
             }
             Refusal::DatesReversed => "the current date lies before the start date",
             Refusal::LedgerYear => "a ledger year is above 9999",
+            Refusal::NoRoom => "a lent slice is shorter than its answer",
+            Refusal::NotWellShaped => "the lent chronicle or history rows are not well shaped",
+            Refusal::BadQuestion => "the tag or date asked about is none",
+            Refusal::NoSuchNation => "no nation in the list has this number",
         }
     }
 }
@@ -100,6 +128,6 @@ mod tests {
             assert_eq!(usize::from(refusal.number()), place + 1);
             assert_eq!(Refusal::from_number(refusal.number()), Some(refusal));
         }
-        assert_eq!(Refusal::from_number(10), None);
+        assert_eq!(Refusal::from_number(14), None);
     }
 }

@@ -1,0 +1,129 @@
+//! Compares the Rust, the model and the proved functions on many campaigns.
+//!
+//! `compare [CAMPAIGNS] [SEED] [EXTREMES]`: so many small campaigns (default 200,000), a quarter
+//! as many damaged records, and so many of the ten campaigns at 01's limits (default all). One
+//! difference ends the run; the smallest record found to show it is in difference.atl.
+
+use std::process::ExitCode;
+
+#[cfg(found)]
+fn main() -> ExitCode {
+    run::main()
+}
+
+#[cfg(not(found))]
+fn main() -> ExitCode {
+    chronicle_oracle::not_found()
+}
+
+#[cfg(found)]
+mod run {
+    use std::env;
+    use std::process::ExitCode;
+
+    use chronicle_host::adversary;
+    use chronicle_host::cases::Cases;
+    use chronicle_host::extremes;
+    use chronicle_host::generate::Random;
+    use chronicle_host::pack::{pack, Campaign};
+    use chronicle_host::shrink::shrink;
+    use chronicle_host::trial;
+    use chronicle_host::unpack::unpack;
+    use chronicle_oracle::compare::compare;
+    use chronicle_oracle::seen::Seen;
+
+    const DIFFERENCE: &str = "difference.atl";
+
+    /// Days and tags asked about at the limits, where there are too many to ask about all.
+    const AT_LIMITS: usize = 12;
+
+    /// Shorter runs may miss a hard case by chance.
+    const ENOUGH: u64 = 10_000;
+
+    pub fn main() -> ExitCode {
+        let Some([campaigns, seed, extremes]) = arguments() else {
+            eprintln!("usage: compare [CAMPAIGNS] [SEED] [EXTREMES]");
+            return ExitCode::FAILURE;
+        };
+        println!("the Rust, the model, and of the library: {}", trial::TRIED.join(", "));
+        match all(campaigns, seed, extremes as usize) {
+            Ok(()) => ExitCode::SUCCESS,
+            Err(message) => {
+                eprintln!("{message}");
+                ExitCode::FAILURE
+            }
+        }
+    }
+
+    fn arguments() -> Option<[u64; 3]> {
+        let mut given = [200_000, 1, extremes::ALL.len() as u64];
+        let texts: Vec<String> = env::args().skip(1).collect();
+        if texts.len() > given.len() {
+            return None;
+        }
+        for (number, text) in given.iter_mut().zip(texts) {
+            *number = text.parse().ok()?;
+        }
+        Some(given)
+    }
+
+    fn all(campaigns: u64, seed: u64, extremes: usize) -> Result<(), String> {
+        let mut seen = Seen::default();
+        small(campaigns, seed, &mut seen)?;
+        damaged(campaigns / 4, seed, &mut seen)?;
+        println!("{seen}");
+        let never = seen.never();
+        if campaigns >= ENOUGH && !never.is_empty() {
+            return Err(format!("never met, so the run says too little: {}", never.join("; ")));
+        }
+        for (name, campaign) in extremes::ALL.iter().take(extremes) {
+            compare(&campaign(), seed, AT_LIMITS, &mut Seen::default())
+                .map_err(|difference| format!("{name}: {difference}"))?;
+            println!("at the limits, {name}: no difference");
+        }
+        Ok(())
+    }
+
+    fn small(campaigns: u64, seed: u64, seen: &mut Seen) -> Result<(), String> {
+        let mut random = Random::new(seed);
+        for number in 0..campaigns {
+            let campaign = adversary::draw(&mut random);
+            compare(&campaign, number, usize::MAX, seen)
+                .map_err(|difference| smallest(campaign, number, &difference))?;
+        }
+        println!("{campaigns} small campaigns, seed {seed}: no difference");
+        Ok(())
+    }
+
+    /// What 01 refuses, the Rust has no say in; what it accepts, all are asked about again.
+    fn damaged(records: u64, seed: u64, seen: &mut Seen) -> Result<(), String> {
+        let mut cases = Cases::new(seed);
+        for number in 0..records {
+            let record = &cases.draw().record;
+            match unpack(record) {
+                Ok(campaign) => compare(&campaign, number, AT_LIMITS, seen)
+                    .map_err(|difference| smallest(campaign, number, &difference))?,
+                Err(refusal) => {
+                    trial::refused(record, refusal).map_err(|error| stored(record, &error))?;
+                    seen.add("record: refused", 1);
+                }
+            }
+        }
+        println!("{records} damaged records, seed {seed}: no difference");
+        Ok(())
+    }
+
+    fn smallest(campaign: Campaign, seed: u64, difference: &str) -> String {
+        let differs = |c: &Campaign| compare(c, seed, usize::MAX, &mut Seen::default()).err();
+        let small = shrink(campaign, |campaign| differs(campaign).is_some());
+        let difference = differs(&small).unwrap_or_else(|| difference.to_string());
+        stored(&pack(&small), &format!("{difference}\nin {small:#?}"))
+    }
+
+    fn stored(record: &[u8], message: &str) -> String {
+        match std::fs::write(DIFFERENCE, record) {
+            Ok(()) => format!("{message}\nthe record is in {DIFFERENCE}"),
+            Err(error) => format!("{message}\n{DIFFERENCE} could not be written: {error}"),
+        }
+    }
+}

@@ -1,0 +1,248 @@
+//! One campaign, three times: the Rust, the model written from 01, and the proved functions.
+//!
+//! The Rust is held against the model, row by row, and the proved functions, with all their
+//! cells, against the model that was just found equal to the Rust. Holder and held cells, which
+//! the Rust does not give, rest on the model alone.
+
+use std::fmt::Debug;
+
+use chronicle_host::adversary::{days_of, tags_of};
+use chronicle_host::generate::Random;
+use chronicle_host::pack::{pack, Campaign, Date, Tag};
+use chronicle_host::rows::{Change, Entry, History, Kind, Nation, Run};
+use chronicle_host::{model, trial};
+use eu4save::query::{NationEvents, PlayerHistory, ProvinceOwners};
+
+use crate::rust::{self, Named, Resolver, Rust};
+use crate::seen::Seen;
+
+/// The Rust's resolver copies a nation's entries for each of its switches; a list that would make
+/// more copies than this is not given to it.
+const MOST_COPIES: usize = 20_000_000;
+
+/// Compares everything on a campaign; at most so many days and tags are asked about. `Err` says
+/// what differs.
+///
+/// ```
+/// use chronicle_host::sample;
+/// use chronicle_oracle::{compare::compare, seen::Seen};
+///
+/// let mut seen = Seen::default();
+/// assert_eq!(compare(&sample::worked(), 1, usize::MAX, &mut seen), Ok(()));
+/// ```
+pub fn compare(campaign: &Campaign, seed: u64, most: usize, seen: &mut Seen) -> Result<(), String> {
+    let mut random = Random::new(seed);
+    let days = days_of(&mut random, campaign);
+    let days = some_of(&mut random, days, most);
+    let tags = some_of(&mut random, tags_of(campaign), most);
+
+    let rust = Rust::of(campaign);
+    let owners = rust.owners();
+    let chronicle = model::chronicle(campaign);
+    rows_equal("changes", &rust::changes(&owners), &chronicle.changes)?;
+    let runs = runs(&owners, &chronicle.changes, &days)?;
+    rows_equal("nations", &rust.nations(&owners), &chronicle.nations)?;
+    seen.note(campaign, &chronicle);
+    seen.add("answer: events_on", runs.len());
+
+    let any = any_nations(&mut random, &tags, &days);
+    let mut asked = Asked { campaign, rust, days, tags, most, seen };
+    asked.about(&chronicle.nations)?;
+    asked.about(&any)?;
+    trial::accepted(&pack(campaign), &chronicle, &runs)
+}
+
+/// A sample of the list, or all of it.
+fn some_of<T: Copy>(random: &mut Random, list: Vec<T>, most: usize) -> Vec<T> {
+    if list.len() <= most {
+        return list;
+    }
+    (0..most).map(|_| random.pick(&list)).collect()
+}
+
+fn runs(
+    owners: &ProvinceOwners,
+    changes: &[Change],
+    days: &[Date],
+) -> Result<Vec<(Date, Run)>, String> {
+    let mut runs = Vec::new();
+    for &day in days {
+        let run = model::events_on(changes, day);
+        equal(|| format!("events_on {day}"), &rust::events_on(owners, day), &run)?;
+        runs.push((day, run));
+    }
+    Ok(runs)
+}
+
+/// A list of nations that no record gave: resolver, bookings, ledger and histories take any.
+fn any_nations(random: &mut Random, tags: &[Tag], days: &[Date]) -> Vec<Nation> {
+    let entry = |random: &mut Random| Entry {
+        date: random.pick(days),
+        kind: match random.below(5) {
+            0 => Kind::Appeared,
+            1 => Kind::Annexed,
+            _ => Kind::Switch(random.pick(tags)),
+        },
+    };
+    let nation = |random: &mut Random| {
+        let entries = random.below(6);
+        Nation {
+            initial: random.pick(tags),
+            latest: random.pick(tags),
+            stored: random.pick(tags),
+            entries: (0..entries).map(|_| entry(random)).collect(),
+        }
+    };
+    let nations = random.below(5);
+    (0..nations).map(|_| nation(random)).collect()
+}
+
+/// What is asked about a list of nations.
+struct Asked<'a> {
+    campaign: &'a Campaign,
+    rust: Rust,
+    days: Vec<Date>,
+    tags: Vec<Tag>,
+    most: usize,
+    seen: &'a mut Seen,
+}
+
+impl Asked<'_> {
+    fn about(&mut self, nations: &[Nation]) -> Result<(), String> {
+        let theirs: Vec<NationEvents> = nations.iter().map(rust::nation_events).collect();
+        if copies(nations) <= MOST_COPIES {
+            self.resolver(nations, &Resolver::of(&theirs))?;
+            self.bookings(nations, &theirs)?;
+        }
+        self.ledgers(nations, &theirs)?;
+        if self.campaign.strings.iter().all(|string| std::str::from_utf8(string).is_ok()) {
+            self.players()?;
+            self.histories(nations, &theirs)?;
+        }
+        Ok(())
+    }
+
+    fn resolver(&mut self, nations: &[Nation], theirs: &Resolver) -> Result<(), String> {
+        let mut found = 0;
+        for &tag in &self.tags {
+            let ours = model::initial(nations, tag);
+            equal(|| format!("initial {tag:?}"), &theirs.initial(tag), &ours)?;
+            for &day in &self.days {
+                let ours = model::initial_at(nations, day, tag);
+                let what = || format!("initial {tag:?} set to {day}");
+                equal(what, &theirs.initial_at(day, tag), &ours)?;
+                found += self.resolver_on(nations, theirs, tag, day)?;
+            }
+        }
+        self.seen.add("answer: resolver, not none", found);
+        Ok(())
+    }
+
+    /// Plain and set to each day; says how often there was an answer.
+    fn resolver_on(
+        &self,
+        nations: &[Nation],
+        theirs: &Resolver,
+        tag: Tag,
+        date: Date,
+    ) -> Result<usize, String> {
+        let ours = model::resolve(nations, tag, date);
+        let mut found = usize::from(ours.is_some());
+        equal(|| format!("resolve {tag:?} on {date}"), &theirs.resolve(tag, date), &ours)?;
+        for &day in &self.days {
+            let ours = model::resolve_at(nations, day, tag, date);
+            let what = || format!("resolve {tag:?} on {date} set to {day}");
+            equal(what, &theirs.resolve_at(day, tag, date), &ours)?;
+            found += usize::from(ours.is_some());
+        }
+        Ok(found)
+    }
+
+    fn bookings(&mut self, nations: &[Nation], theirs: &[NationEvents]) -> Result<(), String> {
+        let ours = model::bookings(self.campaign, nations);
+        self.seen.add("row: booking", ours.len());
+        rows_equal("bookings", &self.rust.bookings(theirs), &ours)
+    }
+
+    fn ledgers(&mut self, nations: &[Nation], theirs: &[NationEvents]) -> Result<(), String> {
+        for (ours, theirs) in nations.iter().zip(theirs).take(self.most) {
+            let ours = model::ledger(self.campaign, ours);
+            self.seen.add("row: ledger point", ours.len());
+            rows_equal("ledger", &self.rust.ledger(theirs), &ours)?;
+        }
+        Ok(())
+    }
+
+    fn players(&mut self) -> Result<(), String> {
+        let ours = model::players(self.campaign);
+        let named = |player: &chronicle_host::rows::Player| -> Named {
+            (self.name(player.name), player.tag)
+        };
+        let ours: Vec<Named> = ours.iter().map(named).collect();
+        self.seen.add("row: player", ours.len());
+        rows_equal("players", &self.rust.players(), &ours)
+    }
+
+    fn histories(&mut self, nations: &[Nation], theirs: &[NationEvents]) -> Result<(), String> {
+        let ours = model::histories(self.campaign, nations);
+        let start = model::starting_country(&ours, nations);
+        let theirs = self.rust.histories(theirs);
+        self.seen.add("row: history", ours.len());
+        self.seen.add("answer: starting country, not none", usize::from(start.is_some()));
+        self.seen.add("row: history with a leftover's initial", taken(&ours, nations));
+        let ours: Vec<_> = ours.iter().map(|history| self.told(history, nations)).collect();
+        rows_equal("histories", &theirs.iter().map(told_by_rust).collect::<Vec<_>>(), &ours)?;
+        let what = || "starting country".to_string();
+        equal(what, &self.rust.starting_country(&theirs), &start)
+    }
+
+    fn name(&self, number: usize) -> String {
+        String::from_utf8_lossy(&self.campaign.strings[number]).into_owned()
+    }
+
+    /// A history as the Rust tells it, with its entries and names in place of their numbers.
+    fn told(&self, history: &History, nations: &[Nation]) -> Told {
+        let entries = history.nation.map_or(&[][..], |number| &nations[number].entries);
+        let nation = Nation {
+            initial: history.initial,
+            latest: history.latest,
+            stored: history.stored,
+            entries: entries.to_vec(),
+        };
+        (nation, history.human, history.names.iter().map(|&name| self.name(name)).collect())
+    }
+}
+
+type Told = (Nation, bool, Vec<String>);
+
+fn told_by_rust(history: &PlayerHistory) -> Told {
+    (rust::nation(&history.history), history.is_human, history.player_names.clone())
+}
+
+fn taken(histories: &[History], nations: &[Nation]) -> usize {
+    let own = |history: &History| history.nation.map_or(history.stored, |n| nations[n].initial);
+    histories.iter().filter(|history| history.initial != own(history)).count()
+}
+
+fn copies(nations: &[Nation]) -> usize {
+    nations.iter().map(|nation| nation.entries.len() * nation.entries.len()).sum()
+}
+
+fn equal<T: PartialEq + Debug>(
+    what: impl Fn() -> String,
+    theirs: &T,
+    ours: &T,
+) -> Result<(), String> {
+    if theirs == ours {
+        return Ok(());
+    }
+    Err(format!("{}: the Rust gives {theirs:?}, the model {ours:?}", what()))
+}
+
+/// Says which row differs first.
+fn rows_equal<T: PartialEq + Debug>(what: &str, theirs: &[T], ours: &[T]) -> Result<(), String> {
+    for row in 0..theirs.len().max(ours.len()) {
+        equal(|| format!("{what}, row {row}"), &theirs.get(row), &ours.get(row))?;
+    }
+    Ok(())
+}

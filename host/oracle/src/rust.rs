@@ -1,0 +1,317 @@
+//! The Rust's answers, as the rows of 01.
+
+use chronicle_host::pack::{Campaign, Date, Tag};
+use chronicle_host::rows::{Booking, Change, Entry, Kind, LedgerRow, Nation, Resolved, Run};
+use eu4save::query::{
+    NationEvent, NationEventKind, NationEvents, PlayerHistory, ProvinceOwnerChange, ProvinceOwners,
+    Query,
+};
+use eu4save::{CountryTag, TagData, TagResolver};
+
+use crate::save::{self, save};
+
+/// The Rust with a campaign loaded.
+#[derive(Debug)]
+pub struct Rust {
+    query: Query,
+}
+
+/// A player, by the text of the name: the Rust does not number them.
+pub type Named = (String, Tag);
+
+impl Rust {
+    /// Loads a campaign.
+    ///
+    /// ```
+    /// use chronicle_host::sample;
+    /// use chronicle_oracle::rust::Rust;
+    ///
+    /// Rust::of(&sample::worked());
+    /// ```
+    pub fn of(campaign: &Campaign) -> Rust {
+        Rust { query: Query::from_save(save(campaign)) }
+    }
+
+    /// The Rust's own answer, for what is asked of it next and for its time.
+    ///
+    /// ```
+    /// use chronicle_host::sample;
+    /// use chronicle_oracle::rust::Rust;
+    ///
+    /// assert_eq!(Rust::of(&sample::worked()).owners().changes.len(), 2);
+    /// ```
+    pub fn owners(&self) -> ProvinceOwners {
+        self.query.province_owners()
+    }
+
+    /// The Rust's own answer, in whatever order its hash map had.
+    ///
+    /// ```
+    /// use chronicle_host::sample;
+    /// use chronicle_oracle::rust::Rust;
+    ///
+    /// let rust = Rust::of(&sample::worked());
+    /// assert_eq!(rust.nation_events(&rust.owners()).len(), 2);
+    /// ```
+    pub fn nation_events(&self, owners: &ProvinceOwners) -> Vec<NationEvents> {
+        self.query.nation_events(owners)
+    }
+
+    /// The nations by the bytes of their initial, which no two share.
+    ///
+    /// ```
+    /// use chronicle_host::{model, sample};
+    /// use chronicle_oracle::rust::Rust;
+    ///
+    /// let rust = Rust::of(&sample::worked());
+    /// let nations = rust.nations(&rust.owners());
+    /// assert_eq!(nations, model::chronicle(&sample::worked()).nations);
+    /// ```
+    pub fn nations(&self, owners: &ProvinceOwners) -> Vec<Nation> {
+        let mut nations: Vec<Nation> = self.nation_events(owners).iter().map(nation).collect();
+        nations.sort_by_key(|nation| nation.initial);
+        nations
+    }
+
+    /// The rows of all wars, numbered from 0.
+    ///
+    /// ```
+    /// use chronicle_host::sample;
+    /// use chronicle_oracle::rust::Rust;
+    ///
+    /// assert!(Rust::of(&sample::worked()).bookings(&[]).is_empty());
+    /// ```
+    pub fn bookings(&self, nations: &[NationEvents]) -> Vec<Booking> {
+        let wars = self.query.resolved_war_participants(&TagResolver::create(nations));
+        let mut bookings = Vec::new();
+        for (war, participants) in wars.iter().map(|war| &war.participants).enumerate() {
+            let row = |p: &eu4save::query::ResolvedWarParticipant| Booking {
+                war,
+                tag: bytes(p.tag),
+                stored: bytes(p.stored),
+            };
+            bookings.extend(participants.iter().map(row));
+        }
+        bookings
+    }
+
+    /// The ledger whose values the Rust leaves unaltered.
+    ///
+    /// ```
+    /// use chronicle_host::sample;
+    /// use chronicle_oracle::rust::Rust;
+    ///
+    /// let rust = Rust::of(&sample::worked());
+    /// let nations = rust.nation_events(&rust.owners());
+    /// assert!(rust.ledger(&nations[0]).is_empty());
+    /// ```
+    pub fn ledger(&self, nation: &NationEvents) -> Vec<LedgerRow> {
+        let points = self.query.nation_size_statistics_ledger(nation);
+        let row = |p: &eu4save::query::LedgerPoint| LedgerRow {
+            tag: bytes(p.tag),
+            year: p.year,
+            value: p.value,
+        };
+        points.iter().map(row).collect()
+    }
+
+    /// The players by name.
+    ///
+    /// ```
+    /// use chronicle_host::sample;
+    /// use chronicle_oracle::rust::Rust;
+    ///
+    /// assert!(Rust::of(&sample::worked()).players().is_empty());
+    /// ```
+    pub fn players(&self) -> Vec<Named> {
+        self.query.players().into_iter().map(|player| (player.name, bytes(player.tag))).collect()
+    }
+
+    /// The Rust's own answer.
+    ///
+    /// ```
+    /// use chronicle_host::sample;
+    /// use chronicle_oracle::rust::Rust;
+    ///
+    /// assert!(Rust::of(&sample::worked()).histories(&[]).is_empty());
+    /// ```
+    pub fn histories(&self, nations: &[NationEvents]) -> Vec<PlayerHistory> {
+        self.query.player_histories(nations)
+    }
+
+    /// The country that play began with.
+    ///
+    /// ```
+    /// use chronicle_host::sample;
+    /// use chronicle_oracle::rust::Rust;
+    ///
+    /// assert_eq!(Rust::of(&sample::worked()).starting_country(&[]), None);
+    /// ```
+    pub fn starting_country(&self, histories: &[PlayerHistory]) -> Option<Tag> {
+        self.query.starting_country(histories).map(bytes)
+    }
+}
+
+/// The Rust's changes as rows.
+///
+/// ```
+/// use chronicle_host::{model, sample};
+/// use chronicle_oracle::rust::{changes, Rust};
+///
+/// let owners = Rust::of(&sample::worked()).owners();
+/// assert_eq!(changes(&owners), model::changes(&sample::worked()));
+/// ```
+pub fn changes(owners: &ProvinceOwners) -> Vec<Change> {
+    let row = |change: &ProvinceOwnerChange| Change {
+        date: change.date.number(),
+        id: change.province.as_u16(),
+        from: bytes(change.from),
+        to: bytes(change.to),
+    };
+    owners.changes.iter().map(row).collect()
+}
+
+/// The slice that the Rust gives lies in the list of changes: its place there is where it begins,
+/// also if it is empty.
+///
+/// ```
+/// use chronicle_host::{rows::Run, sample};
+/// use chronicle_oracle::rust::{events_on, Rust};
+///
+/// let owners = Rust::of(&sample::worked()).owners();
+/// assert_eq!(events_on(&owners, 14470101), Run { first: 1, count: 1 });
+/// assert_eq!(events_on(&owners, 14470102), Run { first: 2, count: 0 });
+/// ```
+pub fn events_on(owners: &ProvinceOwners, date: Date) -> Run {
+    let found = owners.events_on(save::date(date));
+    let distance = found.as_ptr() as usize - owners.changes.as_ptr() as usize;
+    Run { first: distance / size_of::<ProvinceOwnerChange>(), count: found.len() }
+}
+
+/// A nation as the Rust has it, for what is asked about any list of nations.
+///
+/// ```
+/// use chronicle_host::{model, sample};
+/// use chronicle_oracle::rust::{nation, nation_events};
+///
+/// let expected = &model::chronicle(&sample::worked()).nations[0];
+/// assert_eq!(nation(&nation_events(expected)), *expected);
+/// ```
+pub fn nation_events(nation: &Nation) -> NationEvents {
+    let event = |entry: &Entry| NationEvent {
+        date: save::date(entry.date),
+        kind: match entry.kind {
+            Kind::Switch(target) => NationEventKind::TagSwitch(save::tag(target)),
+            Kind::Appeared => NationEventKind::Appeared,
+            Kind::Annexed => NationEventKind::Annexed,
+        },
+    };
+    NationEvents {
+        initial: save::tag(nation.initial),
+        latest: save::tag(nation.latest),
+        stored: save::tag(nation.stored),
+        events: nation.entries.iter().map(event).collect(),
+    }
+}
+
+/// A nation of the Rust as rows.
+///
+/// ```
+/// use chronicle_host::sample;
+/// use chronicle_oracle::rust::{nation, Rust};
+///
+/// let rust = Rust::of(&sample::worked());
+/// assert_eq!(nation(&rust.nation_events(&rust.owners())[0]).initial.len(), 3);
+/// ```
+pub fn nation(events: &NationEvents) -> Nation {
+    let entry = |event: &NationEvent| Entry {
+        date: event.date.number(),
+        kind: match event.kind {
+            NationEventKind::TagSwitch(target) => Kind::Switch(bytes(target)),
+            NationEventKind::Appeared => Kind::Appeared,
+            NationEventKind::Annexed => Kind::Annexed,
+        },
+    };
+    Nation {
+        initial: bytes(events.initial),
+        latest: bytes(events.latest),
+        stored: bytes(events.stored),
+        entries: events.events.iter().map(entry).collect(),
+    }
+}
+
+/// The Rust's resolver over a list of nations.
+#[derive(Debug)]
+pub struct Resolver(TagResolver);
+
+impl Resolver {
+    /// Made from any list.
+    ///
+    /// ```
+    /// use chronicle_oracle::rust::Resolver;
+    ///
+    /// assert_eq!(Resolver::of(&[]).resolve(*b"ENG", 14441111), None);
+    /// ```
+    pub fn of(nations: &[NationEvents]) -> Resolver {
+        Resolver(TagResolver::create(nations))
+    }
+
+    /// Plain resolve.
+    ///
+    /// ```
+    /// use chronicle_oracle::rust::Resolver;
+    ///
+    /// assert_eq!(Resolver::of(&[]).resolve(*b"ENG", 14441111), None);
+    /// ```
+    pub fn resolve(&self, tag: Tag, date: Date) -> Option<Resolved> {
+        self.0.resolve(save::tag(tag), save::date(date)).map(resolved)
+    }
+
+    /// Plain initial.
+    ///
+    /// ```
+    /// use chronicle_oracle::rust::Resolver;
+    ///
+    /// assert_eq!(Resolver::of(&[]).initial(*b"ENG"), None);
+    /// ```
+    pub fn initial(&self, tag: Tag) -> Option<Resolved> {
+        self.0.initial(save::tag(tag)).map(resolved)
+    }
+
+    /// Resolve of the resolver set to a day.
+    ///
+    /// ```
+    /// use chronicle_oracle::rust::Resolver;
+    ///
+    /// assert_eq!(Resolver::of(&[]).resolve_at(14441111, *b"ENG", 14441111), None);
+    /// ```
+    pub fn resolve_at(&self, day: Date, tag: Tag, date: Date) -> Option<Resolved> {
+        self.0.at(save::date(day)).resolve(save::tag(tag), save::date(date)).map(resolved)
+    }
+
+    /// Initial of the resolver set to a day.
+    ///
+    /// ```
+    /// use chronicle_oracle::rust::Resolver;
+    ///
+    /// assert_eq!(Resolver::of(&[]).initial_at(14441111, *b"ENG"), None);
+    /// ```
+    pub fn initial_at(&self, day: Date, tag: Tag) -> Option<Resolved> {
+        self.0.at(save::date(day)).initial(save::tag(tag)).map(resolved)
+    }
+}
+
+fn resolved(data: TagData) -> Resolved {
+    Resolved { current: bytes(data.current), stored: bytes(data.stored) }
+}
+
+/// A tag's three bytes.
+///
+/// ```
+/// use chronicle_oracle::{rust::bytes, save::tag};
+///
+/// assert_eq!(bytes(tag(*b"ENG")), *b"ENG");
+/// ```
+pub fn bytes(tag: CountryTag) -> Tag {
+    tag.as_bytes().try_into().expect("a tag has three bytes")
+}

@@ -1,0 +1,221 @@
+//! Campaigns at 01's limits, each with a shape that somebody's algorithm may dislike.
+
+use crate::generate::{at_limits, sized, Random};
+use crate::layout::{Counts, LIMITS};
+use crate::pack::{Campaign, Date, OwnerEvent, Switch, Tag, NONE};
+
+/// The day everything happens on, where it is one day; it lies after every start drawn here.
+const ONE_DAY: Date = 99991231;
+
+/// A name and the campaign that has it, made when asked for: they are large.
+pub type Extreme = (&'static str, fn() -> Campaign);
+
+/// The ten of them.
+///
+/// ```
+/// use chronicle_host::{extremes, pack::pack, reference::refusal_number};
+///
+/// assert_eq!(refusal_number(&pack(&(extremes::ALL[9].1)())), 0);
+/// ```
+pub const ALL: [Extreme; 10] = [
+    ("everything at its limit", at_limits),
+    ("everything at its limit, another draw", || sized(&LIMITS, 2)),
+    ("all events in one province", all_in_one_province),
+    ("everything on one day", on_one_day),
+    ("all dates falling", falling),
+    ("two owners by turns", by_turns),
+    ("one country with all switches, from one tag", || late_changes(20_000)),
+    ("all countries began alike", began_alike),
+    ("provinces in reverse, dates rising", || reversed(rising(nations(8)))),
+    ("four tags and ten dates", few_tags),
+];
+
+/// A draw at the limits that owner changes and nations have.
+///
+/// ```
+/// use chronicle_host::extremes::nations;
+///
+/// assert_eq!(nations(1).countries.len(), 2_000);
+/// ```
+pub fn nations(seed: u64) -> Campaign {
+    let counts = [('C', 2_000), ('P', 8_000), ('A', 20_000), ('B', 20_000), ('E', 60_000)];
+    sized(&Counts::of(&counts), seed)
+}
+
+/// As many owner events in a record that has countries and provinces and nothing else.
+///
+/// ```
+/// use chronicle_host::extremes::owners;
+///
+/// assert_eq!(owners(60_000, 1).provinces.len(), 8_000);
+/// ```
+pub fn owners(events: usize, seed: u64) -> Campaign {
+    sized(&Counts::of(&[('C', 2_000), ('P', 8_000), ('E', events)]), seed)
+}
+
+/// One country gave up one tag so many times, day by day, and every second change of a province is
+/// to that tag, after nearly all of the switches: who goes through them from the first on takes
+/// very long.
+///
+/// ```
+/// use chronicle_host::extremes::late_changes;
+///
+/// assert_eq!(late_changes(100).countries[7].switches.len(), 100);
+/// ```
+pub fn late_changes(switches: usize) -> Campaign {
+    let mut campaign = nations(6);
+    let from = campaign.countries[8].tag;
+    campaign.start = 14441111;
+    campaign.current = 99991231;
+    campaign.countries.iter_mut().for_each(|country| country.switches.clear());
+    campaign.countries[7].switches =
+        (0..switches).map(|number| Switch { date: nth_day(number), from }).collect();
+    let late = switches.saturating_sub(10);
+    for (number, province) in campaign.provinces.iter_mut().enumerate() {
+        let turns = [from, province.owner];
+        for (at, event) in province.events.iter_mut().enumerate() {
+            *event = OwnerEvent { date: nth_day(late + (number + at) % 5), tag: turns[at % 2] };
+        }
+    }
+    campaign
+}
+
+/// Days one behind the other, 28 to a month.
+fn nth_day(number: usize) -> Date {
+    let (month, day) = (number / 28, number % 28);
+    ((1445 + month / 12) * 10_000 + (month % 12 + 1) * 100 + day + 1) as Date
+}
+
+/// The same campaign with ids in row order, from 1.
+///
+/// ```
+/// use chronicle_host::extremes::{in_order, nations};
+///
+/// assert_eq!(in_order(nations(1)).provinces[0].id, 1);
+/// ```
+pub fn in_order(mut campaign: Campaign) -> Campaign {
+    for (province, id) in campaign.provinces.iter_mut().zip(1..) {
+        province.id = id;
+    }
+    campaign
+}
+
+/// The same campaign with ids in row order, from the largest down.
+///
+/// ```
+/// use chronicle_host::extremes::{nations, reversed};
+///
+/// assert_eq!(reversed(nations(1)).provinces[0].id, 8_000);
+/// ```
+pub fn reversed(campaign: Campaign) -> Campaign {
+    let mut campaign = in_order(campaign);
+    let last = campaign.provinces.len() as u16;
+    campaign.provinces.iter_mut().for_each(|province| province.id = last + 1 - province.id);
+    campaign
+}
+
+/// The same campaign with every province's events by date, as a game writes them.
+///
+/// ```
+/// use chronicle_host::extremes::{nations, rising};
+///
+/// assert!(rising(nations(1)).provinces[0].events.is_sorted_by_key(|event| event.date));
+/// ```
+pub fn rising(mut campaign: Campaign) -> Campaign {
+    for province in &mut campaign.provinces {
+        province.events.sort_by_key(|event| event.date);
+    }
+    campaign
+}
+
+fn all_in_one_province() -> Campaign {
+    let mut campaign = nations(2);
+    let rows = campaign.provinces.iter_mut();
+    let events = rows.flat_map(|province| std::mem::take(&mut province.events)).collect();
+    campaign.provinces[4_321].events = events;
+    campaign
+}
+
+fn on_one_day() -> Campaign {
+    let mut campaign = nations(3);
+    for event in campaign.provinces.iter_mut().flat_map(|province| &mut province.events) {
+        event.date = ONE_DAY;
+    }
+    for switch in campaign.countries.iter_mut().flat_map(|country| &mut country.switches) {
+        switch.date = ONE_DAY;
+    }
+    campaign
+}
+
+fn falling() -> Campaign {
+    let mut campaign = rising(nations(4));
+    campaign.provinces.iter_mut().for_each(|province| province.events.reverse());
+    for country in &mut campaign.countries {
+        country.switches.sort_by_key(|switch| std::cmp::Reverse(switch.date));
+    }
+    campaign
+}
+
+/// Every event is a change, so that the changes are as many as there can be.
+fn by_turns() -> Campaign {
+    let mut campaign = nations(5);
+    let pair = [campaign.countries[0].tag, campaign.countries[1].tag];
+    for province in &mut campaign.provinces {
+        province.owner = pair[0];
+        for (at, event) in province.events.iter_mut().enumerate() {
+            event.tag = pair[(at + 1) % 2];
+        }
+    }
+    campaign
+}
+
+fn began_alike() -> Campaign {
+    let mut campaign = nations(7);
+    let tag = campaign.countries[3].tag;
+    for switch in campaign.countries.iter_mut().filter_map(|c| c.switches.first_mut()) {
+        switch.from = tag;
+    }
+    campaign
+}
+
+fn few_tags() -> Campaign {
+    let mut campaign = nations(9);
+    let own = |row: usize| campaign.countries[row].tag;
+    let tags = [NONE, own(0), own(1), own(2)];
+    let dates: Vec<Date> = (1..=10).map(|day| 14450100 + day).collect();
+    campaign.start = dates[2];
+    campaign.current = dates[9];
+    redraw(&mut campaign, &tags, &dates);
+    campaign
+}
+
+fn redraw(campaign: &mut Campaign, tags: &[Tag], dates: &[Date]) {
+    let mut random = Random::new(9);
+    for switch in campaign.countries.iter_mut().flat_map(|country| &mut country.switches) {
+        *switch = Switch { date: random.pick(dates), from: random.pick(tags) };
+    }
+    for province in &mut campaign.provinces {
+        province.owner = random.pick(tags);
+        for event in &mut province.events {
+            *event = OwnerEvent { date: random.pick(dates), tag: random.pick(tags) };
+        }
+    }
+}
+
+#[cfg(test)]
+mod tests {
+    use super::*;
+    use crate::pack::pack;
+    use crate::reference::refusal_number;
+
+    #[test]
+    fn all_are_accepted_and_at_the_limits() {
+        for (name, campaign) in ALL {
+            let record = pack(&campaign());
+            assert_eq!(refusal_number(&record), 0, "{name}");
+            let counts = Counts::read(record.first_chunk().unwrap());
+            assert_eq!((counts.countries, counts.provinces), (2_000, 8_000), "{name}");
+            assert_eq!((counts.switches, counts.owner_events), (20_000, 60_000), "{name}");
+        }
+    }
+}
