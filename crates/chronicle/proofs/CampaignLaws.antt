@@ -86,7 +86,7 @@ pub length-start : (c : Campaign) → length (startHolders c) ≡ suc (length (c
 unfolding startHolders
 length-start c = length-map (slotsOf c) (startHolder c) ∙ length-slots c
 
-moves-slots : (c : Campaign) → Sound c → All (λ m. m .slot .0 < length (startHolders c)) (movesOf c)
+pub moves-slots : (c : Campaign) → Sound c → All (λ m. m .slot .0 < length (startHolders c)) (movesOf c)
 moves-slots c r =
     simp (length-start c)
     (all-moves c (GoodProvince (length (c .provinces))) (λ x. x .id .0 ≤ length (c .provinces)) (λ m. m .slot .0 < suc (length (c .provinces)))

@@ -13,3 +13,15 @@ pub mod LentLaws
 pub mod FillLaws
 pub mod OutcomeLaws
 pub mod CountLaws
+pub mod ChainLaws
+pub mod WalkLaws
+pub mod TurningLaws
+pub mod PassLaws
+pub mod LivesLaws
+pub mod EntryLaws
+pub mod LookupLaws
+pub mod CountryLaws
+pub mod MappedLaws
+pub mod SettlingLaws
+pub mod StartingLaws
+pub mod KeyedLaws

@@ -18,3 +18,8 @@ pub mod Demand
 pub mod Worked
 pub mod Cases
 pub mod ChangeSteps
+pub mod Turning
+pub mod Lookup
+pub mod Countries
+pub mod Settling
+pub mod Starting

@@ -1,5 +1,11 @@
 // The chronicle of a campaign.
+mod chains;
 mod changes;
+mod countries;
+mod lives;
+mod lookup;
+mod settling;
+mod starting;
 
 pub use changes::EventsOn;
 pub use changes::Owners;

@@ -13,6 +13,7 @@ use Rattle.record.specs.Rows.{rowsAt}
 pub record Limits (h : Head) : Type 0 where
   pub countries : h .countries ≤ 2000
   pub provinces : h .provinces ≤ 8000
+  pub switches : h .switches ≤ 20000
   pub events : h .events ≤ 60000
   pub wars : h .wars ≤ 5000
   pub ledgers : h .ledgers ≤ 2000
@@ -41,6 +42,7 @@ limits-of h t0 =
     record {
       countries = leb-true (h .countries) 2000 (and-left c (leb (h .provinces) 8000) tp);
       provinces = leb-true (h .provinces) 8000 (and-right c (leb (h .provinces) 8000) tp);
+      switches = leb-true (h .switches) 20000 (and-right a (leb (h .switches) 20000) tb);
       events = leb-true (h .events) 60000 (and-right b (leb (h .events) 60000) te);
       wars = leb-true (h .wars) 5000 (and-right n (leb (h .wars) 5000) tw);
       ledgers = leb-true (h .ledgers) 2000 (and-right v (leb (h .ledgers) 2000) tg);

@@ -19,7 +19,8 @@ use Rattle.page.proofs.events_on.Tie as tie
 
 -- The run that was given.
 told : (c : tie.After-known-told)
-    → gives (record { first = c .before .first .given .0 .0; count = c .before .first .given .0 .1 .0 }) ≡ callEventsOn (c .before .before .before .before .before .before .args .s .now) (c .before .before .before .before .before .before .args .date)
+    → gives (record { first = c .before .first .given .0 .0; count = c .before .first .given .0 .1 .0 })
+    ≡ callEventsOn (c .before .before .before .before .before .before .args .s .now) (c .before .before .before .before .before .before .args .date)
 told c = sym (ap eventsOnAnswer (c .before .first .given .1)) ∙ c .before .before .before .events-on .ensures
 
 events-on-requires : tie.Need-events-on-requires
@@ -32,7 +33,9 @@ minus-requires : tie.Need-minus-requires
 minus-requires c κs = search needs
 
 returns : tie.Need-returns
-returns c = returns-of (cells-short _ _ _ _ (told (c .before .before)) (c .before .if1 .taken)) (toZ-ofZ {w = w64} (record { sfits = c .minus .ok }) ∙ c .minus .ensures)
+returns c =
+    let short = cells-short _ _ _ _ (told (c .before .before)) (c .before .if1 .taken) in
+    returns-of short (toZ-ofZ {w = w64} (record { sfits = c .minus .ok }) ∙ c .minus .ensures)
 
 cast-out : tie.Need-cast-out
 cast-out c = omega (arith, events-few _ _ _ (told (c .before)) .0)
@@ -56,13 +59,16 @@ same-length : tie.Need-same-length
 same-length c = search needs
 
 returns-2 : tie.Need-returns-2
-returns-2 c = let out = c .before .before .before .before .before .before .before .args .out .now in
+returns-2 c =
+    let out = c .before .before .before .before .before .before .before .args .out .now in
     let run : Run = record { first = c .before .before .first .given .0 .0; count = c .before .before .first .given .0 .1 .0 } in
     let cells : set (set out 0 (run .first)) 1 (run .count) ≡ written (runWords run) out = sets-eq (runWords run) out 0 (omega arith) in
     rw cells (returns-of (cells-run _ _ out run (told (c .before)) (c .if1 .left)) refl)
 
 returns-3 : tie.Need-returns-3
-returns-3 c = returns-of (cells-refused _ _ _ _ (sym (ap eventsOnAnswer (c .before .before .number .given .1)) ∙ c .before .before .before .before .events-on .ensures)) (toZ-ofZ {w = w64} (record { sfits = c .minus2 .ok }) ∙ c .minus2 .ensures)
+returns-3 c =
+    let told = sym (ap eventsOnAnswer (c .before .before .number .given .1)) ∙ c .before .before .before .before .events-on .ensures in
+    returns-of (cells-refused _ _ _ _ told) (toZ-ofZ {w = w64} (record { sfits = c .minus2 .ok }) ∙ c .minus2 .ensures)
 
 pub events-on-spec : {M : Type 1} → statement M
 events-on-spec =

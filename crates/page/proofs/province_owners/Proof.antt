@@ -35,13 +35,19 @@ same-length : tie.Need-same-length
 same-length c = search needs
 
 returns : tie.Need-returns
-returns c = returns-of (sym (ap (λ r. ownersOutcome r (c .before .before .before .before .before .province-owners .last .1 .0)) (c .before .n .given .1)) ∙ c .before .before .before .before .before .province-owners .ensures) (toZ-pos w64 (omega (arith, few c)))
+returns c =
+    let called = c .before .before .before .before .before .province-owners in
+    let told = sym (ap (λ r. ownersOutcome r (called .last .1 .0)) (c .before .n .given .1)) in
+    returns-of (told ∙ called .ensures) (toZ-pos w64 (omega (arith, few c)))
 
 same-length-2 : tie.Need-same-length-2
 same-length-2 c = search needs
 
 returns-2 : tie.Need-returns-2
-returns-2 c = returns-of (sym (ap (λ r. ownersOutcome r (c .before .before .before .before .before .before .province-owners .last .1 .0)) (c .before .before .number .given .1)) ∙ c .before .before .before .before .before .before .province-owners .ensures) (toZ-ofZ {w = w64} (record { sfits = c .minus .ok }) ∙ c .minus .ensures)
+returns-2 c =
+    let called = c .before .before .before .before .before .before .province-owners in
+    let told = sym (ap (λ r. ownersOutcome r (called .last .1 .0)) (c .before .before .number .given .1)) in
+    returns-of (told ∙ called .ensures) (toZ-ofZ {w = w64} (record { sfits = c .minus .ok }) ∙ c .minus .ensures)
 
 pub province-owners-spec : {M : Type 1} → statement M
 province-owners-spec =

@@ -1,0 +1,189 @@
+-- Turns by rows give each country row the lives of its country, and in the end the slots that it holds, if no tag stands twice.
+use mathlib.Core.Path.{_≡_, refl, sym, ap, ap₂, _∙_}
+use mathlib.Core.Bool.{Bool, true, false, _||_}
+use mathlib.Core.List.{List, [], _∷_, map}
+use mathlib.Core.Option.{Option, none, some}
+use Prim.Native.Nat.{ℕ, zero, suc, _+_, _≤_, _<_}
+use native.Mathlib.Omega.{arith}
+use borrow.Author.Tests.{eqb-true, eqb-false, lt-ltb, eq-eqb, ne-eqb}
+use lib.Dec.{ltb, eqb}
+use lib.ListN.{length, getD, set, length-set, length-map}
+use Rattle.lists.specs.Lists.{anyOf, countOf, one, twice}
+use Rattle.lists.proofs.BoolLaws.{cases, neither}
+use Rattle.lists.proofs.ListLaws.{map-then, count-set, count-pos}
+use Rattle.lists.specs.Lists.{All}
+use Rattle.record.specs.declared.tag.CountryTag.{CountryTag}
+use Rattle.record.specs.declared.date.Eu4Date.{Eu4Date}
+use Rattle.record.specs.Tags.{sameTag}
+use Rattle.record.specs.Campaign.{Campaign, Country}
+use Rattle.chronicle.specs.Chronicle.{Entry}
+use Rattle.chronicle.specs.Nations.{matches, Move, Turn, startHolders, movesOf, turnsFrom, turnsOf, turnCount, livesFrom, livesOf, heldEver, holdersOf, heldOf}
+use Rattle.chronicle.specs.NationRows.{holderWord}
+use Rattle.chronicle.specs.Turning.{firstAt, tagWords, rowTag, rowOf, holderRow, rowTurn, rowTurnsOf, rowTurnsFrom, wordsAfter, rowLived}
+use Rattle.chronicle.proofs.ChainLaws.{first-from}
+use Rattle.chronicle.proofs.LivingLaws.{afterMoves, turn-count}
+use Rattle.record.specs.Sound.{Sound}
+use Rattle.chronicle.proofs.CampaignLaws.{moves-slots, holders-of}
+
+-- ## Places
+
+eqb-sym : (a b : ℕ) → eqb a b ≡ eqb b a
+eqb-sym a b =
+    cases (eqb a b)
+    (λ h. h ∙ sym (eq-eqb b a (sym (eqb-true a b h))))
+    (λ h. h ∙ sym (ne-eqb b a (λ e. eqb-false a b h (sym e))))
+
+absent : (y : ℕ) (ys : List ℕ) (r : ℕ) → r < length ys → anyOf (eqb y) ys ≡ false → eqb y (getD ys r 0) ≡ false
+absent y [] r l h = absurd (omega arith)
+absent y (z ∷ ys) zero l h = neither (eqb y z) (anyOf (eqb y) ys) h .0
+absent y (z ∷ ys) (suc r) l h = absent y ys r (omega arith) (neither (eqb y z) (anyOf (eqb y) ys) h .1)
+
+-- Where nothing stands twice, to be found at a place is to stand there.
+pub first-is : (x k : ℕ) (ys : List ℕ) (r : ℕ) → twice ys ≡ false → r < length ys → k + length ys ≤ 65535
+    → eqb (firstAt x k ys) (k + r) ≡ eqb x (getD ys r 0)
+unfolding firstAt
+first-is x k [] r d l h = absurd (omega arith)
+first-is x k (y ∷ ys) zero d l h =
+    cases (eqb y x)
+    (λ e. simp (e, eqb-sym x y) (eq-eqb k (k + 0) (omega arith)))
+    (λ e. let f : suc k ≤ firstAt x (suc k) ys = first-from x (suc k) ys (omega arith) in
+    simp (e, eqb-sym x y) (ne-eqb (firstAt x (suc k) ys) (k + 0) (λ g. omega arith)))
+first-is x k (y ∷ ys) (suc r) d l h =
+    let f = neither (anyOf (eqb y) ys) (twice ys) d in
+    let s : suc k + r ≡ k + suc r = omega arith in
+    cases (eqb y x)
+    (λ e. let g : y ≡ x = eqb-true y x e in
+    simp e (ne-eqb k (k + suc r) (λ w. omega arith) ∙ sym (rw (← g) (absent y ys r (omega arith) (f .0)))))
+    (λ e. simp e (rw (← s) (first-is x (suc k) ys r (f .1) (omega arith) (omega arith))))
+
+-- ## One country by its row
+
+module _ (tags : List ℕ) (r : ℕ) (single : twice tags ≡ false) (inside : r < length tags) (few : length tags ≤ 65535) where
+  abbrev tag : CountryTag
+  tag = record { 0 = getD tags r 0 }
+
+  row-is : (t : CountryTag) → eqb (rowOf tags t) r ≡ sameTag t tag
+  row-is t =
+      let e : 0 + r ≡ r = omega arith in
+      ap (eqb (rowOf tags t)) (sym e) ∙ first-is (t .0) 0 tags r single inside (omega arith)
+
+  holder-is : (h : Option CountryTag) → eqb (holderRow tags h) r ≡ matches tag h
+  holder-is none = ne-eqb 65535 r (λ e. omega arith)
+  holder-is (some t) = row-is t
+
+  pub row-entries : (start : Eu4Date) (xs : List Turn) (n : ℕ)
+      → rowLived start r (map (rowTurn tags) xs) n .entries ≡ livesFrom start tag xs n
+  unfolding rowLived livesFrom
+  row-entries start [] n = refl
+  row-entries start (x ∷ xs) n = simp (holder-is (x .old), row-is (x .new), row-entries start xs)
+
+  -- The invariant: the number that the country stands at is the number of slots that it holds.
+  pub row-held : (start : Eu4Date) (ms : List Move) (holders : List (Option CountryTag)) (n : ℕ)
+      → All (λ m. m .slot .0 < length holders) ms → n ≡ countOf (matches tag) holders
+      → rowLived start r (map (rowTurn tags) (turnsFrom holders ms)) n .held ≡ countOf (matches tag) (afterMoves ms holders)
+  unfolding rowLived turnsFrom
+  row-held start [] holders n q e = e
+  row-held start (m ∷ ms) holders n q e =
+      let holders′ : List (Option CountryTag) = set holders (m .slot .0) (some (m .holder)) in
+      let loses : Bool = matches tag (getD holders (m .slot .0) none) in
+      let gains : Bool = sameTag (m .holder) tag in
+      let n′ : ℕ = countOf (matches tag) holders′ in
+      let s : n′ + one loses ≡ n + one gains = simp e (count-set (matches tag) holders (m .slot .0) (some (m .holder)) none (q .0)) in
+      let pos : loses ≡ true → 0 < n = λ h. simp e (count-pos (matches tag) holders (m .slot .0) none (q .0) h) in
+      let counted : turnCount (eqb (holderRow tags (getD holders (m .slot .0) none)) r) (eqb (rowOf tags (m .holder)) r) n ≡ n′ =
+      simp (holder-is (getD holders (m .slot .0) none), row-is (m .holder)) (turn-count loses gains n n′ s pos) in
+      ap (λ (j : ℕ). rowLived start r (map (rowTurn tags) (turnsFrom holders′ ms)) j .held) counted
+      ∙ row-held start ms holders′ n′ (simp length-set (q .1)) refl
+
+-- ## The campaign
+
+map-at : {A : Type 0} (f : ℕ → A) (l : List ℕ) (i : ℕ) (d : A) → i < length l → getD (map f l) i d ≡ f (getD l i 0)
+map-at f [] i d h = absurd (omega arith)
+map-at f (x ∷ l) zero d h = refl
+map-at f (x ∷ l) (suc i) d h = map-at f l i d (omega arith)
+
+held-at : (c : Campaign) (r : ℕ) → r < length (tagWords c) → getD (heldOf c) r 0 ≡ countOf (matches (rowTag c r)) (holdersOf c)
+unfolding heldOf
+held-at c r inside =
+    ap (λ (l : List ℕ). getD l r 0) (sym (map-then (λ k. k .tag .0) (λ w. countOf (matches (record { 0 = w })) (holdersOf c)) (c .countries)))
+    ∙ map-at (λ w. countOf (matches (record { 0 = w })) (holdersOf c)) (tagWords c) r 0 inside
+
+-- The lives of a row are those of its country, and the slots that it holds are those of its cell.
+pub row-lived : (c : Campaign) (r : ℕ) → twice (tagWords c) ≡ false → r < length (tagWords c) → length (tagWords c) ≤ 65535 → Sound c
+    → rowLived (c .start) r (rowTurnsOf c) (countOf (matches (rowTag c r)) (startHolders c))
+    ≡ record { entries = livesOf c (rowTag c r); held = getD (heldOf c) r 0 }
+unfolding rowTurnsOf livesOf turnsOf
+row-lived c r single inside few q =
+    let n : ℕ = countOf (matches (rowTag c r)) (startHolders c) in
+    ap₂ (λ (es : List Entry) (h : ℕ). record { entries = es; held = h })
+    (row-entries (tagWords c) r single inside few (c .start) (turnsOf c) n)
+    (row-held (tagWords c) r single inside few (c .start) (movesOf c) (startHolders c) n (moves-slots c q) refl
+    ∙ (ap (countOf (matches (rowTag c r))) (sym (holders-of c)) ∙ sym (held-at c r inside)))
+
+-- ## With only the rows of the holders kept
+
+map-set : {A B : Type 0} (f : A → B) (l : List A) (i : ℕ) (v : A) → map f (set l i v) ≡ set (map f l) i (f v)
+map-set f [] i v = refl
+map-set f (x ∷ l) zero v = refl
+map-set f (x ∷ l) (suc i) v = ap (λ (m : List _). f x ∷ m) (map-set f l i v)
+
+at-map : {A B : Type 0} (f : A → B) (l : List A) (i : ℕ) (d : A) → f (getD l i d) ≡ getD (map f l) i (f d)
+at-map f [] i d = refl
+at-map f (x ∷ l) zero d = refl
+at-map f (x ∷ l) (suc i) d = at-map f l i d
+
+pub rows-kept : (tags : List ℕ) (ms : List Move) (holders : List (Option CountryTag))
+    → map (rowTurn tags) (turnsFrom holders ms) ≡ rowTurnsFrom tags (map (holderRow tags) holders) ms
+unfolding turnsFrom rowTurnsFrom
+rows-kept tags [] holders = refl
+rows-kept tags (m ∷ ms) holders =
+    simp (at-map (holderRow tags) holders (m .slot .0) none, rows-kept tags ms, map-set)
+
+pub row-turns : (c : Campaign) → rowTurnsOf c ≡ rowTurnsFrom (tagWords c) (map (holderRow (tagWords c)) (startHolders c)) (movesOf c)
+unfolding rowTurnsOf turnsOf
+row-turns c = rows-kept (tagWords c) (movesOf c) (startHolders c)
+
+pub words-after : (ms : List Move) (holders : List (Option CountryTag)) → map holderWord (afterMoves ms holders) ≡ wordsAfter ms (map holderWord holders)
+unfolding wordsAfter
+words-after [] holders = refl
+words-after (m ∷ ms) holders =
+    words-after ms (set holders (m .slot .0) (some (m .holder)))
+    ∙ ap (wordsAfter ms) (map-set holderWord holders (m .slot .0) (some (m .holder)))
+
+pub holder-words : (c : Campaign) → map holderWord (holdersOf c) ≡ wordsAfter (movesOf c) (map holderWord (startHolders c))
+holder-words c = ap (map holderWord) (holders-of c) ∙ words-after (movesOf c) (startHolders c)
+
+-- ## Who held a slot ever
+
+pub first-any : (x k : ℕ) (ys : List ℕ) → k + length ys ≤ 65535 → ltb (firstAt x k ys) 65535 ≡ anyOf (λ y. eqb y x) ys
+unfolding firstAt
+first-any x k [] h = refl
+first-any x k (y ∷ ys) h =
+    cases (eqb y x) (λ e. simp e (lt-ltb k 65535 (omega arith))) (λ e. simp e (first-any x (suc k) ys (omega arith)))
+
+any-positive : {A : Type 0} (p : A → Bool) (xs : List A) → anyOf p xs ≡ ltb 0 (countOf p xs)
+any-positive p [] = refl
+any-positive p (x ∷ xs) =
+    cases (p x) (λ h. simp h (sym (lt-ltb 0 (suc (countOf p xs)) (omega arith)))) (λ h. simp h (any-positive p xs))
+
+module _ (tags : List ℕ) (r : ℕ) (single : twice tags ≡ false) (inside : r < length tags) (few : length tags ≤ 65535) where
+  gains-any : (ms : List Move) (holders : List (Option CountryTag))
+      → anyOf (λ y. eqb y r) (map (λ x. x .new) (map (rowTurn tags) (turnsFrom holders ms)))
+      ≡ anyOf (λ m. sameTag (m .holder) (record { 0 = getD tags r 0 })) ms
+  unfolding turnsFrom
+  gains-any [] holders = refl
+  gains-any (m ∷ ms) holders =
+      ap₂ (λ (a b : Bool). a || b) (row-is tags r single inside few (m .holder)) (gains-any ms (set holders (m .slot .0) (some (m .holder))))
+
+-- A country held a slot ever if it starts with one, or its row gains one.
+pub held-ever : (c : Campaign) (k : Country) (r : ℕ) → k .tag .0 ≡ getD (tagWords c) r 0 → twice (tagWords c) ≡ false → r < length (tagWords c)
+    → length (tagWords c) ≤ 65535 → length (rowTurnsOf c) ≤ 65535
+    → heldEver c k
+    ≡ (ltb 0 (countOf (matches (rowTag c r)) (startHolders c)) || ltb (firstAt r 0 (map (λ x. x .new) (rowTurnsOf c))) 65535)
+unfolding heldEver rowTurnsOf turnsOf
+held-ever c k r tag single inside few short =
+    let news : List ℕ = map (λ x. x .new) (rowTurnsOf c) in
+    let long : 0 + length news ≤ 65535 = omega (arith, length-map (rowTurnsOf c) (λ x. x .new)) in
+    ap (λ (w : ℕ). anyOf (matches (record { 0 = w })) (startHolders c) || anyOf (λ m. sameTag (m .holder) (record { 0 = w })) (movesOf c)) tag
+    ∙ ap₂ (λ (a b : Bool). a || b) (any-positive (matches (rowTag c r)) (startHolders c))
+    (sym (first-any r 0 news long ∙ gains-any (tagWords c) r single inside few (movesOf c) (startHolders c)))
