@@ -53,7 +53,7 @@ module _ (keys oldRows newRows olds news losses gains : List ℕ) (xs : List Row
   count-news = ap length (rowed .newRows) ∙ (length-map xs (λ x. x .new) ∙ count-turns)
 
   -- The links are fit for a walk.
-  pub chained : ((k : ℕ) → k < length keys → getD keys k 0 < 2305843009213693952) → Chained keys olds news
+  pub chained : ((k : ℕ) → k < length keys → getD keys k 0 < 18446744073709551616) → Chained keys olds news
   chained dates =
       record {
         few = few;

@@ -14,7 +14,7 @@ use Rattle.lists.proofs.BoolLaws.{cases, both, neither}
 use Rattle.lists.proofs.ElementLaws.{first-map}
 use Rattle.lists.proofs.ListLaws.{all-map, any-none, all-unmap, keep-none, map-then, length-numbers, numbers-at}
 use Rattle.record.specs.declared.tag.CountryTag.{CountryTag}
-use Rattle.record.specs.Tags.{none as NONE}
+use Rattle.record.specs.Tags.{NONE}
 use Rattle.record.specs.Campaign.{Campaign, Province}
 use Rattle.chronicle.specs.Lent.{written}
 use Rattle.chronicle.specs.Changes.{sameId}

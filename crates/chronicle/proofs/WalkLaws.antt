@@ -55,16 +55,16 @@ module _ (start : Eu4Date) (olds news : List ℕ) where
   -- A loss, and a gain if there is one.
   step-loss : (k x : ℕ) (xs : List ℕ) (c : Lives) (b : Bool)
       → stepped k x xs c true b
-      ≡ before (cond (eqb (c .held - 1) 0) (lifeEntry (x / 536870912) true ∷ []) [])
+      ≡ before (cond (eqb (c .held - 1) 0) (lifeEntry (x / 4294967296) true ∷ []) [])
       (stepped k x xs (record { lose = getD olds k 0; gain = c .gain; held = c .held - 1 }) false b)
   unfolding turnEntries turnCount
   step-loss k x xs c b =
-      before-twice (cond (eqb (c .held - 1) 0) (lifeEntry (x / 536870912) true ∷ []) [])
-      (cond (b && eqb (c .held - 1) 0 && earlier start (keyDate x)) (lifeEntry (x / 536870912) false ∷ []) []) _
+      before-twice (cond (eqb (c .held - 1) 0) (lifeEntry (x / 4294967296) true ∷ []) [])
+      (cond (b && eqb (c .held - 1) 0 && earlier start (keyDate x)) (lifeEntry (x / 4294967296) false ∷ []) []) _
 
   step-gain : (k x : ℕ) (xs : List ℕ) (c : Lives)
       → stepped k x xs c false true
-      ≡ before (cond (eqb (c .held) 0 && earlier start (keyDate x)) (lifeEntry (x / 536870912) false ∷ []) [])
+      ≡ before (cond (eqb (c .held) 0 && earlier start (keyDate x)) (lifeEntry (x / 4294967296) false ∷ []) [])
       (livedFrom start olds news (suc k) xs (record { lose = c .lose; gain = getD news k 0; held = c .held + 1 }))
   unfolding turnEntries turnCount
   step-gain k x xs c = refl
@@ -99,7 +99,7 @@ module _ (start : Eu4Date) (olds news : List ℕ) where
 
     pub walk-loss : (c : Lives) → c .lose < length keys → c .lose ≤ c .gain → c .lose < getD olds (c .lose) 0
         → livedFrom start olds news 0 keys c
-        ≡ before (cond (eqb (c .held - 1) 0) (lifeEntry (getD keys (c .lose) 0 / 536870912) true ∷ []) [])
+        ≡ before (cond (eqb (c .held - 1) 0) (lifeEntry (getD keys (c .lose) 0 / 4294967296) true ∷ []) [])
         (livedFrom start olds news 0 keys (afterLoss olds c))
     walk-loss c h l rise =
         let k : ℕ = c .lose in
@@ -107,7 +107,7 @@ module _ (start : Eu4Date) (olds news : List ℕ) where
         let xs : List ℕ = drop (suc k) keys in
         let c′ : Lives = afterLoss olds c in
         let gains : Bool = eqb (c .gain) k in
-        let told : List Entry = cond (eqb (c .held - 1) 0) (lifeEntry (x / 536870912) true ∷ []) [] in
+        let told : List Entry = cond (eqb (c .held - 1) 0) (lifeEntry (x / 4294967296) true ∷ []) [] in
         from k c h (omega arith) l
         ∙ (step k x xs c true gains (eq-eqb k k refl) refl
         ∙ (step-loss k x xs c gains
@@ -117,14 +117,14 @@ module _ (start : Eu4Date) (olds news : List ℕ) where
     pub walk-gain : (c : Lives) → c .gain < length keys → c .gain < c .lose → c .gain < getD news (c .gain) 0
         → livedFrom start olds news 0 keys c
         ≡ before
-        (cond (eqb (c .held) 0 && earlier start (keyDate (getD keys (c .gain) 0))) (lifeEntry (getD keys (c .gain) 0 / 536870912) false ∷ []) [])
+        (cond (eqb (c .held) 0 && earlier start (keyDate (getD keys (c .gain) 0))) (lifeEntry (getD keys (c .gain) 0 / 4294967296) false ∷ []) [])
         (livedFrom start olds news 0 keys (afterGain news c))
     walk-gain c h l rise =
         let k : ℕ = c .gain in
         let x : ℕ = getD keys k 0 in
         let xs : List ℕ = drop (suc k) keys in
         let c′ : Lives = afterGain news c in
-        let told : List Entry = cond (eqb (c .held) 0 && earlier start (keyDate x)) (lifeEntry (x / 536870912) false ∷ []) [] in
+        let told : List Entry = cond (eqb (c .held) 0 && earlier start (keyDate x)) (lifeEntry (x / 4294967296) false ∷ []) [] in
         let kept : eqb (c .lose) k ≡ false = ne-eqb (c .lose) k (λ e. omega arith) in
         from k c h (omega arith) (omega arith)
         ∙ (step k x xs c false true kept (eq-eqb k k refl)
@@ -139,13 +139,13 @@ module _ (start : Eu4Date) (olds news : List ℕ) where
 module _ (start : ℕ) (keys olds news : List ℕ) (s : Chained keys olds news) (c : Lives) (light : Light c) where
   module _ (h : c .lose < length keys) (l : c .lose ≤ c .gain) where
     abbrev lossTold : List Entry
-    lossTold = cond (eqb (c .held - 1) 0) (lifeEntry (getD keys (c .lose) 0 / 536870912) true ∷ []) []
+    lossTold = cond (eqb (c .held - 1) 0) (lifeEntry (getD keys (c .lose) 0 / 4294967296) true ∷ []) []
 
     loss : livedLeft start keys olds news c ≡ before lossTold (livedLeft start keys olds news (afterLoss olds c))
     loss = walk-loss (record { 0 = start }) olds news keys c h l (s .oldsRise (c .lose) h)
 
     pub loss-told : eqb (c .held - 1) 0 ≡ true
-        → Turns start keys olds news c (Told (getD keys (c .lose) 0 / 536870912) true (afterLoss olds c))
+        → Turns start keys olds news c (Told (getD keys (c .lose) 0 / 4294967296) true (afterLoss olds c))
     loss-told e =
         record {
           told = rw e at loss;
@@ -162,12 +162,12 @@ module _ (start : ℕ) (keys olds news : List ℕ) (s : Chained keys olds news) 
   module _ (h : c .gain < length keys) (l : c .gain < c .lose) where
     gain : livedLeft start keys olds news c
         ≡ before
-        (cond (eqb (c .held) 0 && earlier (record { 0 = start }) (keyDate (getD keys (c .gain) 0))) (lifeEntry (getD keys (c .gain) 0 / 536870912) false ∷ []) [])
+        (cond (eqb (c .held) 0 && earlier (record { 0 = start }) (keyDate (getD keys (c .gain) 0))) (lifeEntry (getD keys (c .gain) 0 / 4294967296) false ∷ []) [])
         (livedLeft start keys olds news (afterGain news c))
     gain = walk-gain (record { 0 = start }) olds news keys c h l (s .newsRise (c .gain) h)
 
     pub gain-told : eqb (c .held) 0 && earlier (record { 0 = start }) (keyDate (getD keys (c .gain) 0)) ≡ true
-        → Turns start keys olds news c (Told (getD keys (c .gain) 0 / 536870912) false (afterGain news c))
+        → Turns start keys olds news c (Told (getD keys (c .gain) 0 / 4294967296) false (afterGain news c))
     gain-told e =
         record {
           told = rw e at gain;

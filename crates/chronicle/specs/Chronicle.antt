@@ -1,4 +1,4 @@
--- 01, Nations: what a chronicle is made of.
+-- 01, Owner changes and Nations: what a chronicle is made of.
 use mathlib.Core.Bool.{Bool, true, false}
 use mathlib.Core.List.{List}
 use Rattle.record.specs.declared.tag.CountryTag.{CountryTag}
@@ -35,7 +35,7 @@ pub record Entry : Type 0 where
   pub date : Eu4Date
   pub kind : Kind
 
--- A nation: its first tag, its tag after its last switch, the tag that it is stored under, and its entries in order.
+-- A nation: initial, latest, stored, and its entries in order. Read from lent rows, latest is the word that stands there.
 pub record Nation : Type 0 where
   pub initial : CountryTag
   pub latest : CountryTag

@@ -90,7 +90,7 @@ targetWord annexed = 0
 abbrev pub entryRow : Entry → EntryRow
 entryRow e = record { date = e .date; kind = kindWord (e .kind); target = targetWord (e .kind) }
 
--- The kind that two words tell.
+-- The kind that two words tell. Kinds above 2 are read as Annexed, and are refused by 11 before they count.
 abbrev pub kindOf : ℕ → ℕ → Kind
 kindOf zero target = switch (record { 0 = target })
 kindOf (suc zero) target = appeared

@@ -12,7 +12,7 @@ use Rattle.record.specs.declared.tag.CountryTag.{CountryTag}
 use Rattle.record.specs.declared.date.Eu4Date.{Eu4Date}
 use Rattle.record.specs.declared.rows.ProvinceId.{ProvinceId}
 use Rattle.record.specs.declared.rows.Switch.{Switch}
-use Rattle.record.specs.Tags.{sameTag, none as NONE}
+use Rattle.record.specs.Tags.{sameTag, NONE}
 use Rattle.record.specs.Dates.{earlier, notAfter}
 use Rattle.record.specs.Campaign.{Campaign, Country}
 use Rattle.chronicle.specs.Chronicle.{Change, Kind, switch, appeared, annexed, Entry, Nation}
@@ -99,7 +99,7 @@ settles ss x =
     firstOr (x .to)
     (map (λ s. s .country) (keep (λ s. sameTag (s .from) (x .to) && notAfter (x .date) (s .date)) ss))
 
--- A change settled: from its date on this is its slot's holder.
+-- A change settled: until the slot's next change this is its holder.
 pub record Move : Type 0 where
   pub date : Eu4Date
   pub slot : ProvinceId

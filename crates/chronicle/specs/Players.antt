@@ -1,12 +1,11 @@
 -- 01, Players: the players of a campaign (`players`).
 use mathlib.Core.Bool.{Bool, cond, _&&_, not}
 use mathlib.Core.List.{List, [], _∷_}
+use mathlib.Core.Option.{Option, none, some}
 use Prim.Native.Nat.{ℕ, _+_}
 use Rattle.lists.specs.Lists.{joinOf, sameNumbers}
 use Rattle.lists.specs.Text.{ascii}
 use Rattle.record.specs.declared.tag.CountryTag.{CountryTag}
-use Rattle.record.specs.declared.tag.Created.{Created}
-use Rattle.record.specs.declared.tag.Created.the-variants.{Tag, NoTag}
 use Rattle.record.specs.Tags.{created}
 use Rattle.record.specs.Campaign.{Campaign}
 
@@ -32,9 +31,9 @@ abbrev pub isAnonymous : Bool → Pair → Bool
 isAnonymous multiplayer p = sameNumbers (p .name) (ascii "Player") && not multiplayer
 
 -- Skipped is any pair whose second text is no tag.
-abbrev pub taggedPlayer : ℕ → Created → List Player
-taggedPlayer number (Tag t) = record { name = number; tag = t } ∷ []
-taggedPlayer number NoTag = []
+abbrev pub taggedPlayer : ℕ → Option CountryTag → List Player
+taggedPlayer number none = []
+taggedPlayer number (some t) = record { name = number; tag = t } ∷ []
 
 -- The player of a pair; no player when it is skipped.
 unfoldable pub playerOf : Bool → Pair → List Player

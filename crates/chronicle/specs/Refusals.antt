@@ -1,4 +1,5 @@
--- 01, Who can be refused, and by which number: the numbers that calls add to the record's own. (10 stands in Lent.)
+-- 01, Who can be refused, and by which number: the numbers that the chronicle's calls add to the record's own. (10 stands
+-- in Lent; the page's own 10 and 12 stand with the page.)
 use mathlib.Core.Bool.{cond}
 use mathlib.Core.List.{List}
 use mathlib.Core.Option.{Option, none, some}

@@ -8,7 +8,7 @@ use lib.ListN.{length, set}
 use Rattle.lists.specs.Lists.{keep, allOf, firstOr, numbersFrom, twice}
 use Rattle.record.specs.declared.tag.CountryTag.{CountryTag}
 use Rattle.record.specs.declared.rows.ProvinceId.{ProvinceId}
-use Rattle.record.specs.Tags.{none as NONE}
+use Rattle.record.specs.Tags.{NONE}
 use Rattle.record.specs.Campaign.{Campaign, Province}
 use Rattle.chronicle.specs.Lent.{written}
 use Rattle.chronicle.specs.Changes.{sameId}

@@ -27,9 +27,9 @@ firstAt x k (y ∷ ys) = cond (eqb y x) k (firstAt x (suc k) ys)
 abbrev pub byDate : Entry → Entry → Bool
 byDate a b = notAfter (a .date) (b .date)
 
--- A change's key begins with its date: behind it stand 29 bits.
+-- A change's key begins with its date: behind it stand 32 bits (ChangeSteps keyOf).
 abbrev pub keyDate : ℕ → Eu4Date
-keyDate key = record { 0 = key / 536870912 }
+keyDate key = record { 0 = key / 4294967296 }
 
 -- ## Turns by rows
 
@@ -166,7 +166,7 @@ pub record Chained (keys olds news : List ℕ) : Type 0 where
   pub few : length keys ≤ 65535
   pub allOlds : length olds ≡ length keys
   pub allNews : length news ≡ length keys
-  pub dates : (k : ℕ) → k < length keys → getD keys k 0 < 2305843009213693952
+  pub dates : (k : ℕ) → k < length keys → getD keys k 0 < 18446744073709551616
   pub oldsRise : (k : ℕ) → k < length keys → k < getD olds k 0
   pub newsRise : (k : ℕ) → k < length keys → k < getD news k 0
 

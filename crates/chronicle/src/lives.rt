@@ -49,10 +49,10 @@ fn link_at(links: &[u16], k: usize) -> usize
 // The date of change k.
 fn date_at(keys: &[u64], k: usize) -> u32
     requires { ⌜ k < length (now keys) ⌝ }
-    requires { ⌜ getD (now keys) k 0 < 2305843009213693952 ⌝ }
-    ensures { λ r. ⌜ r ≡ getD (now (keys .entry)) k 0 / 536870912 ⌝ }
+    requires { ⌜ getD (now keys) k 0 < 18446744073709551616 ⌝ }
+    ensures { λ r. ⌜ r ≡ getD (now (keys .entry)) k 0 / 4294967296 ⌝ }
 {
-    (keys[k] / 536870912) as u32
+    (keys[k] / 4294967296) as u32
 }
 
 // The word of an entry row that tells its kind.

@@ -1,4 +1,5 @@
--- 01, Page: the C functions that the host calls. An outcome comes back as one signed number and the lent slice.
+-- How an outcome comes back from a C function other than check and page: one signed number, and the lent slice. (DECISIONS, 'What each
+-- call is given'.)
 use mathlib.Core.Path.{_≡_}
 use mathlib.Core.List.{List, [], _∷_}
 use Prim.Native.Nat.{ℕ}
@@ -30,5 +31,6 @@ inCells (refused n) before = record { answer = refused n; memory = before }
 inCells (gives run) before =
     outcome (roomNumber (fits (runWords run) before)) (length (runWords run)) (written (runWords run) before) before
 
+-- The C function `events_on`: the outcome of the call, with its two numbers in the lent slice.
 unfoldable pub callEventsOnCells : List ℕ → ℕ → List ℕ → Outcome ℕ (List ℕ)
 callEventsOnCells xs date before = inCells (callEventsOn xs date) before

@@ -8,19 +8,17 @@ use lib.ListN.{length}
 use Rattle.lists.specs.Lists.{keep, firstThat, joinOf, last}
 use Rattle.lists.specs.Text.{ascii}
 use Rattle.record.specs.declared.tag.CountryTag.{CountryTag}
-use Rattle.record.specs.declared.tag.Created.{Created}
-use Rattle.record.specs.declared.tag.Created.the-variants.{Tag, NoTag}
 use Rattle.record.specs.Tags.{created, sameTag}
 use Rattle.chronicle.specs.Chronicle.{isAppeared, isAnnexed, Entry, Nation}
 
 -- ## The selection
 
 -- One tag more, if it is a tag, a line feed follows it and the rest is read.
-abbrev pub oneMore : Created → Bool → Option (List CountryTag) → Option (List CountryTag)
-oneMore NoTag feed rest = none
-oneMore (Tag t) false rest = none
-oneMore (Tag t) true none = none
-oneMore (Tag t) true (some ts) = some (t ∷ ts)
+abbrev pub oneMore : Option CountryTag → Bool → Option (List CountryTag) → Option (List CountryTag)
+oneMore none feed rest = none
+oneMore (some t) false rest = none
+oneMore (some t) true none = none
+oneMore (some t) true (some ts) = some (t ∷ ts)
 
 -- Selected stored tags, each followed by a line feed; none for anything else.
 unfoldable pub selectionOf : List ℕ → Option (List CountryTag)

@@ -52,6 +52,7 @@ pub record Starred : Type 0 where
   pub setResolve : Answer (Option TagData)
   pub setInitial : Answer (Option TagData)
   pub ledger : Outcome ℕ (List ℕ)
+  pub sameDayWhole : ℕ
   pub sameDayEntries : List Entry
   pub page : Outcome ℕ (List ℕ)
   pub printed : List ℕ
@@ -72,6 +73,7 @@ computed =
       setResolve = callResolveOn (writtenNations worked) (writtenEntries worked) 14480531 (ENG .0) 14480531;
       setInitial = callInitialOn (writtenNations worked) (writtenEntries worked) 14480531 (ENG .0);
       ledger = callNationLedger workedLedger (writtenNations workedLedger) (writtenEntries workedLedger) 0 (sevens 20);
+      sameDayWhole = refusal sameDay;
       sameDayEntries = entriesStored GBR sameDay;
       page = callPage worked selection (sevens 55);
       printed = callProgram (some worked) selection;
@@ -130,6 +132,7 @@ expected =
       setResolve = gives (some (record { current = ENG; stored = GBR }));
       setInitial = gives none;
       ledger = record { answer = gives 6; memory = expectedLedger ++ sevens 2 };
+      sameDayWhole = 0;
       sameDayEntries = expectedSameDay;
       page = record { answer = gives 53; memory = expectedPage ++ sevens 2 };
       printed = expectedPage;

@@ -42,7 +42,7 @@ dateAt xs at = record { 0 = le32 xs at }
 unfoldable pub idAt : List ℕ → ℕ → ProvinceId
 idAt xs at = record { 0 = le16 xs at }
 
--- A number that was read: its value and its range.
+-- What inner reads promise, and no public function: the number's value and its range.
 pub record Num (value bound r : ℕ) : Type 0 where
   pub same : r ≡ value
   pub small : r < bound

@@ -1,6 +1,7 @@
 -- 01, The packed record: dates. A date is year×10000 + month×100 + day; date order is number order.
-use mathlib.Core.Bool.{Bool, true, false, _&&_}
+use mathlib.Core.Bool.{Bool, cond, _&&_}
 use mathlib.Core.List.{List, [], _∷_}
+use mathlib.Core.Option.{Option, none, some}
 use Prim.Native.Nat.{ℕ, _/_, _%_}
 use lib.Dec.{leb, ltb}
 use lib.ListN.{getD}
@@ -37,16 +38,11 @@ notAfter a b = leb (a .0) (b .0)
 abbrev pub earlier : Eu4Date → Eu4Date → Bool
 earlier a b = ltb (a .0) (b .0)
 
--- The answer of reading a word as a date, by case.
-abbrev pub pickDated : Bool → Eu4Date → Dated
-pickDated true d = Date d
-pickDated false d = NoDate
+-- The answer of `of_word`, by case: a date, or none, which is 5 in a record, 11 in a lent row and 12 in a question.
+abbrev pub datedDate : Dated → Option Eu4Date
+datedDate (Date d) = some d
+datedDate NoDate = none
 
 -- A 32-bit word, read as a date.
-unfoldable pub dateOfWord : ℕ → Dated
-dateOfWord w = pickDated (goodDate (record { 0 = w })) (record { 0 = w })
-
--- 5: a bad date.
-abbrev pub datedNumber : Dated → ℕ
-datedNumber (Date d) = 0
-datedNumber NoDate = 5
+unfoldable pub dateOfWord : ℕ → Option Eu4Date
+dateOfWord w = cond (goodDate (record { 0 = w })) (some (record { 0 = w })) none

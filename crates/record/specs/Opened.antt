@@ -15,7 +15,8 @@ abbrev pub openedNumber : Opened → ℕ
 openedNumber (Accepted r) = 0
 openedNumber (Refused n) = n
 
--- The record tells its campaign: flags, dates, and of each section a cursor that has left exactly the campaign's rows.
+-- The record tells its campaign: flags, dates, and of each section a cursor that has left exactly the campaign's rows. Of countries and
+-- provinces the cursor counts them rightly too.
 pub record Tells (xs : List ℕ) (r : Record) : Type 0 where
   pub ironman : r .ironman ≡ campaignOf xs .ironman
   pub multiplayer : r .multiplayer ≡ campaignOf xs .multiplayer

@@ -1,5 +1,6 @@
 -- What the campaign of an accepted record satisfies, for the layer above: if `refusal xs` is 0, then `campaignOf xs` is `Sound`
--- (proofs/SoundLaws). These are the rules behind 4 to 9, told of rows instead of bytes.
+-- (proofs/SoundLaws). These are the rules behind 4, 5, 7, 8 and 9, and of 6 that of kinds, told of
+-- rows instead of bytes.
 use mathlib.Core.Path.{_≡_}
 use mathlib.Core.Bool.{true, false}
 use mathlib.Core.List.{map}

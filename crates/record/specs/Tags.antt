@@ -1,6 +1,7 @@
 -- 01, The packed record: country tags, by the rule of `CountryTag::create`. A tag's word is a×65536 + b×256 + c of its three bytes.
-use mathlib.Core.Bool.{Bool, true, false, _||_, _&&_}
+use mathlib.Core.Bool.{Bool, cond, _||_, _&&_}
 use mathlib.Core.List.{List}
+use mathlib.Core.Option.{Option, none, some}
 use Prim.Native.Nat.{ℕ, _+_, _*_, _/_, _%_}
 use lib.Dec.{eqb, leb}
 use lib.ListN.{length, getD}
@@ -17,8 +18,8 @@ abbrev pub tagOf : ℕ → ℕ → ℕ → CountryTag
 tagOf a b c = record { 0 = a * 65536 + b * 256 + c }
 
 -- `NONE` is `---`, a tag like any other.
-abbrev pub none : CountryTag
-none = tagOf 45 45 45
+abbrev pub NONE : CountryTag
+NONE = tagOf 45 45 45
 
 -- A word is a tag's word when its three bytes are tag bytes.
 unfoldable pub isTag : CountryTag → Bool
@@ -28,25 +29,22 @@ isTag t = tagByte (t .0 / 65536) && tagByte (t .0 / 256 % 256) && tagByte (t .0 
 abbrev pub sameTag : CountryTag → CountryTag → Bool
 sameTag a b = eqb (a .0) (b .0)
 
--- A word that may be a tag's: `Tag` when it is one.
-abbrev pub pickCreated : Bool → CountryTag → Created
-pickCreated true t = Tag t
-pickCreated false t = NoTag
+-- The answer of `create` and of `of_word`, by case: a tag, or none. Whoever asked knows which number that is: 4 in a record, 11 in a lent
+-- row, 12 in a question; of a player's text it is no refusal at all.
+abbrev pub createdTag : Created → Option CountryTag
+createdTag (Tag t) = some t
+createdTag NoTag = none
 
-unfoldable pub tested : CountryTag → Created
-tested t = pickCreated (isTag t) t
+-- A word, if it is a tag's.
+unfoldable pub tested : CountryTag → Option CountryTag
+tested t = cond (isTag t) (some t) none
 
 -- `CountryTag::create`: exactly three bytes, each a tag byte.
-unfoldable pub created : List ℕ → Created
+unfoldable pub created : List ℕ → Option CountryTag
 created s =
     let t = tagOf (getD s 0 0) (getD s 1 0) (getD s 2 0) in
-    pickCreated (eqb (length s) 3 && isTag t) t
+    cond (eqb (length s) 3 && isTag t) (some t) none
 
 -- A 32-bit word of a row, read as a tag.
-abbrev pub tagOfWord : ℕ → Created
+abbrev pub tagOfWord : ℕ → Option CountryTag
 tagOfWord w = tested (record { 0 = w })
-
--- 4: a tag byte other than an ASCII letter, digit or `-`.
-abbrev pub createdNumber : Created → ℕ
-createdNumber (Tag t) = 0
-createdNumber NoTag = 4

@@ -263,7 +263,7 @@ impl Countries {
         NextCountry::Row(row, rest)
     }
 
-    // How many country rows are left.
+    // How many country rows are left, of a cursor as an accepted record gave it.
     pub fn len(self) -> usize
         ensures { λ r. ⌜ r ≡ self .rows .left ⌝ }
     {
@@ -311,7 +311,7 @@ impl Provinces {
         NextProvince::Row(row, rest)
     }
 
-    // How many province rows are left.
+    // How many province rows are left, of a cursor as an accepted record gave it.
     pub fn len(self) -> usize
         ensures { λ r. ⌜ r ≡ self .rows .left ⌝ }
     {

@@ -1,5 +1,5 @@
 ghost use mathlib.Core.Path.{_≡_};
-ghost use Rattle.record.specs.Dates.{month, monthDays, goodDate, dateOfWord, notAfter, earlier};
+ghost use Rattle.record.specs.Dates.{month, monthDays, goodDate, datedDate, dateOfWord, notAfter, earlier};
 ghost use Rattle.record.specs.Dates.{year as yearOf};
 ghost use Rattle.record.specs.Laid.{MonthTable};
 
@@ -68,7 +68,7 @@ impl Eu4Date {
 
     // The date that a row's word holds; a word that is no date's is refused.
     pub fn of_word(w: u32) -> Dated
-        ensures { λ r. ⌜ r ≡ dateOfWord w ⌝ }
+        ensures { λ r. ⌜ datedDate r ≡ dateOfWord w ⌝ }
     {
         if Eu4Date(w).good() {
             Dated::Date(Eu4Date(w))

@@ -4,7 +4,7 @@ ghost use Prim.Native.Nat.{_+_, _≤_};
 ghost use lib.ListN.{length};
 ghost use Rattle.record.specs.Bytes.{tagAt};
 ghost use Rattle.record.specs.Laid.{TagTable};
-ghost use Rattle.record.specs.Tags.{tagByte, isTag, tested, sameTag, created, tagOfWord};
+ghost use Rattle.record.specs.Tags.{tagByte, isTag, createdTag, tested, sameTag, created, tagOfWord};
 
 // A country's tag of three bytes, held as its word a*65536 + b*256 + c: equal words are equal tags, and word order is byte order.
 pub struct CountryTag(pub(crate) u32);
@@ -59,7 +59,7 @@ impl CountryTag {
 
     // The tag of a text of three tag bytes; any other text is no tag.
     pub fn create(s: &[u8]) -> Created
-        ensures { λ r. ⌜ r ≡ created (now (s .entry)) ⌝ }
+        ensures { λ r. ⌜ createdTag r ≡ created (now (s .entry)) ⌝ }
     {
         if s.len() != 3 {
             return Created::NoTag;
@@ -69,13 +69,13 @@ impl CountryTag {
 
     // The tag whose word a row holds; a word with a byte that is no tag byte is no tag.
     pub fn of_word(w: u32) -> Created
-        ensures { λ r. ⌜ r ≡ tagOfWord w ⌝ }
+        ensures { λ r. ⌜ createdTag r ≡ tagOfWord w ⌝ }
     {
         CountryTag::tested(CountryTag(w))
     }
 
     fn tested(self) -> Created
-        ensures { λ r. ⌜ r ≡ tested self ⌝ }
+        ensures { λ r. ⌜ createdTag r ≡ tested self ⌝ }
     {
         if self.good() {
             Created::Tag(self)
