@@ -67,8 +67,24 @@ mod run {
         Some(given)
     }
 
+    /// Met only where a comparison gets so far: looked for from the start, so that none is missed silently.
+    const LOOKED_FOR: [&str; 9] = [
+        "answer: events_on",
+        "answer: resolver, not none",
+        "answer: starting country, not none",
+        "record: refused",
+        "row: booking",
+        "row: history",
+        "row: history with a leftover's initial",
+        "row: ledger point",
+        "row: player",
+    ];
+
     fn all(campaigns: u64, seed: u64, extremes: usize) -> Result<(), String> {
         let mut seen = Seen::default();
+        for what in LOOKED_FOR {
+            seen.add(what, 0);
+        }
         small(campaigns, seed, &mut seen)?;
         damaged(campaigns / 4, seed, &mut seen)?;
         println!("{seen}");
