@@ -74,7 +74,7 @@ every P f (x ∷ xs) = (f x, every P f xs)
 
 -- ## Slots
 
-length-slots : (c : Campaign) → length (slotsOf c) ≡ suc (length (c .provinces))
+pub length-slots : (c : Campaign) → length (slotsOf c) ≡ suc (length (c .provinces))
 unfolding slotsOf
 length-slots c =
     length-map (numbersFrom 0 (suc (length (c .provinces)))) (λ n. slot n) ∙ length-numbers 0 (suc (length (c .provinces)))

@@ -28,7 +28,7 @@ use Rattle.chronicle.proofs.CampaignLaws.{moves-order}
 -- Each entry of a turn has the turn's date.
 module _ (P : Entry → Type 0) (start date : Eu4Date) (loses gains : Bool) (n : ℕ)
     (lost : P (record { date = date; kind = annexed })) (gained : P (record { date = date; kind = appeared })) where
-  turn-all : All P (turnEntries start date loses gains n)
+  pub turn-all : All P (turnEntries start date loses gains n)
   unfolding turnEntries
   turn-all = go (loses && eqb (n - 1) 0) (gains && eqb (cond loses (n - 1) n) 0 && earlier start date)
     where
@@ -76,11 +76,12 @@ lives-order start t (x ∷ xs) n o =
 
 -- ## Turns have the dates of their moves
 
-all-turns : (day : ℕ) (ms : List Move) (holders : List (Option CountryTag)) → All (λ m. day ≤ m .date .0) ms
-    → All (λ x. day ≤ x .date .0) (turnsFrom holders ms)
+-- What holds of the dates of all moves holds of those of their turns.
+pub all-turns : (P : Eu4Date → Type 0) (ms : List Move) (holders : List (Option CountryTag)) → All (λ m. P (m .date)) ms
+    → All (λ x. P (x .date)) (turnsFrom holders ms)
 unfolding turnsFrom
-all-turns day [] holders q = tt
-all-turns day (m ∷ ms) holders q = (q .0, all-turns day ms (set holders (m .slot .0) (some (m .holder))) (q .1))
+all-turns P [] holders q = tt
+all-turns P (m ∷ ms) holders q = (q .0, all-turns P ms (set holders (m .slot .0) (some (m .holder))) (q .1))
 
 turns-order : (ms : List Move) (holders : List (Option CountryTag)) → InOrder (λ m. m .date .0) ms
     → InOrder (λ x. x .date .0) (turnsFrom holders ms)
@@ -88,7 +89,7 @@ unfolding turnsFrom
 turns-order [] holders o = tt
 turns-order (m ∷ ms) holders o =
     let holders′ : List (Option CountryTag) = set holders (m .slot .0) (some (m .holder)) in
-    (all-turns (m .date .0) ms holders′ (o .0), turns-order ms holders′ (o .1))
+    (all-turns (λ d. m .date .0 ≤ d .0) ms holders′ (o .0), turns-order ms holders′ (o .1))
 
 pub lives-in-order : (c : Campaign) (t : CountryTag) → InOrder (λ e. e .date .0) (livesOf c t)
 unfolding livesOf turnsOf

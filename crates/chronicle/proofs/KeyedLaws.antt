@@ -14,13 +14,13 @@ use Rattle.record.specs.declared.tag.CountryTag.{CountryTag}
 use Rattle.record.specs.declared.date.Eu4Date.{Eu4Date}
 use Rattle.record.specs.declared.rows.Switch.{Switch}
 use Rattle.record.specs.Dates.{goodDate, year, day, month, monthDays}
-use Rattle.record.specs.Head.{headOf, withinLimits, countriesAt, switchesAt}
-use Rattle.record.specs.Rows.{PackedCountry, countryAt, switchAt}
+use Rattle.record.specs.Head.{headOf, withinLimits, countriesAt, switchesAt, provincesAt}
+use Rattle.record.specs.Rows.{PackedCountry, countryAt, switchAt, provinceAt}
 use Rattle.record.specs.Campaign.{Country, countryRows, previousTags, switchRows, groupCountries, campaignOf}
 use Rattle.record.specs.Refusal.{totalsAgree, lengthAgrees, sizesAgree, refusal}
 use Rattle.record.proofs.TagLaws.{tag-bytes}
 use Rattle.record.proofs.HeadLaws.{Limits, limits-of}
-use Rattle.record.proofs.CampaignLaws.{rows-counted, countries-length}
+use Rattle.record.proofs.CampaignLaws.{rows-counted, countries-length, provinces-length}
 use Rattle.record.proofs.AcceptLaws.{accepted}
 use Rattle.chronicle.specs.Countries.{switchKey, switchKeysFrom, smallSwitch, Keyed}
 use Rattle.chronicle.specs.Starting.{Slotted}
@@ -76,6 +76,12 @@ module _ (xs : List ℕ) (h : refusal xs ≡ 0) where
   countries-few =
       let l = limits in
       rw countries-length (omega (arith, rows-counted (countryAt xs) 12 xs (countriesAt (headOf xs)) (headOf xs .countries), l .countries))
+
+  pub provinces-few : length (campaignOf xs .provinces) ≤ 8000
+  unfolding campaignOf
+  provinces-few =
+      let l = limits in
+      rw provinces-length (omega (arith, rows-counted (provinceAt xs) 7 xs (provincesAt (headOf xs)) (headOf xs .provinces), l .provinces))
 
   pub switches-few : length (switchKeysFrom 0 (campaignOf xs .countries)) ≤ 20000
   unfolding campaignOf

@@ -16,6 +16,7 @@ pub mod CountLaws
 pub mod ChainLaws
 pub mod WalkLaws
 pub mod TurningLaws
+pub mod CellLaws
 pub mod PassLaws
 pub mod LivesLaws
 pub mod EntryLaws
@@ -25,3 +26,16 @@ pub mod MappedLaws
 pub mod SettlingLaws
 pub mod StartingLaws
 pub mod KeyedLaws
+pub mod NationStepLaws
+pub mod SettledLaws
+pub mod ListedLaws
+pub mod NationsLaws
+pub mod DayLaws
+pub mod SwitchLaws
+pub mod NationSizeLaws
+pub mod NationOutcomeLaws
+pub mod MergeEntryLaws
+pub mod ListingLaws
+pub mod HoldersLaws
+pub mod WorkedOutLaws
+pub mod WriteAllLaws

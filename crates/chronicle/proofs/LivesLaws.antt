@@ -43,7 +43,7 @@ module _ (start : Eu4Date) (olds news : List ℕ) (m m′ r : ℕ) (inside : r <
 
 module _ (keys oldRows newRows olds news losses gains : List ℕ) (xs : List RowTurn) (rowed : Rowed keys oldRows newRows xs)
     (few : length keys ≤ 65535) (o : Linked oldRows olds losses) (n : Linked newRows news gains) where
-  count-turns : length xs ≡ length keys
+  pub count-turns : length xs ≡ length keys
   count-turns = sym (length-map xs (λ x. x .date)) ∙ (sym (ap length (rowed .dates)) ∙ length-map keys keyDate)
 
   count-olds : length oldRows ≡ length keys

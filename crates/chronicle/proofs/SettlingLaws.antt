@@ -3,7 +3,7 @@
 use mathlib.Core.Path.{_≡_, refl, sym, ap, _∙_}
 use mathlib.Core.Bool.{Bool, true, _&&_}
 use mathlib.Core.List.{List, [], _∷_, _++_, map}
-use mathlib.Core.Option.{Option, none, Option·map}
+use mathlib.Core.Option.{Option, none, some, Option·map}
 use Prim.Native.Nat.{ℕ, suc, _+_, _≤_, _<_}
 use native.Mathlib.Omega.{arith}
 use borrow.Author.Tests.{eqb-true, eqb-false, leb-true, leb-false, ltb-true, lt-ltb, le-ltb, le-leb, lt-leb}
@@ -28,7 +28,7 @@ use Rattle.chronicle.specs.Nations.{CountrySwitch, ownSwitches, allSwitc
 use Rattle.chronicle.specs.Lookup.{noRow, rowIn, within, firstWithin}
 use Rattle.chronicle.specs.Countries.{tagAtRow, rowOf, keyOf, switchKey, switchKeysFrom, switchKeys, smallSwitch, Keyed, RowFound}
 use Rattle.chronicle.specs.Settling.{orTag, settledRow, Settled, RowSettled, RowHolds}
-use Rattle.chronicle.proofs.MappedLaws.{row-single}
+use Rattle.chronicle.proofs.MappedLaws.{row-has, row-single}
 
 -- ## Switches with the rows of their countries
 
@@ -247,6 +247,15 @@ row-settled keys to date low high row l h e =
           rw same (settled-row ks keyed x early′);
     }
 
+-- The country in the row of a tag has that tag, so a tag's own row tells the tag again.
+own-tag : (ks : List Country) → length ks ≤ 2048 → (t : CountryTag) (o : Option Country) → getElem? ks (rowOf ks t) ≡ o
+    → orTag t (Option·map (λ k. k .tag) o) ≡ t
+own-tag ks few t none e = refl
+own-tag ks few t (some k) e = ap (λ (w : ℕ). tagged w) (row-has ks few t (rowOf ks t) refl k e)
+  where
+    tagged : ℕ → CountryTag
+    tagged w = record { 0 = w }
+
 module _ (tags switches : List ℕ) (to : CountryTag) (date : Eu4Date) (row : ℕ) (settled : RowSettled switches to date row) where
   -- the country of a switch
   pub holds-switched : (row ≡ noRow → ⊥) → RowHolds tags switches to date row
@@ -258,6 +267,7 @@ module _ (tags switches : List ℕ) (to : CountryTag) (date : Eu4Date) (row : �
             let whom : settles (allSwitches ks) x ≡ k .0 .tag =
             q .holder ∙ ap (λ (o : Option Country). orTag (x .to) (Option·map (λ y. y .tag) o)) (k .1) in
             sym (ap (rowOf ks) whom ∙ row-single ks (keyed .few) once row (k .0) (k .1));
+        holder = λ ks x keyed once a b t d early. settled .settled ks x keyed b t d early .holder;
       }
 
   -- the change's own tag
@@ -265,9 +275,17 @@ module _ (tags switches : List ℕ) (to : CountryTag) (date : Eu4Date) (row : �
   holds-own e own found =
       record {
         holds = λ ks x keyed once a b t d early.
-            let q = settled .settled ks x keyed b t d early in
-            let nobody : getElem? ks row ≡ none = at-end ks row (let l = keyed .few in omega arith) in
-            let whom : settles (allSwitches ks) x ≡ to =
-            q .holder ∙ ap (λ (o : Option Country). orTag (x .to) (Option·map (λ y. y .tag) o)) nobody ∙ t in
-            found .found ks (keyed .few) a ∙ ap (rowOf ks) (sym whom);
+            found .found ks (keyed .few) a ∙ ap (rowOf ks) (sym (whom ks x keyed b t d early ∙ t));
+        holder = λ ks x keyed once a b t d early.
+            let here : own ≡ rowOf ks (x .to) = found .found ks (keyed .few) a ∙ ap (rowOf ks) (sym t) in
+            whom ks x keyed b t d early
+            ∙ sym (own-tag ks (keyed .few) (x .to) (getElem? ks (rowOf ks (x .to))) refl)
+            ∙ ap (λ (r : ℕ). orTag (x .to) (tagAtRow ks r)) (sym here);
       }
+    where
+      whom : (ks : List Country) (x : Change) → Keyed ks → switches ≡ switchKeys ks → x .to ≡ to → x .date ≡ date → date .0 < 134217728
+          → settles (allSwitches ks) x ≡ x .to
+      whom ks x keyed b t d early =
+          let q = settled .settled ks x keyed b t d early in
+          let nobody : getElem? ks row ≡ none = at-end ks row (let l = keyed .few in omega arith) in
+          q .holder ∙ ap (λ (o : Option Country). orTag (x .to) (Option·map (λ y. y .tag) o)) nobody

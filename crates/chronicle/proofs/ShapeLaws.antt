@@ -36,7 +36,7 @@ pub record GoodEntry (e : Entry) : Type 0 where
   pub date : GoodDate (e .date)
   pub kind : GoodKind (e .kind)
 
-initial-tag : (ss : List Switch) (ps : List CountryTag) (k : CountryTag) → All GoodSwitch ss → All GoodTag ps → GoodTag k → GoodTag (initialFrom ss ps k)
+pub initial-tag : (ss : List Switch) (ps : List CountryTag) (k : CountryTag) → All GoodSwitch ss → All GoodTag ps → GoodTag k → GoodTag (initialFrom ss ps k)
 unfolding initialFrom
 initial-tag [] [] k a b h = h
 initial-tag [] (p ∷ ps) k a b h = b .0
@@ -68,7 +68,7 @@ lives-good start t [] holders n q = tt
 lives-good start t (m ∷ ms) holders n q =
     all-append GoodEntry (turnEntries start (m .date) _ _ n) _ (turn-good start (m .date) _ _ n (q .0)) (lives-good start t ms _ _ (q .1))
 
-moves-good : (c : Campaign) → Sound c → All (λ m. GoodDate (m .date)) (movesOf c)
+pub moves-good : (c : Campaign) → Sound c → All (λ m. GoodDate (m .date)) (movesOf c)
 moves-good c g =
     all-moves c (GoodProvince (length (c .provinces))) (λ x. GoodDate (x .date)) (λ m. GoodDate (m .date))
     (λ p q. all-changes (λ x. GoodDate (x .date)) (p .id) (p .owner) (p .events) (all-map (λ e h from. h .date) (p .events) (q .events)))

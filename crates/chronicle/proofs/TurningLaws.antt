@@ -8,9 +8,10 @@ use native.Mathlib.Omega.{arith}
 use borrow.Author.Tests.{eqb-true, eqb-false, lt-ltb, eq-eqb, ne-eqb}
 use lib.Dec.{ltb, eqb}
 use lib.ListN.{length, getD, set, length-set, length-map}
-use Rattle.lists.specs.Lists.{anyOf, countOf, one, twice}
+use lib.Seq.{ext-getD}
+use Rattle.lists.specs.Lists.{anyOf, countOf, one, twice, numbersFrom}
 use Rattle.lists.proofs.BoolLaws.{cases, neither}
-use Rattle.lists.proofs.ListLaws.{map-then, count-set, count-pos}
+use Rattle.lists.proofs.ListLaws.{map-then, length-numbers, numbers-at, count-set, count-pos}
 use Rattle.lists.specs.Lists.{All}
 use Rattle.record.specs.declared.tag.CountryTag.{CountryTag}
 use Rattle.record.specs.declared.date.Eu4Date.{Eu4Date}
@@ -19,7 +20,8 @@ use Rattle.record.specs.Campaign.{Campaign, Country}
 use Rattle.chronicle.specs.Chronicle.{Entry}
 use Rattle.chronicle.specs.Nations.{matches, Move, Turn, startHolders, movesOf, turnsFrom, turnsOf, turnCount, livesFrom, livesOf, heldEver, holdersOf, heldOf}
 use Rattle.chronicle.specs.NationRows.{holderWord}
-use Rattle.chronicle.specs.Turning.{firstAt, tagWords, rowTag, rowOf, holderRow, rowTurn, rowTurnsOf, rowTurnsFrom, wordsAfter, rowLived}
+use Rattle.chronicle.specs.Turning.{firstAt, tagWords, rowTag, rowOf, holderRow, rowTurn, rowTurnsOf, rowLived}
+use Rattle.chronicle.specs.Holders.{slotCounts, Step, turnsAlong, rowsAlong, wordsAlong}
 use Rattle.chronicle.proofs.ChainLaws.{first-from}
 use Rattle.chronicle.proofs.LivingLaws.{afterMoves, turn-count}
 use Rattle.record.specs.Sound.{Sound}
@@ -27,7 +29,7 @@ use Rattle.chronicle.proofs.CampaignLaws.{moves-slots, holders-of}
 
 -- ## Places
 
-eqb-sym : (a b : ℕ) → eqb a b ≡ eqb b a
+pub eqb-sym : (a b : ℕ) → eqb a b ≡ eqb b a
 eqb-sym a b =
     cases (eqb a b)
     (λ h. h ∙ sym (eq-eqb b a (sym (eqb-true a b h))))
@@ -70,6 +72,11 @@ module _ (tags : List ℕ) (r : ℕ) (single : twice tags ≡ false) (inside : r
   holder-is : (h : Option CountryTag) → eqb (holderRow tags h) r ≡ matches tag h
   holder-is none = ne-eqb 65535 r (λ e. omega arith)
   holder-is (some t) = row-is t
+
+  -- As many have the row as match the tag.
+  count-rows : (hs : List (Option CountryTag)) → countOf (λ x. eqb x r) (map (holderRow tags) hs) ≡ countOf (matches tag) hs
+  count-rows [] = refl
+  count-rows (h ∷ hs) = simp (holder-is h, count-rows hs)
 
   pub row-entries : (start : Eu4Date) (xs : List Turn) (n : ℕ)
       → rowLived start r (map (rowTurn tags) xs) n .entries ≡ livesFrom start tag xs n
@@ -132,26 +139,68 @@ at-map f [] i d = refl
 at-map f (x ∷ l) zero d = refl
 at-map f (x ∷ l) (suc i) d = at-map f l i d
 
-pub rows-kept : (tags : List ℕ) (ms : List Move) (holders : List (Option CountryTag))
-    → map (rowTurn tags) (turnsFrom holders ms) ≡ rowTurnsFrom tags (map (holderRow tags) holders) ms
-unfolding turnsFrom rowTurnsFrom
-rows-kept tags [] holders = refl
-rows-kept tags (m ∷ ms) holders =
-    simp (at-map (holderRow tags) holders (m .slot .0) none, rows-kept tags ms, map-set)
+-- A move as the pass meets it.
+abbrev pub stepOf : List ℕ → Move → Step
+stepOf tags m = record { date = m .date; slot = m .slot .0; row = rowOf tags (m .holder); word = m .holder .0 }
 
-pub row-turns : (c : Campaign) → rowTurnsOf c ≡ rowTurnsFrom (tagWords c) (map (holderRow (tagWords c)) (startHolders c)) (movesOf c)
-unfolding rowTurnsOf turnsOf
-row-turns c = rows-kept (tagWords c) (movesOf c) (startHolders c)
+-- All moves of a campaign.
+abbrev pub stepsIn : Campaign → List Step
+stepsIn c = map (stepOf (tagWords c)) (movesOf c)
 
-pub words-after : (ms : List Move) (holders : List (Option CountryTag)) → map holderWord (afterMoves ms holders) ≡ wordsAfter ms (map holderWord holders)
-unfolding wordsAfter
-words-after [] holders = refl
-words-after (m ∷ ms) holders =
-    words-after ms (set holders (m .slot .0) (some (m .holder)))
-    ∙ ap (wordsAfter ms) (map-set holderWord holders (m .slot .0) (some (m .holder)))
+module _ (tags : List ℕ) where
+  -- The turns that moves give, from the rows of the holders on.
+  pub rows-kept : (ms : List Move) (holders : List (Option CountryTag))
+      → map (rowTurn tags) (turnsFrom holders ms) ≡ turnsAlong (map (holderRow tags) holders) (map (stepOf tags) ms)
+  unfolding turnsFrom turnsAlong
+  rows-kept [] holders = refl
+  rows-kept (m ∷ ms) holders = simp (at-map (holderRow tags) holders (m .slot .0) none, rows-kept ms, map-set)
 
-pub holder-words : (c : Campaign) → map holderWord (holdersOf c) ≡ wordsAfter (movesOf c) (map holderWord (startHolders c))
-holder-words c = ap (map holderWord) (holders-of c) ∙ words-after (movesOf c) (startHolders c)
+  -- The rows of the holders after moves.
+  pub rows-after : (ms : List Move) (holders : List (Option CountryTag))
+      → map (holderRow tags) (afterMoves ms holders) ≡ rowsAlong (map (stepOf tags) ms) (map (holderRow tags) holders)
+  unfolding rowsAlong
+  rows-after [] holders = refl
+  rows-after (m ∷ ms) holders =
+      rows-after ms (set holders (m .slot .0) (some (m .holder)))
+      ∙ ap (rowsAlong (map (stepOf tags) ms)) (map-set (holderRow tags) holders (m .slot .0) (some (m .holder)))
+
+  -- Their words.
+  pub words-after : (ms : List Move) (holders : List (Option CountryTag))
+      → map holderWord (afterMoves ms holders) ≡ wordsAlong (map (stepOf tags) ms) (map holderWord holders)
+  unfolding wordsAlong
+  words-after [] holders = refl
+  words-after (m ∷ ms) holders =
+      words-after ms (set holders (m .slot .0) (some (m .holder)))
+      ∙ ap (wordsAlong (map (stepOf tags) ms)) (map-set holderWord holders (m .slot .0) (some (m .holder)))
+
+module _ (c : Campaign) where
+  -- The campaign's turns, from the rows of the start holders on.
+  pub row-turns : rowTurnsOf c ≡ turnsAlong (map (holderRow (tagWords c)) (startHolders c)) (stepsIn c)
+  unfolding rowTurnsOf turnsOf
+  row-turns = rows-kept (tagWords c) (movesOf c) (startHolders c)
+
+  -- The rows of the holders after the last change, and their words.
+  pub holder-rows : map (holderRow (tagWords c)) (holdersOf c) ≡ rowsAlong (stepsIn c) (map (holderRow (tagWords c)) (startHolders c))
+  holder-rows = ap (map (holderRow (tagWords c))) (holders-of c) ∙ rows-after (tagWords c) (movesOf c) (startHolders c)
+
+  pub holder-words : map holderWord (holdersOf c) ≡ wordsAlong (stepsIn c) (map holderWord (startHolders c))
+  holder-words = ap (map holderWord) (holders-of c) ∙ words-after (tagWords c) (movesOf c) (startHolders c)
+
+-- How many slots have each row is how many slots each country holds, if no tag stands twice.
+pub counts-held : (tags : List ℕ) → twice tags ≡ false → length tags ≤ 65535 → (holders : List (Option CountryTag))
+    → slotCounts (map (holderRow tags) holders) (length tags) ≡ map (λ w. countOf (matches (record { 0 = w })) holders) tags
+counts-held tags single few holders =
+    let rows : List ℕ = map (holderRow tags) holders in
+    let size : length (slotCounts rows (length tags)) ≡ length tags =
+    length-map (numbersFrom 0 (length tags)) (λ r. countOf (λ x. eqb x r) rows) ∙ length-numbers 0 (length tags) in
+    ext-getD 0 (slotCounts rows (length tags)) (map (λ w. countOf (matches (record { 0 = w })) holders) tags)
+    (size ∙ sym (length-map tags (λ w. countOf (matches (record { 0 = w })) holders)))
+    (λ r l. let inside : r < length tags = omega arith in
+    let sum : 0 + r ≡ r = omega arith in
+    numbers-at (λ i. countOf (λ x. eqb x i) rows) 0 0 (length tags) r inside
+    ∙ ap (λ (i : ℕ). countOf (λ x. eqb x i) rows) sum
+    ∙ count-rows tags r single inside few holders
+    ∙ sym (map-at (λ w. countOf (matches (record { 0 = w })) holders) tags r 0 inside))
 
 -- ## Who held a slot ever
 

@@ -23,3 +23,7 @@ pub mod Lookup
 pub mod Countries
 pub mod Settling
 pub mod Starting
+pub mod Holders
+pub mod Switches
+pub mod Listing
+pub mod NationSteps

@@ -34,7 +34,10 @@ pub record RowSettled (keys : List ℕ) (to : CountryTag) (date : Eu4Date) (row 
   pub settled : (ks : List Country) (x : Change) → Keyed ks → keys ≡ switchKeys ks → x .to ≡ to → x .date ≡ date → date .0 < 134217728
       → Settled ks x row
 
--- The row of the country that holds the slot after a change, by the keys of the tags and of the switches.
+-- The row of the country that holds the slot after a change, by the keys of the tags and of the switches; the holder is the country in that
+-- row, or where there is none the change's `to`.
 pub record RowHolds (tags switches : List ℕ) (to : CountryTag) (date : Eu4Date) (row : ℕ) : Type 0 where
   pub holds : (ks : List Country) (x : Change) → Keyed ks → twice (tagWords ks) ≡ false → tags ≡ rowKeys (tagWords ks) → switches ≡ switchKeys ks
       → x .to ≡ to → x .date ≡ date → date .0 < 134217728 → row ≡ rowOf ks (settles (allSwitches ks) x)
+  pub holder : (ks : List Country) (x : Change) → Keyed ks → twice (tagWords ks) ≡ false → tags ≡ rowKeys (tagWords ks) → switches ≡ switchKeys ks
+      → x .to ≡ to → x .date ≡ date → date .0 < 134217728 → settles (allSwitches ks) x ≡ orTag (x .to) (tagAtRow ks row)

@@ -16,7 +16,7 @@ use Rattle.chronicle.specs.declared.lives.LivesCount.{LivesCount}
 use Rattle.chronicle.specs.declared.lives.Turned as Turned
 use Rattle.chronicle.specs.declared.lives.NextLife as NextLife
 use Rattle.chronicle.specs.Chronicle.{Kind, appeared, annexed, Entry}
-use Rattle.chronicle.specs.Nations.{Move, Turn, turnsOf, turnEntries, turnCount}
+use Rattle.chronicle.specs.Nations.{Turn, turnsOf, turnEntries, turnCount}
 
 -- The number of the first place that holds x, counted from k; 65535 if none does.
 unfoldable pub firstAt : ℕ → ℕ → List ℕ → ℕ
@@ -62,18 +62,6 @@ rowTurn tags x = record { date = x .date; old = holderRow tags (x .old); new = r
 -- The campaign's turns.
 unfoldable pub rowTurnsOf : Campaign → List RowTurn
 rowTurnsOf c = map (rowTurn (tagWords c)) (turnsOf c)
-
--- The turns that moves give, where only the row of each slot's holder is kept.
-unfoldable pub rowTurnsFrom : List ℕ → List ℕ → List Move → List RowTurn
-rowTurnsFrom tags rows [] = []
-rowTurnsFrom tags rows (m ∷ ms) =
-    record { date = m .date; old = getD rows (m .slot .0) 65535; new = rowOf tags (m .holder) }
-    ∷ rowTurnsFrom tags (set rows (m .slot .0) (rowOf tags (m .holder))) ms
-
--- The words of the slots' holders after moves.
-unfoldable pub wordsAfter : List Move → List ℕ → List ℕ
-wordsAfter [] words = words
-wordsAfter (m ∷ ms) words = wordsAfter ms (set words (m .slot .0) (m .holder .0))
 
 -- Cells that hold turns, in order: a key with the date, the old row and the new row of each.
 pub record Rowed (keys olds news : List ℕ) (xs : List RowTurn) : Type 0 where
