@@ -1,11 +1,18 @@
 // What the Rust host calls: C functions over slices. A slice is a pointer and then a length.
 use chronicle::EventsOn;
+use chronicle::NationCounts;
+use chronicle::NationEvents;
 use chronicle::Owners;
 ghost use mathlib.Core.Path.{_≡_};
+ghost use mathlib.Core.List.{_∷_, []};
+ghost use Prim.Native.Nat.{_≤_};
 ghost use lib.IntN.{pos, negℤ};
-ghost use Rattle.record.specs.Refusal.{refusal};
+ghost use lib.ListN.{length};
+ghost use Rattle.record.specs.Refusal.{refusal, firstOf};
+ghost use Rattle.chronicle.specs.Lent.{written};
 ghost use Rattle.chronicle.specs.Outcomes.{callProvinceOwners};
-ghost use Rattle.page.specs.Host.{Returns, callEventsOnCells};
+ghost use Rattle.chronicle.specs.Cases.{countsIn, nationCells};
+ghost use Rattle.page.specs.Host.{Returns, callEventsOnCells, countWords, FewCounts, nationSlices, callNationEventsCells};
 
 // The record's refusal number, 0 when it is accepted.
 #[no_mangle]
@@ -48,5 +55,52 @@ pub extern "C" fn events_on(s: &[u8], date: u32, out: &mut [u32]) -> i64
             2
         }
         EventsOn::Refused(number) => minus(number),
+    }
+}
+
+// The number that refuses a call without room: the record's own, else 10.
+fn room_number(s: &[u8]) -> u32
+    ensures { λ r. ⌜ r ≡ firstOf (refusal (now (s .entry)) ∷ 10 ∷ []) ⌝ }
+{
+    let number = record::check(s);
+    if number == 0 { 10 } else { number }
+}
+
+// Writes the five counts.
+fn put_counts(counts: NationCounts, out: &mut [u32])
+    requires { ⌜ FewCounts counts × (5 ≤ length (now out)) ⌝ }
+    ensures { λ _. ⌜ now (out .exit) ≡ written (countWords (countsIn counts)) (now (out .entry)) ⌝ }
+{
+    out[0] = counts.nations as u32;
+    out[1] = counts.entries as u32;
+    out[2] = counts.slots as u32;
+    out[3] = counts.countries as u32;
+    out[4] = counts.changes as u32;
+}
+
+// Writes the listed nations, five words each, their entries, three words each, the holder of each slot and the slots held by each country
+// after the last change, the owner changes, four words each, and how many of each there are. Gives 5, the number of counts, or minus the
+// refusal number: 10 where any slice is too short.
+#[no_mangle]
+pub extern "C" fn nation_events(
+    s: &[u8],
+    nations: &mut [u32],
+    entries: &mut [u32],
+    holders: &mut [u32],
+    held: &mut [u32],
+    changes: &mut [u32],
+    counts: &mut [u32],
+) -> i64
+    ensures { λ r. ⌜ Returns (callNationEventsCells (now (s .entry)) (nationSlices (nationCells (now (nations .entry)) (now (entries .entry)) (now (holders .entry)) (now (held .entry)) (now (changes .entry))) (now (counts .entry)))) r (nationSlices (nationCells (now (nations .exit)) (now (entries .exit)) (now (holders .exit)) (now (held .exit)) (now (changes .exit))) (now (counts .exit))) ⌝ }
+{
+    if counts.len() < 5 {
+        return minus(room_number(s));
+    }
+    match chronicle::nation_events(s, nations, entries, holders, held, changes) {
+        NationEvents::Rows(n) => {
+            put_counts(n, counts);
+            5
+        }
+        NationEvents::Refused(number) => minus(number),
     }
 }
