@@ -1,8 +1,10 @@
 // Replays the stored campaigns of answers.bin, each a record and what a chronicle answers of it, and counts the wrong
 // answers. The list is made by host/oracle's answer_vectors. Its numbers take 32 bits each, low byte first: the bytes of
 // the record, and how many changes, days, nations, entries, slots and countries follow; then these, of 4, 3, 5, 3, 1 and
-// 1 numbers each. Held to the record are its changes and days.
+// 1 numbers each. Held to the record are its changes, days and nations.
 use chronicle::EventsOn;
+use chronicle::NationCounts;
+use chronicle::NationEvents;
 use chronicle::Owners;
 use libc::STDOUT_FILENO;
 ghost use Prim.Native.Nat.{_<_, _≤_};
@@ -84,13 +86,13 @@ fn read_exactly(file: i32, buf: &mut [u8], n: usize) -> bool
     got == n
 }
 
-// Whether the words are the first n numbers.
-fn same_words(words: &[u32], bytes: &[u8], n: usize) -> bool
-    requires { ⌜ (n ≤ length (now words)) × (n ≤ 65536) ⌝ }
+// Whether the words are the n numbers from number `at` on.
+fn same_from(words: &[u32], bytes: &[u8], at: usize, n: usize) -> bool
+    requires { ⌜ (n ≤ length (now words)) × (at ≤ 10000) × (n ≤ 10000) ⌝ }
 {
     let mut i = 0;
     while i < n {
-        if words[i] != word(bytes, i) {
+        if words[i] != word(bytes, at + i) {
             return false;
         }
         i += 1;
@@ -109,12 +111,63 @@ fn wrong_owners(s: &[u8], bytes: &[u8], changes: usize) -> u64
             if n != changes {
                 return 1;
             }
-            if !same_words(&words, bytes, 4 * changes) {
+            if !same_from(&words, bytes, 0, 4 * changes) {
                 return 1;
             }
             0
         }
         Owners::Refused(_) => 1,
+    }
+}
+
+// Whether the counts are those of a head.
+fn same_counts(head: &[u8], counts: NationCounts) -> bool {
+    (counts.changes == number(head, 1))
+        & (counts.nations == number(head, 3))
+        & (counts.entries == number(head, 4))
+        & (counts.slots == number(head, 5))
+        & (counts.countries == number(head, 6))
+}
+
+// 1 for other nations, entries, holders or slots held than the stored ones.
+fn wrong_nations(s: &[u8], head: &[u8], bytes: &[u8]) -> u64
+    ensures { λ r. ⌜ r ≤ 1 ⌝ }
+{
+    let mut nations = [0u32; 5000];
+    let mut entries = [0u32; 3000];
+    let mut holders = [0u32; 1000];
+    let mut held = [0u32; 1000];
+    let mut changes = [0u32; 4000];
+    match chronicle::nation_events(
+        s,
+        &mut nations,
+        &mut entries,
+        &mut holders,
+        &mut held,
+        &mut changes,
+    ) {
+        NationEvents::Rows(counts) => {
+            if !same_counts(head, counts) {
+                return 1;
+            }
+            let n = 5 * number(head, 3);
+            let e = 3 * number(head, 4);
+            let slots = number(head, 5);
+            if !same_from(&nations, bytes, 0, n) {
+                return 1;
+            }
+            if !same_from(&entries, bytes, n, e) {
+                return 1;
+            }
+            if !same_from(&holders, bytes, n + e, slots) {
+                return 1;
+            }
+            if !same_from(&held, bytes, n + e + slots, number(head, 6)) {
+                return 1;
+            }
+            0
+        }
+        NationEvents::Refused(_) => 1,
     }
 }
 
@@ -164,7 +217,7 @@ fn wrong_days(file: i32, s: &[u8], days: usize) -> u64
 
 // A list that breaks off or has no such head: one wrong answer, and no more campaigns.
 fn broken() -> Replayed
-    ensures { λ r. ⌜ (r .days ≤ 1000) × (r .wrong ≤ 1001) ⌝ }
+    ensures { λ r. ⌜ (r .days ≤ 1000) × (r .wrong ≤ 1002) ⌝ }
 {
     Replayed {
         more: false,
@@ -177,7 +230,7 @@ fn broken() -> Replayed
 fn replay_campaign(file: i32, head: &[u8], s: &mut [u8], bytes: &mut [u8]) -> Replayed
     requires { ⌜ 4096 ≤ length (now s) ⌝ }
     requires { ⌜ 65536 ≤ length (now bytes) ⌝ }
-    ensures { λ r. ⌜ (r .days ≤ 1000) × (r .wrong ≤ 1001) ⌝ }
+    ensures { λ r. ⌜ (r .days ≤ 1000) × (r .wrong ≤ 1002) ⌝ }
 {
     let len = number(head, 0);
     let changes = number(head, 1);
@@ -193,10 +246,11 @@ fn replay_campaign(file: i32, head: &[u8], s: &mut [u8], bytes: &mut [u8]) -> Re
     if !read_exactly(file, bytes, rest_of(head)) {
         return broken();
     }
+    let lived = wrong_nations(&s[0..len], head, bytes);
     Replayed {
         more: true,
         days: days as u64,
-        wrong: owners + on,
+        wrong: owners + on + lived,
     }
 }
 
@@ -204,7 +258,7 @@ fn replay_campaign(file: i32, head: &[u8], s: &mut [u8], bytes: &mut [u8]) -> Re
 fn replay(file: i32, s: &mut [u8], bytes: &mut [u8]) -> Replayed
     requires { ⌜ 4096 ≤ length (now s) ⌝ }
     requires { ⌜ 65536 ≤ length (now bytes) ⌝ }
-    ensures { λ r. ⌜ (r .days ≤ 1000) × (r .wrong ≤ 1001) ⌝ }
+    ensures { λ r. ⌜ (r .days ≤ 1000) × (r .wrong ≤ 1002) ⌝ }
 {
     let mut head = [0u8; 28];
     let got = io::read_full(file, &mut head);

@@ -1,4 +1,4 @@
--- Each turn counts one campaign, of at most 1000 days and 1001 wrong answers.
+-- Each turn counts one campaign, of at most 1000 days and 1002 wrong answers.
 use mathlib.Core.Path.{_≡_}
 use Prim.Native.Nat.{_-_, _≤_, _*_}
 use lib.ListN.{length}
@@ -7,7 +7,7 @@ use Rattle.answer_vectors.proofs.main.Statement.{statement}
 use Rattle.answer_vectors.proofs.main.Tie as tie
 
 abbrev Inv-loop : tie.InvT-loop
-Inv-loop s₀ bytes₀ campaigns₀ days₀ wrong₀ file t9 t10 t11 s bytes campaigns days wrong = (length s ≡ 4096) × (length bytes ≡ 65536) × (days ≤ 1000 * campaigns) × (wrong ≤ 1001 * campaigns) × (campaigns ≤ 100000)
+Inv-loop s₀ bytes₀ campaigns₀ days₀ wrong₀ file t9 t10 t11 s bytes campaigns days wrong = (length s ≡ 4096) × (length bytes ≡ 65536) × (days ≤ 1000 * campaigns) × (wrong ≤ 1002 * campaigns) × (campaigns ≤ 100000)
 
 abbrev μ-loop : tie.MeasureT-loop
 μ-loop s₀ bytes₀ campaigns₀ days₀ wrong₀ file t9 t10 t11 s bytes campaigns days wrong = 100000 - campaigns

@@ -1,15 +1,15 @@
--- The word at hand is one of the first n.
+-- The word at hand is one of the n.
 use Prim.Native.Nat.{_-_, _≤_}
 use lib.ListN.{length}
 use borrow.Author.Needs.{needs}
-use Rattle.answer_vectors.proofs.same_words.Statement.{statement}
-use Rattle.answer_vectors.proofs.same_words.Tie as tie
+use Rattle.answer_vectors.proofs.same_from.Statement.{statement}
+use Rattle.answer_vectors.proofs.same_from.Tie as tie
 
 abbrev Inv-loop : tie.InvT-loop
-Inv-loop words bytes n i₀ i = (n ≤ length words) × (n ≤ 65536) × (i ≤ n)
+Inv-loop words bytes at n i₀ i = (n ≤ length words) × (at ≤ 10000) × (n ≤ 10000) × (i ≤ n)
 
 abbrev μ-loop : tie.MeasureT-loop
-μ-loop words bytes n i₀ i = n - i
+μ-loop words bytes at n i₀ i = n - i
 
 loop-holds : tie.Need-loop-holds Inv-loop μ-loop
 loop-holds c = search needs
@@ -19,6 +19,9 @@ mul-if1 c = search needs
 
 shared-slice-read-if1 : tie.Need-shared-slice-read-if1 Inv-loop μ-loop
 shared-slice-read-if1 c = search needs
+
+add-word : tie.Need-add-word Inv-loop μ-loop
+add-word c = search needs
 
 word-requires : tie.Need-word-requires Inv-loop μ-loop
 word-requires c κs = search needs
@@ -38,8 +41,8 @@ loop-again c = search needs
 returns-2 : tie.Need-returns-2 Inv-loop μ-loop
 returns-2 c = search needs
 
-pub same-words-spec : {M : Type 1} → statement M
-same-words-spec =
+pub same-from-spec : {M : Type 1} → statement M
+same-from-spec =
     tie.close
     (tie.spec
     Inv-loop
@@ -47,6 +50,7 @@ same-words-spec =
     loop-holds
     mul-if1
     shared-slice-read-if1
+    add-word
     word-requires
     returns
     add-i
