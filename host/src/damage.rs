@@ -209,7 +209,13 @@ impl Target {
     /// use chronicle_host::{damage::Target, generate::Random, sample};
     ///
     /// let target = Target::new(sample::WORKED.to_vec());
-    /// println!("{}", target.draw_blind(&mut Random::new(1)));
+    /// let mut random = Random::new(1);
+    /// let mut differs = || {
+    ///     let mut record = sample::WORKED.to_vec();
+    ///     target.draw_blind(&mut random).apply(&mut record);
+    ///     record != sample::WORKED
+    /// };
+    /// assert!((0..10).any(|_| differs()));
     /// ```
     pub fn draw_blind(&self, random: &mut Random) -> Damage {
         let length = self.record.len();

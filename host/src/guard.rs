@@ -36,7 +36,9 @@ impl Lent {
     /// ```
     /// use chronicle_host::guard::Lent;
     ///
-    /// Lent::new(1).slice()[0] = 7;
+    /// let mut lent = Lent::new(1);
+    /// lent.slice()[0] = 7;
+    /// assert_eq!(lent.slice(), [7]);
     /// ```
     pub fn slice(&mut self) -> &mut [u32] {
         let end = self.cells.len() - GUARD;

@@ -3,8 +3,9 @@
 //! [`check`] and the functions beside it call the proved functions of the static library.
 //! Everything else is here to hold those against something: a writer and a reader of packed
 //! records ([`pack`], [`mod@unpack`]), campaigns and damage to try them on ([`generate`],
-//! [`adversary`], [`extremes`], [`edges`], [`damage`], [`cases`], [`vectors`]), memory to lend ([`guard`], [`trial`]), an
-//! independent checker ([`mod@reference`]) and an independent model of the answers ([`model`]).
+//! [`adversary`], [`extremes`], [`edges`], [`damage`], [`cases`], [`vectors`]), memory to lend ([`guard`], [`seal`], [`trial`]), an
+//! independent checker ([`mod@reference`]), an independent model of the answers ([`model`]) and a second
+//! count of who holds what ([`recount`]).
 //!
 //! "01" in the comments is ../shared/docs/01-scope.md, the rules.
 
@@ -20,10 +21,12 @@ pub mod layout;
 mod library;
 pub mod model;
 pub mod pack;
+pub mod recount;
 pub mod reference;
 mod refusal;
 pub mod rows;
 pub mod sample;
+pub mod seal;
 pub mod shrink;
 pub mod trial;
 pub mod unpack;

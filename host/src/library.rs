@@ -125,13 +125,13 @@ pub fn events_on(record: &[u8], date: Date, out: &mut [u32]) -> Result<(), Refus
 #[cfg(feature = "nation_events")]
 #[derive(Debug)]
 pub struct Room<'a> {
-    /// Five words a nation.
+    /// Five words a nation: initial, latest, stored, first entry, entry count.
     pub nations: &'a mut [u32],
-    /// Three words an entry.
+    /// Three words an entry: date, kind (0 switch, 1 Appeared, 2 Annexed), target or 0.
     pub entries: &'a mut [u32],
-    /// A word for each of the slots 0 to P.
+    /// The holder of each of the slots 0 to P, a word each, 0 for nobody.
     pub holders: &'a mut [u32],
-    /// A word a country.
+    /// The slots held by each country, a word each.
     pub held: &'a mut [u32],
     /// Four words a change.
     pub changes: &'a mut [u32],
@@ -140,14 +140,17 @@ pub struct Room<'a> {
 }
 
 /// Writes the nations of a record with their entries, who holds each slot after the last change,
-/// how many slots each country holds then, the changes, and the five counts.
+/// how many slots each country holds then, the changes, and the five counts. One slice that is
+/// shorter than its part of the answer is [`Refusal::NoRoom`], and then none is written.
+///
+/// It needs 1.5 MiB of stack, which a thread has that is started without a size.
 ///
 /// # Panics
 ///
 /// If the library answers a number that is neither 5 nor minus a refusal's.
 ///
 /// ```
-/// use chronicle_host::{nation_events, sample, Room};
+/// use chronicle_host::{nation_events, rows::tag_word, sample, Refusal, Room};
 ///
 /// let [mut nations, mut entries, mut holders] = [[0; 10]; 3];
 /// let [mut held, mut changes, mut counts] = [[0; 8]; 3];
@@ -161,6 +164,21 @@ pub struct Room<'a> {
 /// };
 /// assert_eq!(nation_events(sample::WORKED, room), Ok(()));
 /// assert_eq!(counts, [2, 3, 3, 2, 2, 0, 0, 0]);
+/// let [eng, gbr, fra] = [*b"ENG", *b"GBR", *b"FRA"].map(tag_word);
+/// assert_eq!(nations, [eng, gbr, gbr, 0, 3, fra, fra, fra, 3, 0]);
+/// assert_eq!(entries, [14460101, 2, 0, 14470101, 1, 0, 14480601, 0, gbr, 0]);
+/// assert_eq!(holders[..4], [0, fra, gbr, 0]);
+/// assert_eq!(held[..3], [1, 1, 0]);
+///
+/// let room = Room {
+///     nations: &mut nations[..9],
+///     entries: &mut entries,
+///     holders: &mut holders,
+///     held: &mut held,
+///     changes: &mut changes,
+///     counts: &mut counts,
+/// };
+/// assert_eq!(nation_events(sample::WORKED, room), Err(Refusal::NoRoom));
 /// ```
 #[cfg(feature = "nation_events")]
 pub fn nation_events(record: &[u8], room: Room<'_>) -> Result<(), Refusal> {

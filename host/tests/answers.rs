@@ -6,10 +6,13 @@ use chronicle_host::cases::Cases;
 use chronicle_host::generate::Random;
 use chronicle_host::pack::{pack, Campaign};
 use chronicle_host::unpack::unpack;
-use chronicle_host::{extremes, model, sample, trial};
+use chronicle_host::{extremes, model, recount, sample, trial};
 
 fn tried(campaign: &Campaign, random: &mut Random) -> Result<(), String> {
     let chronicle = model::chronicle(campaign);
+    let holders = recount::holders(campaign, &chronicle.changes);
+    assert_eq!(chronicle.held, recount::held(campaign, &holders), "{campaign:#?}");
+    assert_eq!(chronicle.holders, holders, "{campaign:#?}");
     let days = days_of(random, campaign);
     let asked = days.iter().take(50);
     let runs: Vec<_> = asked.map(|&day| (day, model::events_on(&chronicle.changes, day))).collect();
@@ -61,25 +64,54 @@ fn campaigns_at_the_limits() {
 #[cfg(feature = "province_owners")]
 #[test]
 fn owner_changes_in_one_mebibyte_of_stack() {
-    within(1 << 20, || {
-        let record = pack(&extremes::owners(60_000, 1));
+    let campaign = extremes::owners(60_000, 1);
+    let changes = model::changes(&campaign);
+    let run = model::events_on(&changes, 14500101);
+    within(1 << 20, move || {
+        let record = pack(&campaign);
         let mut out = vec![0; 4 * 60_000];
-        assert!(chronicle_host::province_owners(&record, &mut out).is_ok());
-        assert!(chronicle_host::events_on(&record, 14500101, &mut out).is_ok());
+        let rows = chronicle_host::province_owners(&record, &mut out);
+        assert_eq!(rows, Ok(changes.len()));
+        assert_eq!(chronicle_host::events_on(&record, 14500101, &mut out), Ok(()));
+        assert_eq!(out[..2], run.words());
     });
+}
+
+/// A record at the limits with what `nation_events` is to count there.
+#[cfg(feature = "nation_events")]
+fn at_the_limits() -> (Vec<u8>, [u32; 5]) {
+    let campaign = extremes::nations(1);
+    let model::Chronicle { changes, nations, holders, held } = model::chronicle(&campaign);
+    let entries = nations.iter().map(|nation| nation.entries.len()).sum();
+    let counts = [nations.len(), entries, holders.len(), held.len(), changes.len()];
+    (pack(&campaign), counts.map(|count| count as u32))
+}
+
+#[cfg(feature = "nation_events")]
+fn counts_are((record, expected): (Vec<u8>, [u32; 5])) {
+    let mut lent = [2_000 * 5, 140_000 * 3, 8_001, 2_000, 60_000 * 4, 5].map(|n| vec![0; n]);
+    let [nations, entries, holders, held, changes, counts] =
+        lent.each_mut().map(|cells| &mut cells[..]);
+    let room = chronicle_host::Room { nations, entries, holders, held, changes, counts };
+    assert_eq!(chronicle_host::nation_events(&record, room), Ok(()));
+    assert_eq!(lent[5], expected);
+    assert!(expected.iter().all(|&count| count > 1_000), "the campaign is a large one");
 }
 
 #[cfg(feature = "nation_events")]
 #[test]
 fn nations_in_one_and_a_half_mebibytes_of_stack() {
-    within(3 << 19, || {
-        let record = pack(&extremes::nations(1));
-        let mut lent = [2_000 * 5, 140_000 * 3, 8_001, 2_000, 60_000 * 4, 5].map(|n| vec![0; n]);
-        let [nations, entries, holders, held, changes, counts] =
-            lent.each_mut().map(|cells| &mut cells[..]);
-        let room = chronicle_host::Room { nations, entries, holders, held, changes, counts };
-        assert_eq!(chronicle_host::nation_events(&record, room), Ok(()));
-    });
+    let at_the_limits = at_the_limits();
+    within(1_572_864, move || counts_are(at_the_limits));
+}
+
+/// Rust gives a thread that is started without a size 2 MiB, unless RUST_MIN_STACK says otherwise.
+#[cfg(feature = "nation_events")]
+#[test]
+fn nations_in_a_default_thread() {
+    let at_the_limits = at_the_limits();
+    let thread = std::thread::spawn(move || counts_are(at_the_limits));
+    thread.join().expect("the call ends well");
 }
 
 #[cfg(any(feature = "province_owners", feature = "nation_events"))]

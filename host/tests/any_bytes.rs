@@ -1,5 +1,7 @@
 //! Whatever the bytes are, a number comes back and nothing crashes.
 
+use std::os::unix::process::ExitStatusExt;
+use std::process::Command;
 use std::thread;
 
 use chronicle_host::cases::Cases;
@@ -8,6 +10,7 @@ use chronicle_host::edges;
 use chronicle_host::generate::{at_limits, Random};
 use chronicle_host::layout::{HEAD_COUNTS, LIMITS};
 use chronicle_host::pack::pack;
+use chronicle_host::seal::Sealed;
 use chronicle_host::{check, number, reference, sample, vectors, Refusal};
 
 const SIXTEEN_MB: usize = 16 << 20;
@@ -101,14 +104,66 @@ fn a_stack_of_256_kib_is_enough() {
     assert_eq!(answer.expect("it ends"), Ok(()));
 }
 
-/// The bytes are lent: they are the same afterwards.
+/// Every call on a record that cannot be written to, nor read past its end.
+fn asked(record: &[u8]) {
+    let record = Sealed::new(record);
+    let record = record.bytes();
+    let answer = check(record);
+    assert_eq!(number(answer), reference::refusal_number(record));
+    #[cfg(feature = "province_owners")]
+    {
+        let mut out = vec![0; 4 * 1_000];
+        assert_eq!(chronicle_host::province_owners(record, &mut out).err(), answer.err());
+        assert_eq!(chronicle_host::events_on(record, 14441111, &mut out).err(), answer.err());
+    }
+    #[cfg(feature = "nation_events")]
+    {
+        let mut lent = [5_000, 9_000, 1_000, 1_000, 4_000, 5].map(|length| vec![0; length]);
+        let [nations, entries, holders, held, changes, counts] =
+            lent.each_mut().map(|cells| &mut cells[..]);
+        let room = chronicle_host::Room { nations, entries, holders, held, changes, counts };
+        assert_eq!(chronicle_host::nation_events(record, room).err(), answer.err());
+    }
+}
+
+/// The bytes are lent: nobody writes to them, and nobody reads on behind them.
 #[test]
-fn nothing_is_written() {
+fn a_record_is_only_read() {
+    asked(sample::WORKED);
+    asked(&[]);
     let mut cases = Cases::new(1453);
     for _ in 0..2_000 {
-        let record = &cases.draw().record;
-        let before = record.clone();
-        let _ = check(record);
-        assert_eq!(*record, before);
+        asked(&cases.draw().record);
     }
+}
+
+/// What the test above relies on; run by the one below, in a process of its own.
+#[test]
+#[ignore = "it ends the process"]
+fn writes_to_a_sealed_record() {
+    let record = Sealed::new(sample::WORKED);
+    let first = record.bytes().as_ptr().cast_mut();
+    // SAFETY: none: the page cannot be written to, and the process ends here.
+    unsafe { first.write_volatile(0) };
+}
+
+#[test]
+#[ignore = "it ends the process"]
+fn reads_behind_a_sealed_record() {
+    let record = Sealed::new(sample::WORKED);
+    // SAFETY: none: the page behind cannot be read, and the process ends here.
+    unsafe { record.bytes().as_ptr().add(record.bytes().len()).read_volatile() };
+}
+
+#[test]
+fn a_write_or_a_read_too_far_ends_the_process() {
+    let ends = |test: &str| {
+        let this = std::env::current_exe().expect("a test has a file");
+        let run = Command::new(this).args(["--ignored", "--exact", test]).output();
+        run.expect("it starts").status.signal()
+    };
+    const SEGMENTATION_FAULT: Option<i32> = Some(11);
+    assert_eq!(ends("writes_to_a_sealed_record"), SEGMENTATION_FAULT);
+    assert_eq!(ends("reads_behind_a_sealed_record"), SEGMENTATION_FAULT);
+    assert_eq!(ends("no_bytes"), None);
 }

@@ -2,15 +2,16 @@
 //!
 //! The Rust is held against the model, row by row, and the proved functions, with all their
 //! cells, against the model that was just found equal to the Rust. Holder and held cells, which
-//! the Rust does not give, rest on the model alone.
+//! the Rust does not give, are held against a second count that shares nothing with the model.
 
 use std::fmt::Debug;
 
 use chronicle_host::adversary::{days_of, tags_of};
 use chronicle_host::generate::Random;
+use chronicle_host::model::Chronicle;
 use chronicle_host::pack::{pack, Campaign, Date, Tag};
 use chronicle_host::rows::{Change, Entry, History, Kind, Nation, Run};
-use chronicle_host::{model, trial};
+use chronicle_host::{model, recount, trial};
 use eu4save::query::{NationEvents, PlayerHistory, ProvinceOwners};
 
 use crate::rust::{self, Named, Resolver, Rust};
@@ -42,6 +43,7 @@ pub fn compare(campaign: &Campaign, seed: u64, most: usize, seen: &mut Seen) -> 
     rows_equal("changes", &rust::changes(&owners), &chronicle.changes)?;
     let runs = runs(&owners, &chronicle.changes, &days)?;
     rows_equal("nations", &rust.nations(&owners), &chronicle.nations)?;
+    recounted(campaign, &chronicle)?;
     seen.note(campaign, &chronicle);
     seen.add("answer: events_on", runs.len());
 
@@ -50,6 +52,19 @@ pub fn compare(campaign: &Campaign, seed: u64, most: usize, seen: &mut Seen) -> 
     asked.about(&chronicle.nations)?;
     asked.about(&any)?;
     trial::accepted(&pack(campaign), &chronicle, &runs)
+}
+
+/// Holder and held cells, counted again.
+fn recounted(campaign: &Campaign, chronicle: &Chronicle) -> Result<(), String> {
+    let holders = recount::holders(campaign, &chronicle.changes);
+    if holders != chronicle.holders {
+        return Err(format!("holders: {holders:?} recounted, the model {:?}", chronicle.holders));
+    }
+    let held = recount::held(campaign, &holders);
+    if held != chronicle.held {
+        return Err(format!("held: {held:?} recounted, the model {:?}", chronicle.held));
+    }
+    Ok(())
 }
 
 /// A sample of the list, or all of it.

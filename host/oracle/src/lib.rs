@@ -26,7 +26,7 @@ pub const NOT_FOUND: u8 = 3;
 /// ```
 /// use std::process::ExitCode;
 ///
-/// let ending: ExitCode = chronicle_oracle::not_found();
+/// assert_eq!(chronicle_oracle::not_found(), ExitCode::from(chronicle_oracle::NOT_FOUND));
 /// ```
 pub fn not_found() -> std::process::ExitCode {
     eprintln!(

@@ -26,7 +26,8 @@ impl Rust {
     /// use chronicle_host::sample;
     /// use chronicle_oracle::rust::Rust;
     ///
-    /// Rust::of(&sample::worked());
+    /// let rust = Rust::of(&sample::worked());
+    /// assert_eq!(rust.nations(&rust.owners())[1].stored, *b"FRA");
     /// ```
     pub fn of(campaign: &Campaign) -> Rust {
         Rust { query: Query::from_save(save(campaign)) }

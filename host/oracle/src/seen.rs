@@ -4,8 +4,9 @@ use std::collections::{BTreeMap, BTreeSet};
 use std::fmt;
 
 use chronicle_host::model::Chronicle;
-use chronicle_host::pack::{Campaign, Country, Province, NONE};
-use chronicle_host::rows::{Entry, Kind};
+use chronicle_host::pack::{Campaign, Country, Date, Province, Tag, NONE};
+use chronicle_host::recount::{settled, start_holder};
+use chronicle_host::rows::{Change, Entry, Kind, Nation};
 
 /// How often each thing was met.
 #[derive(Clone, Debug, Default)]
@@ -38,6 +39,19 @@ impl Seen {
         self.0.iter().filter(|&(_, &times)| times == 0).map(|(&what, _)| what).collect()
     }
 
+    /// How often a thing was met; 0 also for one that nobody looks for.
+    ///
+    /// ```
+    /// use chronicle_oracle::seen::Seen;
+    ///
+    /// let mut seen = Seen::default();
+    /// seen.add("changes", 2);
+    /// assert_eq!([seen.times("changes"), seen.times("nations")], [2, 0]);
+    /// ```
+    pub fn times(&self, what: &str) -> usize {
+        self.0.get(what).copied().unwrap_or(0)
+    }
+
     /// Notes the hard cases of a campaign.
     ///
     /// ```
@@ -55,6 +69,8 @@ impl Seen {
         self.countries(campaign);
         self.provinces(campaign);
         self.course(campaign, chronicle);
+        self.nations(&chronicle.nations);
+        self.turns(campaign, &chronicle.changes);
     }
 
     fn rows(&mut self, chronicle: &Chronicle) {
@@ -114,26 +130,14 @@ impl Seen {
     }
 
     fn course(&mut self, campaign: &Campaign, chronicle: &Chronicle) {
-        let Chronicle { changes, nations, holders, .. } = chronicle;
-        let twice = |pair: &[_; 2]| {
-            let [one, other]: &[chronicle_host::rows::Change; 2] = pair;
-            one.date == other.date && one.id == other.id
-        };
-        let pairs = changes.windows(2).filter_map(|pair| pair.first_chunk());
-        self.if_any("campaign: a province changes twice on a day", pairs.clone().any(twice));
+        let Chronicle { changes, holders, .. } = chronicle;
+        let twice = |pair: &[Change]| pair[0].date == pair[1].date && pair[0].id == pair[1].id;
+        self.if_any("campaign: a province changes twice on a day", changes.windows(2).any(twice));
         self.if_any("campaign: a change to ---", changes.iter().any(|c| c.to == NONE));
         let start = campaign.start;
         self.if_any("campaign: a change before the start", changes.iter().any(|c| c.date < start));
         self.if_any("campaign: a change on the start", changes.iter().any(|c| c.date == start));
-        self.if_any("campaign: --- is a nation", nations.iter().any(|n| n.initial == NONE));
-        let one_day = |pair: &[Entry]| {
-            pair[0].date == pair[1].date
-                && [pair[0].kind, pair[1].kind] == [Kind::Annexed, Kind::Appeared]
-        };
-        self.if_any(
-            "campaign: annexed and back on one day",
-            nations.iter().any(|nation| nation.entries.windows(2).any(one_day)),
-        );
+        self.if_any("campaign: a change after the start", changes.iter().any(|c| c.date > start));
         let known = |tag| campaign.countries.iter().any(|country| country.tag == tag);
         self.if_any("campaign: a slot of nobody", holders.contains(&None));
         self.if_any(
@@ -141,12 +145,102 @@ impl Seen {
             holders.iter().flatten().any(|&holder| !known(holder)),
         );
     }
+
+    fn nations(&mut self, nations: &[Nation]) {
+        let any = |test: fn(&Nation) -> bool| nations.iter().any(test);
+        let pairs = |test: fn(Kind, Kind) -> bool| {
+            let on_one_day =
+                |pair: &[Entry]| pair[0].date == pair[1].date && test(pair[0].kind, pair[1].kind);
+            nations.iter().any(|nation| nation.entries.windows(2).any(on_one_day))
+        };
+        self.if_any("campaign: --- is a nation", any(|n| n.initial == NONE));
+        self.if_any(
+            "campaign: --- is a target",
+            any(|n| n.entries.iter().any(|entry| entry.kind == Kind::Switch(NONE))),
+        );
+        self.if_any(
+            "campaign: annexed and back on one day",
+            pairs(|one, other| [one, other] == [Kind::Annexed, Kind::Appeared]),
+        );
+        self.if_any(
+            "campaign: a switch and a life on one day",
+            pairs(|one, other| is_switch(one) != is_switch(other)),
+        );
+        self.if_any(
+            "campaign: two switches on one day",
+            pairs(|a, b| is_switch(a) && is_switch(b)),
+        );
+        self.if_any(
+            "campaign: a later nation has entries",
+            nations.iter().skip(1).any(|nation| !nation.entries.is_empty()),
+        );
+    }
+
+    /// Follows the holders through the changes; at the limits that takes too long, and is left out.
+    fn turns(&mut self, campaign: &Campaign, changes: &[Change]) {
+        if changes.len() > MOST_TURNS {
+            return;
+        }
+        let mut turns = Turns::start(campaign);
+        changes.iter().for_each(|change| turns.apply(campaign, change));
+        self.if_any("campaign: a change settles elsewhere than its tag", turns.elsewhere);
+        self.if_any("campaign: a change is too late for a switch from its tag", turns.too_late);
+        self.if_any("campaign: the old holder is not whom `from` settles to", turns.other_from);
+        self.if_any("campaign: the last slot lost and regained on one day", turns.regained);
+    }
 }
 
-/// Whether a country gives up a tag that it gave up before.
+fn is_switch(kind: Kind) -> bool {
+    matches!(kind, Kind::Switch(_))
+}
+
+/// More changes than this are not followed.
+const MOST_TURNS: usize = 1_000;
+
+/// Who holds each slot by now, and what was met on the way.
+struct Turns {
+    holders: Vec<Option<Tag>>,
+    /// Who lost the last slot, and when.
+    fallen: Vec<(Tag, Date)>,
+    elsewhere: bool,
+    too_late: bool,
+    other_from: bool,
+    regained: bool,
+}
+
+impl Turns {
+    fn start(campaign: &Campaign) -> Turns {
+        let slots = 0..=campaign.provinces.len() as u16;
+        Turns {
+            holders: slots.map(|slot| start_holder(campaign, slot)).collect(),
+            fallen: Vec::new(),
+            elsewhere: false,
+            too_late: false,
+            other_from: false,
+            regained: false,
+        }
+    }
+
+    fn apply(&mut self, campaign: &Campaign, &Change { date, id, from, to }: &Change) {
+        let new = settled(campaign, to, date);
+        let old = self.holders[usize::from(id)].replace(new);
+        let mut switches = campaign.countries.iter().flat_map(|country| &country.switches);
+        self.elsewhere |= new != to;
+        self.too_late |= new == to && switches.any(|switch| switch.from == to);
+        self.other_from |= old.is_some_and(|old| old != settled(campaign, from, date));
+        let slots = |tag| self.holders.iter().filter(|&&holder| holder == Some(tag)).count();
+        self.regained |= slots(new) == 1 && self.fallen.contains(&(new, date));
+        if let Some(old) = old.filter(|&old| slots(old) == 0) {
+            self.fallen.push((old, date));
+        }
+    }
+}
+
+/// Whether a country gives up a tag that it gave up before, with another one in between.
 fn comes_back(country: &Country) -> bool {
-    let froms: BTreeSet<_> = country.switches.iter().map(|switch| switch.from).collect();
-    froms.len() < country.switches.len()
+    let mut froms: Vec<Tag> = country.switches.iter().map(|switch| switch.from).collect();
+    froms.dedup();
+    froms.iter().collect::<BTreeSet<_>>().len() < froms.len()
 }
 
 impl fmt::Display for Seen {

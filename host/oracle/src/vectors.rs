@@ -13,7 +13,7 @@
 use chronicle_host::adversary::{days_of, draw, draw_bare};
 use chronicle_host::generate::Random;
 use chronicle_host::pack::{pack, Campaign, Date};
-use chronicle_host::rows::{change_words, entry_words, nation_words, tag_word, Change};
+use chronicle_host::rows::{change_words, entry_words, nation_words, tag_word};
 use chronicle_host::{model, sample};
 
 use crate::rust::{self, Rust};
@@ -29,7 +29,30 @@ const ALL_SECTIONS: usize = 8;
 /// Days asked about: so many on which something changes, and so many others.
 const DAYS: usize = 4;
 
-/// The whole file, the same every time: the worked record, then seeded campaigns.
+/// The campaigns of the list, each with the days asked about, the same every time: the worked
+/// record's, then seeded ones.
+///
+/// ```
+/// use chronicle_host::sample;
+/// use chronicle_oracle::vectors;
+///
+/// let list = vectors::list();
+/// assert_eq!((list.len(), &list[0].0), (vectors::CAMPAIGNS, &sample::worked()));
+/// ```
+pub fn list() -> Vec<(Campaign, Vec<Date>)> {
+    let mut random = Random::new(SEED);
+    let mut asked = |number: usize| {
+        let campaign = match number {
+            0 => sample::worked(),
+            _ => eventful(&mut random, number.is_multiple_of(ALL_SECTIONS)),
+        };
+        let days = days_asked(&mut random, &campaign);
+        (campaign, days)
+    };
+    (0..CAMPAIGNS).map(&mut asked).collect()
+}
+
+/// The whole file: what the Rust answers of each.
 ///
 /// # Panics
 ///
@@ -41,12 +64,9 @@ const DAYS: usize = 4;
 /// assert!(vectors::file().len() < 400_000);
 /// ```
 pub fn file() -> Vec<u8> {
-    let mut random = Random::new(SEED);
     let mut out = Vec::new();
-    put(&mut out, &sample::worked(), &mut random);
-    for number in 1..CAMPAIGNS {
-        let campaign = eventful(&mut random, number % ALL_SECTIONS == 0);
-        put(&mut out, &campaign, &mut random);
+    for (campaign, days) in list() {
+        put(&mut out, &campaign, &days);
     }
     out
 }
@@ -63,13 +83,12 @@ fn eventful(random: &mut Random, all_sections: bool) -> Campaign {
     }
 }
 
-fn put(out: &mut Vec<u8>, campaign: &Campaign, random: &mut Random) {
+fn put(out: &mut Vec<u8>, campaign: &Campaign, days: &[Date]) {
     let record = pack(campaign);
     let rust = Rust::of(campaign);
     let owners = rust.owners();
     let changes = rust::changes(&owners);
     let nations = rust.nations(&owners);
-    let days = days_asked(random, campaign, &changes);
     let chronicle = model::chronicle(campaign);
     assert_eq!((&changes, &nations), (&chronicle.changes, &chronicle.nations));
 
@@ -80,7 +99,7 @@ fn put(out: &mut Vec<u8>, campaign: &Campaign, random: &mut Random) {
     put_words(out, counts.map(|count| count as u32));
     out.extend_from_slice(&record);
     put_words(out, change_words(&changes));
-    for day in days {
+    for &day in days {
         let [first, count] = rust::events_on(&owners, day).words();
         put_words(out, [day, first, count]);
     }
@@ -90,7 +109,8 @@ fn put(out: &mut Vec<u8>, campaign: &Campaign, random: &mut Random) {
     put_words(out, chronicle.held.iter().map(|&slots| slots as u32));
 }
 
-fn days_asked(random: &mut Random, campaign: &Campaign, changes: &[Change]) -> Vec<Date> {
+fn days_asked(random: &mut Random, campaign: &Campaign) -> Vec<Date> {
+    let changes = model::changes(campaign);
     let mut days: Vec<Date> = changes.iter().map(|change| change.date).collect();
     days.dedup();
     days.truncate(DAYS);

@@ -10,12 +10,15 @@ fn the_rust_is_missing() {
 mod found {
     use chronicle_host::adversary::draw;
     use chronicle_host::generate::Random;
-    use chronicle_host::pack::{Campaign, LedgerName, OwnerEvent, Point, Tag};
+    use chronicle_host::pack::{
+        pack, Campaign, Country, Date, LedgerName, OwnerEvent, Point, Province, Tag,
+    };
     use chronicle_host::rows::{Entry, Kind, Nation, Resolved};
-    use chronicle_host::sample;
+    use chronicle_host::{model, sample};
     use chronicle_oracle::compare::compare;
     use chronicle_oracle::rust::{nation_events, Resolver, Rust};
     use chronicle_oracle::seen::Seen;
+    use chronicle_oracle::vectors;
 
     fn nations(campaign: &Campaign) -> Vec<Nation> {
         let rust = Rust::of(campaign);
@@ -83,6 +86,100 @@ mod found {
         let entries = &nations(&campaign)[0].entries;
         let on_that_day = [Kind::Annexed, Kind::Appeared];
         assert_eq!(entries[..2], on_that_day.map(|kind| Entry { date: 14470101, kind }));
+    }
+
+    fn begins(tag: &Tag, previous: &[Tag], owner: &Tag, events: &[(Date, &Tag)]) -> Campaign {
+        let mut campaign = sample::worked();
+        campaign.countries.truncate(1);
+        campaign.countries[0] =
+            Country { tag: *tag, previous_tags: previous.to_vec(), ..Country::default() };
+        campaign.provinces.truncate(1);
+        let event = |&(date, tag): &(Date, &Tag)| OwnerEvent { date, tag: *tag };
+        campaign.provinces[0] =
+            Province { id: 1, owner: *owner, events: events.iter().map(event).collect() };
+        campaign
+    }
+
+    /// The smallest records where the change's `from` would tell something else: docs/DECISIONS,
+    /// "The old holder is the running holder".
+    #[test]
+    fn old_holder_is_the_running_holder() {
+        let entry = |date, kind| Entry { date, kind };
+        let mapped = begins(b"AAA", &[*b"BBB"], b"BBB", &[(14450101, b"CCC")]);
+        assert_eq!(pack(&mapped).len(), 73);
+        assert_eq!(nations(&mapped)[0].entries, [entry(14450101, Kind::Annexed)]);
+
+        let falling = begins(b"AAA", &[], b"AAA", &[(14460101, b"BBB"), (14450101, b"AAA")]);
+        assert_eq!(pack(&falling).len(), 77);
+        let expected = [
+            entry(14450101, Kind::Annexed),
+            entry(14450101, Kind::Appeared),
+            entry(14460101, Kind::Annexed),
+        ];
+        assert_eq!(nations(&falling)[0].entries, expected);
+        for campaign in [mapped, falling] {
+            assert_eq!(compare(&campaign, 1, usize::MAX, &mut Seen::default()), Ok(()));
+        }
+    }
+
+    /// What small campaigns are drawn for: each is to be met in one of twenty, or oftener.
+    const HARD_CASES: [&str; 22] = [
+        "campaign: initials shared",
+        "campaign: a chain comes back",
+        "campaign: switches out of date order",
+        "campaign: previous tags without switches",
+        "campaign: switches without previous tags",
+        "campaign: --- is a country's tag",
+        "campaign: --- is an owner",
+        "campaign: --- is a target",
+        "campaign: --- is a nation",
+        "campaign: a change to ---",
+        "campaign: a change before the start",
+        "campaign: a change on the start",
+        "campaign: a change after the start",
+        "campaign: annexed and back on one day",
+        "campaign: the last slot lost and regained on one day",
+        "campaign: a change settles elsewhere than its tag",
+        "campaign: a change is too late for a switch from its tag",
+        "campaign: the old holder is not whom `from` settles to",
+        "campaign: a switch and a life on one day",
+        "campaign: two switches on one day",
+        "campaign: a later nation has entries",
+        "campaign: a holder is no country",
+    ];
+
+    fn rare(seen: &Seen) -> Vec<(&'static str, usize)> {
+        let few = seen.times("campaign: all") / 20;
+        let times = HARD_CASES.map(|what| (what, seen.times(what)));
+        times.into_iter().filter(|&(_, times)| times <= few).collect()
+    }
+
+    fn noted<'a>(campaigns: impl IntoIterator<Item = &'a Campaign>) -> Seen {
+        let mut seen = Seen::default();
+        for campaign in campaigns {
+            seen.note(campaign, &model::chronicle(campaign));
+        }
+        seen
+    }
+
+    #[test]
+    fn hard_cases_are_drawn() {
+        let mut random = Random::new(1_000);
+        let drawn: Vec<Campaign> = (0..4_000).map(|_| draw(&mut random)).collect();
+        assert_eq!(rare(&noted(&drawn)), []);
+    }
+
+    #[test]
+    fn hard_cases_are_stored() {
+        let list = vectors::list();
+        assert_eq!(rare(&noted(list.iter().map(|(campaign, _)| campaign))), []);
+    }
+
+    /// The worked record alone has few of them, so that the two tests above could fail.
+    #[test]
+    fn hard_cases_of_the_worked_record() {
+        let rare = rare(&noted([&sample::worked()]));
+        assert_eq!(rare.len(), HARD_CASES.len() - 3, "{rare:?}");
     }
 
     #[test]

@@ -1,6 +1,7 @@
 //! Times the proved `check` beside the independent checker, in one process.
 //!
-//! `bench [ROUNDS]`: best and median over so many rounds (default 201), the two taking turns.
+//! `bench [ROUNDS]`: best and median over so many rounds (default 201), the two taking turns; then
+//! the stack that `check` and the functions beside it need.
 
 use std::env;
 use std::hint::black_box;
@@ -22,7 +23,7 @@ fn main() {
     let arguments: Vec<String> = env::args().skip(1).collect();
     match arguments.iter().map(String::as_str).collect::<Vec<_>>()[..] {
         [] => run(201),
-        [STACK_ARGUMENT, bytes] => within_stack(parsed(bytes)),
+        [STACK_ARGUMENT, function, kib] => within_stack(parsed(function), parsed(kib)),
         [rounds] => run(parsed(rounds)),
         _ => usage(),
     }
@@ -145,33 +146,60 @@ fn time(checker: fn(&[u8]) -> u8, record: &[u8], calls: u32) -> f64 {
     before.elapsed().as_secs_f64() * 1e6 / f64::from(calls)
 }
 
-/// The smallest thread stack that `check` gets by with; each size is tried in a child process,
-/// because an overflow ends the process.
+/// A function, the KiB of stack that it may need, and a call of it on a record at the limits.
+type Stacked = (&'static str, usize, fn(&[u8]) -> bool);
+
+const STACKED: &[Stacked] = &[
+    ("check", 256, |record| check(record).is_ok()),
+    #[cfg(feature = "province_owners")]
+    ("province_owners", 1_024, |record| {
+        let mut out = vec![0; 4 * 60_000];
+        chronicle_host::province_owners(record, &mut out).is_ok()
+    }),
+    #[cfg(feature = "nation_events")]
+    ("nation_events", 1_536, |record| {
+        let mut lent = [2_000 * 5, 140_000 * 3, 8_001, 2_000, 60_000 * 4, 5].map(|n| vec![0; n]);
+        let [nations, entries, holders, held, changes, counts] =
+            lent.each_mut().map(|cells| &mut cells[..]);
+        let room = chronicle_host::Room { nations, entries, holders, held, changes, counts };
+        chronicle_host::nation_events(record, room).is_ok()
+    }),
+];
+
+/// The smallest thread stack, in steps of 4 KiB, that each function gets by with; each size is
+/// tried in a child process, because an overflow ends the process.
 fn stack() {
-    let enough = [16, 32, 64, 96, 128, 192, 256].into_iter().find(|kib| survives(kib * 1024));
-    match enough {
-        Some(kib) => {
-            println!("\nstack: a thread of {kib} KiB is enough (the thread's own part included)")
-        }
-        None => {
-            println!("\nstack: a thread of 256 KiB is NOT enough");
+    println!("\nstack of a thread that is enough (its own part included)");
+    for (function, (name, most, _)) in STACKED.iter().enumerate() {
+        if !survives(function, *most) {
+            println!("{name}: {most} KiB are NOT enough");
             exit(1);
         }
+        let (mut short, mut enough) = (16, *most);
+        while short + 4 < enough {
+            let between = (short + enough) / 8 * 4;
+            match survives(function, between) {
+                true => enough = between,
+                false => short = between,
+            }
+        }
+        println!("{name}: {enough} KiB");
     }
 }
 
-fn survives(bytes: usize) -> bool {
+fn survives(function: usize, kib: usize) -> bool {
     let program = env::current_exe().expect("the running program has a path");
     Command::new(program)
-        .args([STACK_ARGUMENT, &bytes.to_string()])
+        .args([STACK_ARGUMENT, &function.to_string(), &kib.to_string()])
         .stderr(Stdio::null())
         .status()
         .is_ok_and(|status| status.success())
 }
 
-fn within_stack(bytes: usize) {
+fn within_stack(function: usize, kib: usize) {
     let record = pack(&at_limits());
-    let checking = thread::Builder::new().stack_size(bytes).spawn(move || proved(&record));
-    let answer = checking.expect("a thread starts").join();
-    exit(i32::from(answer.ok() != Some(0)));
+    let (_, _, call) = STACKED[function];
+    let calling = thread::Builder::new().stack_size(kib * 1024).spawn(move || call(&record));
+    let answer = calling.expect("a thread starts").join();
+    exit(i32::from(answer.ok() != Some(true)));
 }

@@ -12,20 +12,24 @@ type Words = [Vec<u32>; 6];
 pub fn accepted(record: &[u8], chronicle: &Chronicle) -> Result<(), String> {
     let words = words(chronicle);
     let exact: [usize; 6] = std::array::from_fn(|part| words[part].len());
+    let ample = exact.map(|length| length + 3);
     call(record, exact, Ok(()), &words)?;
-    call(record, exact.map(|length| length + 3), Ok(()), &words)?;
+    call(record, ample, Ok(()), &words)?;
     for part in 0..6 {
-        let mut short = exact.map(|length| length + 3);
-        if exact[part] > 0 {
-            short[part] = exact[part] - 1;
+        let one_short = exact[part].checked_sub(1);
+        for length in one_short.into_iter().chain(one_short.map(|_| 0)) {
+            let mut short = ample;
+            short[part] = length;
             call(record, short, Err(Refusal::NoRoom), &words)?;
         }
     }
-    Ok(())
+    // Five counts are written for every record, so that no call can do with nothing.
+    call(record, [0; 6], Err(Refusal::NoRoom), &words)
 }
 
+/// The record's own number comes before 10, whatever the slices are.
 pub fn refused(record: &[u8], refusal: Refusal) -> Result<(), String> {
-    for length in [0, 60] {
+    for length in [0, 4, 60] {
         call(record, [length; 6], Err(refusal), &Words::default())?;
     }
     Ok(())
