@@ -37,5 +37,5 @@ pub mod NationOutcomeLaws
 pub mod MergeEntryLaws
 pub mod ListingLaws
 pub mod HoldersLaws
-pub mod WorkedOutLaws
+pub mod AnswerRowsLaws
 pub mod WriteAllLaws

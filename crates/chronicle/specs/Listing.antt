@@ -103,6 +103,7 @@ listedOf ns = record { nations = length ns; entries = length (joinOf (λ n. n .e
 
 -- ## What the reading asks of the cells
 
+-- Chains that rise, keys in order, and rows that are countries'.
 pub record Readable (w : Cells) : Type 0 where
   pub chained : Chained (w .keys) (w .olds) (w .news)
   pub runs : sortBy leb (w .runs) ≡ w .runs
@@ -145,6 +146,7 @@ pub record NationsWritten (ns : List Nation) (rows₀ rows₁ entries₀ entries
 
 -- ## Cells of a campaign
 
+-- The tables of its countries, the runs and targets of its switches, and the chains of its turns by rows.
 pub record Chronicled (c : Campaign) (w : Cells) : Type 0 where
   pub keyed : Keyed (c .countries)
   pub once : twice (tagWords (c .countries)) ≡ false

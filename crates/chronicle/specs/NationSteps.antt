@@ -13,15 +13,12 @@ use Rattle.record.specs.Cursors.{countriesLeft}
 use Rattle.chronicle.specs.declared.nations.NationCounts.{NationCounts}
 use Rattle.chronicle.specs.declared.nations.Sizes.{Sizes}
 use Rattle.chronicle.specs.declared.nations.Settled.{Settled}
-use Rattle.chronicle.specs.declared.nations.Worked.{Worked}
 use Rattle.chronicle.specs.Changes.{changesOf}
 use Rattle.chronicle.specs.Nations.{holdersOf, heldOf}
 use Rattle.chronicle.specs.NationRows.{holderWord}
-use Rattle.chronicle.specs.Outcomes.{answersOf, countsOf}
-use Rattle.chronicle.specs.Cases.{countsIn}
 use Rattle.chronicle.specs.ChangeSteps.{entered, keysFrom, Ready}
 use Rattle.chronicle.specs.Holders.{startedOf}
-use Rattle.chronicle.specs.Listing.{Cells, cellsFrom, Chronicled}
+use Rattle.chronicle.specs.Listing.{cellsFrom, Chronicled}
 use Rattle.chronicle.specs.Countries.{tagWords, initialWords, rowKeys, switchKeysFrom, switchKeys}
 use Rattle.chronicle.specs.Switches.{runKeys, targetWords}
 use Rattle.chronicle.specs.Turning.{Fresh, Linked, Rowed, rowTurnsOf}
@@ -100,7 +97,8 @@ pub record SlotsSize (keys₀ cells₀ rows₀ words₀ started₀ held₀ olds�
   pub olds : length olds₀ ≡ 60000
   pub news : length news₀ ≡ 60000
 
--- The cells that are kept: words of tags, keys of initials and of switches, keys and cells of changes, words of slots, and so on.
+-- The cells that are kept: words of tags, keys of initials and of switches, keys and cells of changes, words of slots, slots held at the
+-- start and in the end, old and new rows.
 pub record CellsSize (words₀ initials₀ switches₀ keys₀ cells₀ slotWords₀ started₀ held₀ olds₀ news₀ : List ℕ) : Type 0 where
   pub words : length words₀ ≡ 2000
   pub initials : length initials₀ ≡ 2000
@@ -113,7 +111,7 @@ pub record CellsSize (words₀ initials₀ switches₀ keys₀ cells₀ slotWord
   pub olds : length olds₀ ≡ 60000
   pub news : length news₀ ≡ 60000
 
--- No row has a change yet.
+-- The first loss and the first gain of each country: none yet.
 pub record HeadsSize (losses₀ gains₀ : List ℕ) : Type 0 where
   pub losses : length losses₀ ≡ 2000
   pub gains : length gains₀ ≡ 2000
@@ -136,25 +134,24 @@ pub record SlotsSettled (xs : List ℕ) (r : Settled) (words₁ initials₁ keys
   pub started : take (r .countries) started₁ ≡ startedOf (campaignOf xs)
   pub held : take (r .countries) held₁ ≡ heldOf (campaignOf xs)
 
--- ## All worked out
+-- ## Cells without room behind them
 
--- The cells that nations are read from, as so many countries, switches and changes leave them.
-abbrev pub cellsIn : Worked → ℕ → List ℕ → List ℕ → List ℕ → List ℕ → List ℕ → List ℕ → List ℕ → List ℕ → List ℕ → List ℕ → Cells
-cellsIn r start words initials runs targets losses gains started keys olds news =
-    let c = r .counts .countries in
-    let m = r .switches in
-    let n = r .counts .changes in
-    cellsFrom (take c words) (take c initials) (take m runs) (take m targets) losses gains (take c started) (take n keys) (take n olds)
-    (take n news) start
+-- Cells that hold just what is settled; a cell for each switch, and as many as the most changes.
+pub record SlotsTold (xs : List ℕ) (words₀ initials₀ runs₀ keys₀ cells₀ slotWords₀ started₀ held₀ olds₀ news₀ : List ℕ) : Type 0 where
+  pub words : words₀ ≡ tagWords (campaignOf xs .countries)
+  pub initials : initials₀ ≡ rowKeys (initialWords (campaignOf xs .countries))
+  pub switches : length runs₀ ≡ length (switchKeysFrom 0 (campaignOf xs .countries))
+  pub sorted : keys₀ ≡ sortBy leb (keysFrom 0 (entered xs))
+  pub cells : 60000 ≤ length cells₀
+  pub holders : slotWords₀ ≡ map holderWord (holdersOf (campaignOf xs))
+  pub started : started₀ ≡ startedOf (campaignOf xs)
+  pub held : held₀ ≡ heldOf (campaignOf xs)
+  pub rowed : Rowed keys₀ olds₀ news₀ (rowTurnsOf (campaignOf xs))
 
--- The counts are those of the answer, the cells are those of the campaign, and all have the room that is asked.
-pub record WorkedOut (xs : List ℕ) (r : Worked) (words₁ initials₁ runs₁ targets₁ losses₁ gains₁ started₁ keys₁ olds₁ news₁ slotWords₁ held₁ : List ℕ) : Type 0 where
-  pub counts : countsIn (r .counts) ≡ countsOf (answersOf (campaignOf xs))
-  pub cells : Chronicled (campaignOf xs) (cellsIn r (campaignOf xs .start .0) words₁ initials₁ runs₁ targets₁ losses₁ gains₁ started₁ keys₁ olds₁ news₁)
-  pub sorted : take (r .counts .changes) keys₁ ≡ sortBy leb (keysFrom 0 (entered xs))
-  pub holders : take (r .counts .slots) slotWords₁ ≡ map holderWord (holdersOf (campaignOf xs))
-  pub held : take (r .counts .countries) held₁ ≡ heldOf (campaignOf xs)
-  pub countryRoom : (r .counts .countries ≤ length words₁) × (r .counts .countries ≤ length initials₁) × (r .counts .countries ≤ length started₁) × (r .counts .countries ≤ length held₁)
-  pub switchRoom : (r .switches ≤ length runs₁) × (r .switches ≤ length targets₁)
-  pub changeRoom : (r .counts .changes ≤ length keys₁) × (r .counts .changes ≤ length olds₁) × (r .counts .changes ≤ length news₁) × (r .counts .changes ≤ length targets₁)
-  pub slotRoom : r .counts .slots ≤ length slotWords₁
+-- Cells that nations are read from, with the targets at the front of theirs, and those of changes, holders and slots held.
+pub record Gathered (xs : List ℕ) (words₀ initials₀ runs₀ targets₀ losses₀ gains₀ started₀ keys₀ olds₀ news₀ slotWords₀ held₀ : List ℕ) : Type 0 where
+  pub cells : Chronicled (campaignOf xs) (cellsFrom words₀ initials₀ runs₀ (take (length runs₀) targets₀) losses₀ gains₀ started₀ keys₀ olds₀ news₀ (campaignOf xs .start .0))
+  pub sorted : keys₀ ≡ sortBy leb (keysFrom 0 (entered xs))
+  pub holders : slotWords₀ ≡ map holderWord (holdersOf (campaignOf xs))
+  pub held : held₀ ≡ heldOf (campaignOf xs)
+  pub room : 60000 ≤ length targets₀

@@ -133,7 +133,8 @@ unfoldable pub turnsOf : Campaign → List Turn
 turnsOf c = turnsFrom (startHolders c) (movesOf c)
 
 -- For a country that stands at n slots. The old holder loses one; at 0 it gets Annexed. Then the new holder gains one; if it stood at 0
--- and the date is after the start, it gets Appeared.
+-- and the date is after the start, it gets Appeared. Given are the start, the change's date, whether the country is the old holder,
+-- whether it is the new one, and n.
 unfoldable pub turnEntries : Eu4Date → Eu4Date → Bool → Bool → ℕ → List Entry
 turnEntries start date loses gains n =
     cond (loses && eqb (n - 1) 0) (record { date = date; kind = annexed } ∷ []) []

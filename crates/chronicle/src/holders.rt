@@ -127,6 +127,7 @@ fn pass(
         let new = (cell % 65536) as u16;
         olds[k] = lookup::NO_ROW;
         news[k] = new;
+        // Always so in an accepted record, where an id is at most P.
         if slot < rows.len() {
             olds[k] = rows[slot];
             rows[slot] = new;

@@ -115,8 +115,8 @@ fn put_nation(initial: u32, latest: u32, stored: u32, first: usize, count: usize
     out[4] = count as u32;
 }
 
-// Writes the row of the nation of key i of the initials, if it is listed, and those of its entries, the first of which has a number. Tells
-// how many rows are written.
+// Writes the row of the nation of key i of the initials, if it is listed, and those of its entries; `first` is the number of its first
+// entry. Tells how many rows are written.
 fn write_nation(
     tag_words: &[u32],
     initial_keys: &[u64],

@@ -10,7 +10,7 @@ ghost use Rattle.chronicle.specs.Lookup.{firstWithin, lastWithin, FirstS
 pub(crate) const NO_ROW: u16 = 65535;
 
 // How many of the keys, which are in order, are below x: so the first key that is not below x stands there.
-// Only one number hangs on a key, and no branch.
+// A key decides only whether `base` moves.
 pub(crate) fn lower_bound(keys: &[u64], x: u64) -> usize
     requires { ⌜ sortBy leb (now keys) ≡ now keys ⌝ }
     ensures { λ r. ⌜ r ≡ countOf (λ k. ltb k x) (now (keys .entry)) ⌝ }

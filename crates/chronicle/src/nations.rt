@@ -21,7 +21,7 @@ ghost use Rattle.chronicle.specs.ChangeSteps.{Ready};
 ghost use Rattle.chronicle.specs.Countries.{Keyed};
 ghost use Rattle.chronicle.specs.Turning.{Fresh};
 ghost use Rattle.chronicle.specs.NationSteps.{TablesRoom, TablesFilled, FewSwitches, Arranged, FewRows, roomFor};
-ghost use Rattle.chronicle.specs.NationSteps.{Begun, CellsSize, HeadsSize, SlotsSettled, WorkedOut};
+ghost use Rattle.chronicle.specs.NationSteps.{Begun, CellsSize, HeadsSize, SlotsSettled, SlotsTold, Gathered};
 
 // How many rows of each kind there are.
 pub struct NationCounts {
@@ -191,96 +191,14 @@ fn settle_slots(
     }
 }
 
-// How many rows of each kind there are, and how many switches.
-pub(crate) struct Worked {
-    pub counts: NationCounts,
-    pub switches: usize,
-}
-
-// Works out all that the rows of nations are read from, and how many rows there are.
-fn work_out(
-    s: &[u8],
-    start: u32,
-    all: Countries,
-    provinces: Provinces,
-    tag_words: &mut [u32],
-    initial_keys: &mut [u64],
-    switch_keys: &mut [u64],
-    keys: &mut [u64],
-    cells: &mut [u64],
-    slot_words: &mut [u32],
-    started: &mut [u32],
-    held_words: &mut [u32],
-    olds: &mut [u16],
-    news: &mut [u16],
-    losses: &mut [u16],
-    gains: &mut [u16],
-) -> Worked
-    requires { ⌜ Begun (now s) all provinces × (start ≡ campaignOf (now s) .start .0) ⌝ }
-    requires { ⌜ CellsSize (now «tag_words») (now «initial_keys») (now «switch_keys») (now keys) (now cells) (now «slot_words») (now started) (now «held_words») (now olds) (now news) ⌝ }
-    requires { ⌜ HeadsSize (now losses) (now gains) ⌝ }
-    ensures { λ r. ⌜ WorkedOut (now (s .entry)) r (now («tag_words» .exit)) (now («initial_keys» .exit)) (now («switch_keys» .exit)) (now (cells .exit)) (now (losses .exit)) (now (gains .exit)) (now (started .exit)) (now (keys .exit)) (now (olds .exit)) (now (news .exit)) (now («slot_words» .exit)) (now («held_words» .exit)) ⌝ }
-{
-    let settled = settle_slots(
-        s,
-        all,
-        provinces,
-        tag_words,
-        initial_keys,
-        switch_keys,
-        keys,
-        cells,
-        slot_words,
-        started,
-        held_words,
-        olds,
-        news,
-    );
-    let c = settled.countries;
-    let m = settled.switches;
-    let n = settled.changes;
-    arrange(
-        s,
-        all,
-        &mut olds[0..n],
-        &mut news[0..n],
-        losses,
-        gains,
-        switch_keys,
-        cells,
-    );
-    let listed = listing::count_nations(
-        &initial_keys[0..c],
-        &switch_keys[0..m],
-        losses,
-        gains,
-        &started[0..c],
-        &keys[0..n],
-        &olds[0..n],
-        &news[0..n],
-        start,
-    );
-    Worked {
-        counts: NationCounts {
-            nations: listed.nations,
-            entries: listed.entries,
-            slots: settled.slots,
-            countries: c,
-            changes: n,
-        },
-        switches: m,
-    }
-}
-
-// Writes all rows. The cells of the targets serve in the end for the tags of changes.
+// Writes all rows. The cells begin with the targets, and serve in the end for the tags of changes.
 fn write_all(
     s: &[u8],
     start: u32,
     provinces: Provinces,
-    worked: Worked,
     tag_words: &[u32],
     initial_keys: &[u64],
-    switch_keys: &[u64],
+    runs: &[u64],
     cells: &mut [u64],
     losses: &[u16],
     gains: &[u16],
@@ -297,36 +215,116 @@ fn write_all(
     changes: &mut [u32],
 )
     requires { ⌜ Ready (now s) provinces × (start ≡ campaignOf (now s) .start .0) ⌝ }
-    requires { ⌜ WorkedOut (now s) worked (now «tag_words») (now «initial_keys») (now «switch_keys») (now cells) (now losses) (now gains) (now started) (now keys) (now olds) (now news) (now «slot_words») (now «held_words») ⌝ }
+    requires { ⌜ Gathered (now s) (now «tag_words») (now «initial_keys») (now runs) (now cells) (now losses) (now gains) (now started) (now keys) (now olds) (now news) (now «slot_words») (now «held_words») ⌝ }
     requires { ⌜ allFit (cellsOf (answersOf (campaignOf (now s)))) (nationCells (now nations) (now entries) (now holders) (now held) (now changes)) ≡ true ⌝ }
     ensures { λ _. ⌜ nationCells (now (nations .exit)) (now (entries .exit)) (now (holders .exit)) (now (held .exit)) (now (changes .exit)) ≡ allWritten (cellsOf (answersOf (campaignOf (now (s .entry))))) (nationCells (now (nations .entry)) (now (entries .entry)) (now (holders .entry)) (now (held .entry)) (now (changes .entry))) ⌝ }
 {
-    let counts = worked.counts;
-    let c = counts.countries;
-    let m = worked.switches;
-    let n = counts.changes;
-    let slots = counts.slots;
+    let m = runs.len();
     listing::write_nations(
-        &tag_words[0..c],
-        &initial_keys[0..c],
-        &switch_keys[0..m],
+        tag_words,
+        initial_keys,
+        runs,
         &cells[0..m],
         losses,
         gains,
-        &started[0..c],
-        &keys[0..n],
-        &olds[0..n],
-        &news[0..n],
+        started,
+        keys,
+        olds,
+        news,
         start,
         nations,
         entries,
     );
-    put_words(&slot_words[0..slots], holders);
-    put_words(&held_words[0..c], held);
-    changes::write_sorted(s, provinces, &keys[0..n], &mut cells[0..n], changes);
+    put_words(slot_words, holders);
+    put_words(held_words, held);
+    let n = keys.len();
+    changes::write_sorted(s, provinces, keys, &mut cells[0..n], changes);
 }
 
-// Works out all rows before the first cell is written.
+// Works out all that the rows of nations are read from and how many rows there are, before the first cell is written.
+fn answer_rows(
+    s: &[u8],
+    start: u32,
+    all: Countries,
+    provinces: Provinces,
+    tag_words: &[u32],
+    initial_keys: &[u64],
+    runs: &mut [u64],
+    keys: &[u64],
+    cells: &mut [u64],
+    slot_words: &[u32],
+    started: &[u32],
+    held_words: &[u32],
+    olds: &mut [u16],
+    news: &mut [u16],
+    losses: &mut [u16],
+    gains: &mut [u16],
+    nations: &mut [u32],
+    entries: &mut [u32],
+    holders: &mut [u32],
+    held: &mut [u32],
+    changes: &mut [u32],
+) -> NationEvents
+    requires { ⌜ Begun (now s) all provinces × (start ≡ campaignOf (now s) .start .0) ⌝ }
+    requires { ⌜ SlotsTold (now s) (now «tag_words») (now «initial_keys») (now runs) (now keys) (now cells) (now «slot_words») (now started) (now «held_words») (now olds) (now news) ⌝ }
+    requires { ⌜ HeadsSize (now losses) (now gains) ⌝ }
+    ensures { λ r. ⌜ nationsOutcome r (now (nations .exit)) (now (entries .exit)) (now (holders .exit)) (now (held .exit)) (now (changes .exit)) ≡ callNationEvents (now (s .entry)) (nationCells (now (nations .entry)) (now (entries .entry)) (now (holders .entry)) (now (held .entry)) (now (changes .entry))) ⌝ }
+{
+    arrange(s, all, olds, news, losses, gains, runs, cells);
+    let listed = listing::count_nations(
+        initial_keys,
+        runs,
+        losses,
+        gains,
+        started,
+        keys,
+        olds,
+        news,
+        start,
+    );
+    let counts = NationCounts {
+        nations: listed.nations,
+        entries: listed.entries,
+        slots: slot_words.len(),
+        countries: tag_words.len(),
+        changes: keys.len(),
+    };
+    if !has_room(
+        counts,
+        nations.len(),
+        entries.len(),
+        holders.len(),
+        held.len(),
+        changes.len(),
+    ) {
+        return NationEvents::Refused(10);
+    }
+    write_all(
+        s,
+        start,
+        provinces,
+        tag_words,
+        initial_keys,
+        runs,
+        cells,
+        losses,
+        gains,
+        started,
+        keys,
+        olds,
+        news,
+        slot_words,
+        held_words,
+        nations,
+        entries,
+        holders,
+        held,
+        changes,
+    );
+    NationEvents::Rows(counts)
+}
+
+// Settles the slots, and answers from the cells that are filled then.
 fn nation_rows(
     s: &[u8],
     start: u32,
@@ -353,9 +351,8 @@ fn nation_rows(
     let mut news = [0u16; 60000];
     let mut losses = [65535u16; 2000];
     let mut gains = [65535u16; 2000];
-    let worked = work_out(
+    let settled = settle_slots(
         s,
-        start,
         all,
         provinces,
         &mut tag_words,
@@ -368,44 +365,34 @@ fn nation_rows(
         &mut held_words,
         &mut olds,
         &mut news,
-        &mut losses,
-        &mut gains,
     );
-    let counts = worked.counts;
-    if !has_room(
-        counts,
-        nations.len(),
-        entries.len(),
-        holders.len(),
-        held.len(),
-        changes.len(),
-    ) {
-        return NationEvents::Refused(10);
-    }
-    write_all(
+    let c = settled.countries;
+    let m = settled.switches;
+    let n = settled.changes;
+    let slots = settled.slots;
+    answer_rows(
         s,
         start,
+        all,
         provinces,
-        worked,
-        &tag_words,
-        &initial_keys,
-        &switch_keys,
+        &tag_words[0..c],
+        &initial_keys[0..c],
+        &mut switch_keys[0..m],
+        &keys[0..n],
         &mut cells,
-        &losses,
-        &gains,
-        &started,
-        &keys,
-        &olds,
-        &news,
-        &slot_words,
-        &held_words,
+        &slot_words[0..slots],
+        &started[0..c],
+        &held_words[0..c],
+        &mut olds[0..n],
+        &mut news[0..n],
+        &mut losses,
+        &mut gains,
         nations,
         entries,
         holders,
         held,
         changes,
-    );
-    NationEvents::Rows(counts)
+    )
 }
 
 // The listed nations with their entries, the holder of each slot and the slots held by each country after the last change, and the owner

@@ -59,7 +59,7 @@ pub(crate) fn start_rows(
     requires { ⌜ FirstSorted n (now keys) × Slotted slots (provincesLeft (now s) provinces) × (slots ≤ length (now rows)) ⌝ }
     ensures { λ _. ⌜ Started (take n (now (keys .entry))) (provincesLeft (now (s .entry)) provinces) slots (now (rows .entry)) (now (rows .exit)) ⌝ }
 {
-    let nobody = countries::mapped_row(keys, n, CountryTag::NONE);
-    fill_rows(rows, slots, nobody);
+    let unowned = countries::mapped_row(keys, n, CountryTag::NONE);
+    fill_rows(rows, slots, unowned);
     put_owners(s, provinces, keys, n, rows);
 }

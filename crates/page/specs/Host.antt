@@ -1,4 +1,4 @@
--- How an outcome comes back from a C function other than check and page: one signed number, and the lent slice. (DECISIONS, 'What each
+-- How an outcome comes back from a C function other than check and page: one signed number, and the lent slices. (DECISIONS, 'What each
 -- call is given'.)
 use mathlib.Core.Path.{_≡_}
 use mathlib.Core.Bool.{_&&_}
@@ -64,7 +64,7 @@ callNationEventsCells xs before =
     (nationSlices (allWritten cells (before .cells)) (written words (before .counts)))
     before
 
--- Counts of at most 32 bits, as the code casts them.
+-- A condition of an inner step, cited by no C function's promise: each count fits a word.
 pub record FewCounts (r : NationCounts) : Type 0 where
   pub nations : r .nations < 4294967296
   pub entries : r .entries < 4294967296

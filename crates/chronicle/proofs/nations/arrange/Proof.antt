@@ -1,14 +1,14 @@
 -- Chains, keys and targets by the promises of the functions that make them.
+use mathlib.Core.Path.{_∙_}
 use Rattle.chronicle.proofs.NationStepLaws.{runs-front, targets-front, runs-asked, targets-asked}
-use borrow.Author.Needs.{needs}
 use Rattle.chronicle.proofs.nations.arrange.Statement.{statement}
 use Rattle.chronicle.proofs.nations.arrange.Tie as tie
 
 link-requires : tie.Need-link-requires
-link-requires c κs = search needs
+link-requires c κs = let start = c .before .before .before .before .before .before .before .before .before in (start .pre .1 .0 .0, start .pre .1 .1 .0)
 
 link-requires-2 : tie.Need-link-requires-2
-link-requires-2 c κs = search needs
+link-requires-2 c κs = let start = c .before .before .before .before .before .before .before .before .before .before .before .before .before .before .before .before in (start .pre .1 .0 .1, start .pre .1 .1 .1)
 
 run-keys-requires : tie.Need-run-keys-requires
 run-keys-requires c κs =
@@ -21,22 +21,22 @@ fill-targets-requires c κs =
     targets-asked _ _ _ (start .pre .0 .1) _ (c .before .before .before .before .before .run-keys .kept .1 .1 .1 .0)
 
 same-length : tie.Need-same-length
-same-length c = search needs
+same-length c = c .before .before .before .before .before .before .before .before .before .before .before .before .before .before .before .before .before .before .before .before .before .before .link .kept .0
 
 same-length-2 : tie.Need-same-length-2
-same-length-2 c = search needs
+same-length-2 c = c .before .before .before .before .before .before .before .before .before .before .before .before .before .before .before .link2 .kept .0
 
 same-length-3 : tie.Need-same-length-3
-same-length-3 c = search needs
+same-length-3 c = c .before .before .before .before .before .before .before .before .before .before .before .before .before .before .before .before .before .before .before .before .before .before .link .kept .1 .0
 
 same-length-4 : tie.Need-same-length-4
-same-length-4 c = search needs
+same-length-4 c = c .before .before .before .before .before .before .before .before .before .before .before .before .before .before .before .link2 .kept .1 .0
 
 same-length-5 : tie.Need-same-length-5
-same-length-5 c = search needs
+same-length-5 c = c .before .before .before .before .before .before .before .before .run-keys .kept .1 .1 .0
 
 same-length-6 : tie.Need-same-length-6
-same-length-6 c = search needs
+same-length-6 c = c .before .before .fill-targets .kept .1 .1 .0 ∙ c .before .before .before .before .before .before .before .before .run-keys .kept .1 .1 .1 .0
 
 returns : tie.Need-returns
 returns c =

@@ -1,10 +1,10 @@
 -- The sizes of an accepted record are within those of the cells; then each table, and what stands in the end, by the promises of the two calls.
-use mathlib.Core.Path.{_≡_, refl, _∙_}
+use mathlib.Core.Path.{_≡_, refl, sym, _∙_}
 use native.Mathlib.Omega.{arith}
 use Prim.Native.Nat.{ℕ}
 use lib.ListN.{length, replicate, length-replicate}
 use Rattle.chronicle.proofs.SettledLaws.{tables-asked, countries-within, switches-within, slots-within, holding-asked, slots-settled}
-use borrow.Author.Needs.{needs}
+use borrow.Author.Needs.{zero≤}
 use Rattle.chronicle.proofs.nations.settle_slots.Statement.{statement}
 use Rattle.chronicle.proofs.nations.settle_slots.Tie as tie
 
@@ -27,7 +27,7 @@ abbrev filled : tie.After-slice-known21 → tie.After-fill-tables
 filled c = c .before .before .before .before .before .before .before .before .before .before .before .before .before .before .before .before .before .before .before .before .before .before .before .before .before .before .before .before .before .before .before .before .before .before .before .before .before .before .before .before .before .before
 
 len-requires : tie.Need-len-requires
-len-requires c κs = search needs
+len-requires c κs = tt
 
 add-slots : tie.Need-add-slots
 add-slots c =
@@ -36,10 +36,10 @@ add-slots c =
     omega (arith, few)
 
 slice-aggregate-fill-tables : tie.Need-slice-aggregate-fill-tables
-slice-aggregate-fill-tables c = search needs
+slice-aggregate-fill-tables c = sym (made 2000)
 
 slice-aggregate-fill-tables-2 : tie.Need-slice-aggregate-fill-tables-2
-slice-aggregate-fill-tables-2 c = search needs
+slice-aggregate-fill-tables-2 c = sym (made 2000)
 
 fill-tables-requires : tie.Need-fill-tables-requires
 fill-tables-requires c κs =
@@ -55,10 +55,10 @@ fill-tables-requires c κs =
     })
 
 sub-hold-slots : tie.Need-sub-hold-slots
-sub-hold-slots c = search needs
+sub-hold-slots c = zero≤
 
 part-hold-slots-start : tie.Need-part-hold-slots-start
-part-hold-slots-start c = search needs
+part-hold-slots-start c = zero≤
 
 part-hold-slots-end : tie.Need-part-hold-slots-end
 part-hold-slots-end c =
@@ -66,10 +66,10 @@ part-hold-slots-end c =
     countries-within _ _ _ (start f .pre .0) _ _ _ (f .fill-tables .ensures .countries) (f .fill-tables .kept .1 .1 .0) (start f .pre .1 .words)
 
 sub-hold-slots-2 : tie.Need-sub-hold-slots-2
-sub-hold-slots-2 c = search needs
+sub-hold-slots-2 c = zero≤
 
 part-hold-slots-start-2 : tie.Need-part-hold-slots-start-2
-part-hold-slots-start-2 c = search needs
+part-hold-slots-start-2 c = zero≤
 
 part-hold-slots-end-2 : tie.Need-part-hold-slots-end-2
 part-hold-slots-end-2 c =
@@ -77,10 +77,10 @@ part-hold-slots-end-2 c =
     countries-within _ _ _ (start f .pre .0) _ _ _ (f .fill-tables .ensures .countries) (f .fill-tables .kept .1 .1 .1 .1 .0) (made 2000)
 
 sub-hold-slots-3 : tie.Need-sub-hold-slots-3
-sub-hold-slots-3 c = search needs
+sub-hold-slots-3 c = zero≤
 
 part-hold-slots-start-3 : tie.Need-part-hold-slots-start-3
-part-hold-slots-start-3 c = search needs
+part-hold-slots-start-3 c = zero≤
 
 part-hold-slots-end-3 : tie.Need-part-hold-slots-end-3
 part-hold-slots-end-3 c =
@@ -88,10 +88,10 @@ part-hold-slots-end-3 c =
     countries-within _ _ _ (start f .pre .0) _ _ _ (f .fill-tables .ensures .countries) (f .fill-tables .kept .1 .1 .1 .1 .1 .0) (start f .pre .1 .initials)
 
 sub-hold-slots-4 : tie.Need-sub-hold-slots-4
-sub-hold-slots-4 c = search needs
+sub-hold-slots-4 c = zero≤
 
 part-hold-slots-start-4 : tie.Need-part-hold-slots-start-4
-part-hold-slots-start-4 c = search needs
+part-hold-slots-start-4 c = zero≤
 
 part-hold-slots-end-4 : tie.Need-part-hold-slots-end-4
 part-hold-slots-end-4 c =
@@ -99,10 +99,10 @@ part-hold-slots-end-4 c =
     switches-within _ _ _ (start f .pre .0) _ _ _ (f .fill-tables .ensures .switched) (f .fill-tables .kept .1 .1 .1 .1 .1 .1 .0) (start f .pre .1 .switches)
 
 sub-hold-slots-5 : tie.Need-sub-hold-slots-5
-sub-hold-slots-5 c = search needs
+sub-hold-slots-5 c = zero≤
 
 part-slot-rows-start : tie.Need-part-slot-rows-start
-part-slot-rows-start c = search needs
+part-slot-rows-start c = zero≤
 
 part-slot-rows-end : tie.Need-part-slot-rows-end
 part-slot-rows-end c =
@@ -110,10 +110,10 @@ part-slot-rows-end c =
     slots-within _ _ _ (start f .pre .0) _ _ (sized f .len .ensures) (made 8001)
 
 sub-hold-slots-6 : tie.Need-sub-hold-slots-6
-sub-hold-slots-6 c = search needs
+sub-hold-slots-6 c = zero≤
 
 part-hold-slots-start-5 : tie.Need-part-hold-slots-start-5
-part-hold-slots-start-5 c = search needs
+part-hold-slots-start-5 c = zero≤
 
 part-hold-slots-end-5 : tie.Need-part-hold-slots-end-5
 part-hold-slots-end-5 c =
@@ -121,10 +121,10 @@ part-hold-slots-end-5 c =
     slots-within _ _ _ (start f .pre .0) _ _ (sized f .len .ensures) (start f .pre .1 .slotWords)
 
 sub-hold-slots-7 : tie.Need-sub-hold-slots-7
-sub-hold-slots-7 c = search needs
+sub-hold-slots-7 c = zero≤
 
 part-hold-slots-start-6 : tie.Need-part-hold-slots-start-6
-part-hold-slots-start-6 c = search needs
+part-hold-slots-start-6 c = zero≤
 
 part-hold-slots-end-6 : tie.Need-part-hold-slots-end-6
 part-hold-slots-end-6 c =
@@ -132,10 +132,10 @@ part-hold-slots-end-6 c =
     countries-within _ _ _ (start f .pre .0) _ _ _ (f .fill-tables .ensures .countries) refl (start f .pre .1 .started)
 
 sub-hold-slots-8 : tie.Need-sub-hold-slots-8
-sub-hold-slots-8 c = search needs
+sub-hold-slots-8 c = zero≤
 
 part-hold-slots-start-7 : tie.Need-part-hold-slots-start-7
-part-hold-slots-start-7 c = search needs
+part-hold-slots-start-7 c = zero≤
 
 part-hold-slots-end-7 : tie.Need-part-hold-slots-end-7
 part-hold-slots-end-7 c =
