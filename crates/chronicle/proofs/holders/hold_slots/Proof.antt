@@ -6,7 +6,7 @@ use lib.ListN.{length-take}
 use Rattle.chronicle.proofs.ChangeLaws.{entered-few}
 use Rattle.chronicle.proofs.KeyedLaws.{provinces-few}
 use Rattle.chronicle.proofs.HoldersLaws.{held}
-use borrow.Author.Needs.{needs}
+use borrow.Author.Needs.{zero≤}
 use Rattle.chronicle.proofs.holders.hold_slots.Statement.{statement}
 use Rattle.chronicle.proofs.holders.hold_slots.Tie as tie
 
@@ -29,13 +29,15 @@ start-slots-requires c κs =
     (s0 .pre .0, (tables .settler .words, (tables .initials, ((room .rows, room .words ∙ sym (room .rows)), room .started))))
 
 sort-steps-requires : tie.Need-sort-steps-requires
-sort-steps-requires c κs = search needs
+sort-steps-requires c κs =
+    let p = c .before .before .before .before .before .before .before .before .before .before .before .before .before .before .before .before .before .before .before .before .before .before .before .before .before .pre in
+    (p .0, (p .1 .0 .settler, (p .1 .1 .keys, p .1 .1 .cells)))
 
 sub-pass : tie.Need-sub-pass
-sub-pass c = search needs
+sub-pass c = zero≤
 
 part-pass-start : tie.Need-part-pass-start
-part-pass-start c = search needs
+part-pass-start c = zero≤
 
 part-pass-end : tie.Need-part-pass-end
 part-pass-end c =
@@ -43,10 +45,10 @@ part-pass-end c =
     omega (arith, few sorted, sorted .sort-steps .kept .1 .1 .1 .1 .1 .0, start sorted .pre .1 .1 .keys)
 
 sub-pass-2 : tie.Need-sub-pass-2
-sub-pass-2 c = search needs
+sub-pass-2 c = zero≤
 
 part-pass-start-2 : tie.Need-part-pass-start-2
-part-pass-start-2 c = search needs
+part-pass-start-2 c = zero≤
 
 part-pass-end-2 : tie.Need-part-pass-end-2
 part-pass-end-2 c =
@@ -54,10 +56,10 @@ part-pass-end-2 c =
     omega (arith, few sorted, sorted .sort-steps .kept .1 .1 .1 .1 .1 .1 .0, start sorted .pre .1 .1 .cells)
 
 sub-pass-3 : tie.Need-sub-pass-3
-sub-pass-3 c = search needs
+sub-pass-3 c = zero≤
 
 part-pass-start-3 : tie.Need-part-pass-start-3
-part-pass-start-3 c = search needs
+part-pass-start-3 c = zero≤
 
 part-pass-end-3 : tie.Need-part-pass-end-3
 part-pass-end-3 c =
@@ -65,10 +67,10 @@ part-pass-end-3 c =
     omega (arith, few sorted, start sorted .pre .1 .1 .olds)
 
 sub-pass-4 : tie.Need-sub-pass-4
-sub-pass-4 c = search needs
+sub-pass-4 c = zero≤
 
 part-pass-start-4 : tie.Need-part-pass-start-4
-part-pass-start-4 c = search needs
+part-pass-start-4 c = zero≤
 
 part-pass-end-4 : tie.Need-part-pass-end-4
 part-pass-end-4 c =
@@ -94,28 +96,28 @@ count-slots-requires c κs =
     omega (arith, provinces-few _ (s0 .pre .0 .accepted), s0 .pre .1 .1 .rows, long, passed .pass .kept .1 .1 .0)
 
 same-length : tie.Need-same-length
-same-length c = search needs
+same-length c = c .before .before .before .before .before .before .before .before .before .before .before .before .before .before .before .before .before .before .before .before .before .before .before .before .before .before .sort-steps .kept .1 .1 .1 .1 .1 .0
 
 same-length-2 : tie.Need-same-length-2
-same-length-2 c = search needs
+same-length-2 c = c .before .before .before .before .before .before .before .before .before .before .before .before .before .before .before .before .before .before .before .before .before .before .before .before .before .before .sort-steps .kept .1 .1 .1 .1 .1 .1 .0
 
 same-length-3 : tie.Need-same-length-3
-same-length-3 c = search needs
+same-length-3 c = c .before .before .before .before .before .before .before .before .before .before .before .before .before .pass .kept .1 .1 .0 ∙ c .before .before .before .before .before .before .before .before .before .before .before .before .before .before .before .before .before .before .before .before .before .before .before .before .before .before .before .before .before .before .before .before .before .before .before .start-slots .kept .1 .1 .1 .1 .0
 
 same-length-4 : tie.Need-same-length-4
-same-length-4 c = search needs
+same-length-4 c = c .before .before .before .before .before .before .before .before .before .before .before .before .before .pass .kept .1 .1 .1 .0 ∙ c .before .before .before .before .before .before .before .before .before .before .before .before .before .before .before .before .before .before .before .before .before .before .before .before .before .before .before .before .before .before .before .before .before .before .before .start-slots .kept .1 .1 .1 .1 .1 .0
 
 same-length-5 : tie.Need-same-length-5
-same-length-5 c = search needs
+same-length-5 c = c .before .before .before .before .before .before .before .before .before .before .before .before .before .before .before .before .before .before .before .before .before .before .before .before .before .before .before .before .before .before .before .before .before .before .before .start-slots .kept .1 .1 .1 .1 .1 .1 .0
 
 same-length-6 : tie.Need-same-length-6
-same-length-6 c = search needs
+same-length-6 c = c .before .before .count-slots .kept .1 .0
 
 same-length-7 : tie.Need-same-length-7
-same-length-7 c = search needs
+same-length-7 c = c .before .before .before .before .before .before .before .before .olds .given .1
 
 same-length-8 : tie.Need-same-length-8
-same-length-8 c = search needs
+same-length-8 c = c .before .before .before .before .before .before .news .given .1
 
 returns : tie.Need-returns
 returns c =

@@ -1,6 +1,6 @@
 -- What is lent are the cells of the campaign, and each slice has room for its part of the answer. So what the writers leave is the answer.
 use Rattle.record.specs.Campaign.{campaignOf}
-use Rattle.chronicle.proofs.WriteAllLaws.{AllRoom, all-room, targets-inside, tags-inside, tags-kept, nations-asked, holders-asked, held-asked, sorted-asked, all-put}
+use Rattle.chronicle.proofs.WriteAllLaws.{AllRoom, all-room, targets-inside, tags-inside, nations-asked, holders-asked, held-asked, sorted-asked, all-put}
 use borrow.Author.Needs.{zero≤}
 use Rattle.chronicle.proofs.nations.write_all.Statement.{statement}
 use Rattle.chronicle.proofs.nations.write_all.Tie as tie
@@ -60,7 +60,7 @@ write-sorted-requires c κs =
     sorted-asked _ _ _ _ _ _ _ _ _ _ _ _ _ (start .pre .1 .0) _ (start .pre .0 .0) _ _ _ _ _ (room start)
 
 same-length : tie.Need-same-length
-same-length c = tags-kept _ _ _ _ _ _ _ _ _ _ _ _ _ (begun-held (c .before .before .before .before .before .before .before .before .before) .pre .1 .0) (c .before .before .before .before .write-sorted .last .1 .1 .1 .0) (c .before .before .before .before .write-sorted .kept .1 .1 .1 .0)
+same-length c = c .before .before .before .cells2 .given .1
 
 same-length-2 : tie.Need-same-length-2
 same-length-2 c = c .before .before .before .before .before .before .before .before .before .before .before .before .before .before .before .before .before .before .before .write-nations .kept .1 .1 .1 .1 .1 .1 .1 .1 .1 .1 .1 .0
