@@ -4,6 +4,7 @@
 //! number (1 byte), the record. The numbers are the independent checker's.
 
 use std::fmt::Write;
+use std::process::ExitCode;
 
 use crate::cases::Cases;
 use crate::edges;
@@ -85,4 +86,29 @@ pub fn listing(vectors: &[Vector]) -> String {
         writeln!(out, "{place} {} {}", vector.number, vector.name).expect("a string grows");
     }
     out
+}
+
+/// What a program that keeps a stored list does with its arguments: `NAME FILE` writes the list,
+/// `NAME --check FILE` holds the stored one against it. Either says what it did, or why not.
+pub fn run(
+    name: &str,
+    write: fn(&str) -> Result<String, String>,
+    check: fn(&str) -> Result<String, String>,
+) -> ExitCode {
+    let arguments: Vec<String> = std::env::args().skip(1).collect();
+    let outcome = match arguments.iter().map(String::as_str).collect::<Vec<_>>()[..] {
+        ["--check", file] => check(file),
+        [file] if !file.starts_with('-') => write(file),
+        _ => Err(format!("usage: {name} FILE | {name} --check FILE")),
+    };
+    match outcome {
+        Ok(message) => {
+            println!("{message}");
+            ExitCode::SUCCESS
+        }
+        Err(message) => {
+            eprintln!("{message}");
+            ExitCode::FAILURE
+        }
+    }
 }

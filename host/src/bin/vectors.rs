@@ -3,28 +3,12 @@
 //! `vectors FILE` writes FILE and, beside it, the listing FILE.txt; `vectors --check FILE`
 //! says whether both are what would be written.
 
-use std::env;
 use std::process::ExitCode;
 
 use chronicle_host::vectors;
 
 fn main() -> ExitCode {
-    let arguments: Vec<String> = env::args().skip(1).collect();
-    let outcome = match arguments.iter().map(String::as_str).collect::<Vec<_>>()[..] {
-        ["--check", file] => check(file),
-        [file] if !file.starts_with('-') => write(file),
-        _ => Err("usage: vectors FILE | vectors --check FILE".to_string()),
-    };
-    match outcome {
-        Ok(message) => {
-            println!("{message}");
-            ExitCode::SUCCESS
-        }
-        Err(message) => {
-            eprintln!("{message}");
-            ExitCode::FAILURE
-        }
-    }
+    vectors::run("vectors", write, check)
 }
 
 /// The list's two files: name and content.

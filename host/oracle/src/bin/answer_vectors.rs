@@ -12,22 +12,7 @@ fn main() -> ExitCode {
 
 #[cfg(found)]
 fn main() -> ExitCode {
-    let arguments: Vec<String> = std::env::args().skip(1).collect();
-    let outcome = match arguments.iter().map(String::as_str).collect::<Vec<_>>()[..] {
-        ["--check", file] => check(file),
-        [file] if !file.starts_with('-') => write(file),
-        _ => Err("usage: answer_vectors FILE | answer_vectors --check FILE".to_string()),
-    };
-    match outcome {
-        Ok(message) => {
-            println!("{message}");
-            ExitCode::SUCCESS
-        }
-        Err(message) => {
-            eprintln!("{message}");
-            ExitCode::FAILURE
-        }
-    }
+    chronicle_host::vectors::run("answer_vectors", write, check)
 }
 
 #[cfg(found)]
