@@ -8,7 +8,6 @@ use native.Mathlib.Omega.{arith}
 use lib.Dec.{leb}
 use lib.ListN.{length, take, length-map}
 use lib.Seq.{take-length, length-take-le}
-use Rattle.lists.specs.Lists.{countOf}
 use Rattle.sorting.specs.Sort.{sortBy}
 use Rattle.sorting.proofs.SortLaws.{length-sort}
 use Rattle.record.specs.Campaign.{Campaign, Country, campaignOf}
@@ -23,7 +22,7 @@ use Rattle.chronicle.specs.ChangeSteps.{entered, keysFrom}
 use Rattle.chronicle.specs.Countries.{switchKeysFrom, Keyed}
 use Rattle.chronicle.specs.Listing.{Cells, cellsFrom, listedOf, Readable, Counted, Chronicled}
 use Rattle.chronicle.specs.NationRows.{holderWord}
-use Rattle.chronicle.specs.Nations.{matches, nationsOf, holdersOf, heldOf}
+use Rattle.chronicle.specs.Nations.{nationsOf, holdersOf, heldOf}
 use Rattle.chronicle.specs.NationSteps.{FewSwitches, Arranged, HeadsSize, SlotsSettled, SlotsTold, Gathered}
 use Rattle.chronicle.specs.Outcomes.{Counts, answersOf, countsOf}
 use Rattle.chronicle.specs.Switches.{runsFrom, runKeys, targetWords}
@@ -32,6 +31,7 @@ use Rattle.chronicle.proofs.ChangeLaws.{changes-few}
 use Rattle.chronicle.proofs.KeyLaws.{length-keys}
 use Rattle.chronicle.proofs.KeyedLaws.{countries-few, provinces-few, switches-few, accepted-keyed}
 use Rattle.chronicle.proofs.NationsLaws.{RunEntries, runs-told, cells-nations, cells-readable}
+use Rattle.chronicle.proofs.SettledLaws.{length-held}
 use Rattle.chronicle.proofs.SwitchLaws.{runs-few, targets-small, run-entries}
 
 -- ## Lengths
@@ -48,11 +48,6 @@ sorted-count xs keys e =
     ∙ length-sort leb (keysFrom 0 (entered xs))
     ∙ length-keys 0 (entered xs)
     ∙ sym (length-sort byDateAndId (entered xs))
-
--- There is a count for each country.
-length-held : (c : Campaign) → length (heldOf c) ≡ length (c .countries)
-unfolding heldOf
-length-held c = length-map (c .countries) (λ k. countOf (matches (k .tag)) (holdersOf c))
 
 -- ## Slots settled
 

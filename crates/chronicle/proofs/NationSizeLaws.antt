@@ -13,16 +13,17 @@ use Rattle.lists.proofs.ListLaws.{all-map, all-keep}
 use Rattle.sorting.proofs.SortLaws.{length-sort, all-sort}
 use Rattle.record.specs.declared.tag.CountryTag.{CountryTag}
 use Rattle.record.specs.declared.date.Eu4Date.{Eu4Date}
-use Rattle.record.specs.declared.rows.Switch.{Switch}
 use Rattle.record.specs.Tags.{sameTag}
 use Rattle.record.specs.Dates.{earlier}
 use Rattle.record.specs.Campaign.{Campaign, Country, campaignOf}
 use Rattle.record.specs.Refusal.{refusal}
 use Rattle.chronicle.specs.Chronicle.{Entry, annexed, appeared, Nation}
 use Rattle.chronicle.specs.Changes.{changesOf}
-use Rattle.chronicle.specs.Nations.{matches, initialOf, switchChain, lastTarget, switchEntries, startHolders, allSwitches, moveOf, Move, movesOf, Turn, turnsFrom, turnsOf, turnEntries, turnCount, livesFrom, livesOf, entriesOf, nationOf, isMapped, heldEver, listedCountries, nationsOf}
+use Rattle.chronicle.specs.Nations.{matches, initialOf, lastTarget, switchEntries, startHolders, allSwitches, moveOf, Move, movesOf, Turn, turnsFrom, turnsOf, turnEntries, turnCount, livesFrom, livesOf, entriesOf, nationOf, isMapped, heldEver, listedCountries, nationsOf}
 use Rattle.chronicle.specs.Countries.{switchKey, switchKeysFrom}
 use Rattle.chronicle.specs.Turning.{byDate}
+use Rattle.chronicle.specs.NationRows.{targetWord}
+use Rattle.chronicle.proofs.SwitchLaws.{length-chain}
 use Rattle.chronicle.proofs.ChangeLaws.{changes-few}
 use Rattle.chronicle.proofs.KeyedLaws.{countries-few, switches-few}
 
@@ -57,11 +58,6 @@ unfolding turnsFrom
 length-turns holders [] = refl
 length-turns holders (m ∷ ms) = ap suc (length-turns (set holders (m .slot .0) (some (m .holder))) ms)
 
-length-chain : (end : CountryTag) (ss : List Switch) → length (switchChain end ss) ≡ length ss
-unfolding switchChain
-length-chain end [] = refl
-length-chain end (s ∷ ss) = ap suc (length-chain end ss)
-
 -- A country has its switches, and at most two entries for each change.
 entries-short : (c : Campaign) (k : Country) → length (entriesOf c k) ≤ length (k .switches) + 2 * length (changesOf c)
 unfolding entriesOf livesOf turnsOf movesOf
@@ -71,7 +67,7 @@ entries-short c k =
       arith,
       length-sort byDate (switchEntries k ++ livesOf c (k .tag)),
       length-append (switchEntries k) (livesOf c (k .tag)),
-      length-chain (lastTarget k) (k .switches),
+      sym (length-map (switchEntries k) (λ e. targetWord (e .kind))) ∙ length-chain (lastTarget k) (k .switches),
       lives-short (c .start) (k .tag) (turnsOf c) n,
       length-turns (startHolders c) (movesOf c),
       length-map (changesOf c) (moveOf (allSwitches (c .countries))),
