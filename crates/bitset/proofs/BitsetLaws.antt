@@ -13,7 +13,7 @@ use lib.Dec.{eqb}
 use lib.ListN.{length, replicate, length-set, length-replicate, getD-replicate, List·getD-eq-default}
 use lib.Pow.{pow-add, pow-pos, pow-lt, shl-shr}
 use lib.Seq.{getD-set-same, getD-set-other}
-use Rattle.bitset.specs.Bitset.{bit, withBit, isMarked, marking}
+use Rattle.bitset.specs.Bitset.{hasBit, withBit, isMarked, marking}
 
 -- a below b, equal to it, or above it
 by-order : {C : Type 0} (a b : ℕ) → (a < b → C) → (a ≡ b → C) → (b < a → C) → C
@@ -37,8 +37,8 @@ same-test a b c d f g =
 -- ---- bits of one word
 
 -- a word of 0 has no bit
-no-bit : (j : ℕ) → bit 0 j ≡ false
-unfolding bit
+no-bit : (j : ℕ) → hasBit 0 j ≡ false
+unfolding hasBit
 no-bit j = simp zero-div
 
 -- two numbers below 2: the larger is 1 where one of them is
@@ -61,8 +61,8 @@ max-small p q hp hq = omega arith
 or-low : (a b : ℕ) → bitOr a b % 2 ≡ max (a % 2) (b % 2)
 or-low a b = rw (or-step a b) (digits-mod (bitOr (a / 2) (b / 2)) (max-small (a % 2) (b % 2) (below-two a) (below-two b)))
 
-bit-or : (w v j : ℕ) → bit (bitOr w v) j ≡ bit v j || bit w j
-unfolding bit
+bit-or : (w v j : ℕ) → hasBit (bitOr w v) j ≡ hasBit v j || hasBit w j
+unfolding hasBit
 bit-or w v j =
     rw (or-shr w v j, or-low (w / 2 ^ j) (v / 2 ^ j)) (larger-one (w / 2 ^ j % 2) (v / 2 ^ j % 2) (below-two _) (below-two _))
 
@@ -74,8 +74,8 @@ power-low i j h =
     rw (e, pow-add 2 (n + 1) j, shl-shr (2 ^ (n + 1)) j, pow-add 2 n 1) (mul-mod-left (2 ^ n) 2)
 
 -- 2 ^ i has bit i and no other
-bit-power : (i j : ℕ) → bit (2 ^ i) j ≡ eqb j i
-unfolding bit
+bit-power : (i j : ℕ) → hasBit (2 ^ i) j ≡ eqb j i
+unfolding hasBit
 bit-power i j =
     by-order j i
     (λ h. rw (power-low i j h) (sym (ne-eqb j i (λ e. omega arith))))
@@ -83,7 +83,7 @@ bit-power i j =
     (λ h. rw (div-eq-of-lt (pow-lt h)) (sym (ne-eqb j i (λ e. omega arith))))
 
 -- a word with bit i set has that bit, and else the bits that it had
-pub bit-after : (w i j : ℕ) → bit (withBit w i) j ≡ eqb j i || bit w j
+pub bit-after : (w i j : ℕ) → hasBit (withBit w i) j ≡ eqb j i || hasBit w j
 unfolding withBit
 bit-after w i j = rw (bit-or w (2 ^ i) j, bit-power i j)
 

@@ -7,8 +7,8 @@ use lib.Dec.{eqb}
 use lib.ListN.{getD, set}
 
 -- whether bit j of a word is 1; bit 0 is the lowest
-unfoldable pub bit : ℕ → ℕ → Bool
-bit w j = eqb (w / 2 ^ j % 2) 1
+unfoldable pub hasBit : ℕ → ℕ → Bool
+hasBit w j = eqb (w / 2 ^ j % 2) 1
 
 -- the word with bit j 1, and its other bits as they are
 unfoldable pub withBit : ℕ → ℕ → ℕ
@@ -20,7 +20,7 @@ wordOf ws k = getD ws (k / 64) 0
 
 -- whether number k is marked; no number past the words is
 unfoldable pub isMarked : List ℕ → ℕ → Bool
-isMarked ws k = bit (wordOf ws k) (k % 64)
+isMarked ws k = hasBit (wordOf ws k) (k % 64)
 
 -- the words with number k marked; a number past the words changes nothing
 unfoldable pub marking : List ℕ → ℕ → List ℕ

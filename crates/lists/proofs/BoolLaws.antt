@@ -25,18 +25,6 @@ pub and-false : (a : Bool) → a && false ≡ false
 and-false true = refl
 and-false false = refl
 
--- the same truth value
-abbrev pub same : Bool → Bool → Bool
-same true b = b
-same false true = false
-same false false = true
-
-pub same-true : (a b : Bool) → same a b ≡ true → a ≡ b
-same-true true true h = refl
-same-true true false h = absurd (true≢false (sym h))
-same-true false true h = absurd (true≢false (sym h))
-same-true false false h = refl
-
 pub neither : (a b : Bool) → (a || b) ≡ false → (a ≡ false) × (b ≡ false)
 neither true b p = absurd (true≢false p)
 neither false b p = (refl, p)

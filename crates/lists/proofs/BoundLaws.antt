@@ -8,11 +8,10 @@ use borrow.Author.Tests.{ltb-true, ltb-false, lt-ltb, le-ltb, le-leb, lt-leb}
 use lib.Dec.{leb, ltb}
 use lib.ListN.{length, getD, take, drop, drop-of-length-le}
 use lib.Seq.{drop-cons, take-suc}
-use Rattle.lists.specs.Lists.{keep, countOf, firstOr, lastOr}
+use Rattle.lists.specs.Lists.{All, keep, countOf, firstOr, lastOr}
 use Rattle.lists.proofs.BoolLaws.{cases}
 use Rattle.lists.proofs.ListLaws.{InOrder, all-map, keep-none, keep-append, count-le, count-none, map-append}
-use Rattle.lists.specs.Lists.{All}
-use Rattle.lists.proofs.ElementLaws.{all-inside, keep-both, keep-either, last-behind}
+use Rattle.lists.proofs.ElementLaws.{all-inside, keep-both, keep-either, keep-same, last-behind}
 
 -- ## The count of keys below a number
 
@@ -133,3 +132,33 @@ module _ (low high : ℕ) (keys : List ℕ) (o : Up keys) where
         ap (λ (ks : List ℕ). lastOr d (map f ks)) all
         ∙ ap (lastOr d) (map-append f kept (getD keys (i - 1) 0 ∷ []))
         ∙ last-behind d (f (getD keys (i - 1) 0)) (map f kept)
+
+-- They are a part: from the count of those below the one number up to the count of those below the other.
+module _ (low high : ℕ) (h : low ≤ high) where
+  abbrev pub between : List ℕ → List ℕ
+  between keys = take (countOf (λ k. ltb k high) keys - countOf (λ k. ltb k low) keys) (drop (countOf (λ k. ltb k low) keys) keys)
+
+  abbrev ranged : ℕ → Bool
+  ranged k = leb low k && ltb k high
+
+  first-within : (keys : List ℕ) → Up keys → All (λ j. low ≤ j) keys → between keys ≡ keep ranged keys
+  first-within keys o up =
+      let none : countOf (λ k. ltb k low) keys ≡ 0 = count-none (λ k. ltb k low) keys (all-map (λ j m. le-ltb j low m) keys up) in
+      let all : countOf (λ k. ltb k high) keys - 0 ≡ countOf (λ k. ltb k high) keys = omega arith in
+      ap (λ (n : ℕ). take (countOf (λ k. ltb k high) keys - n) (drop n keys)) none
+      ∙ ap (λ (n : ℕ). take n keys) all
+      ∙ sym (bound-take high keys o)
+      ∙ keep-same (λ k. ltb k high) ranged keys (all-map {Q = λ j. ltb j high ≡ ranged j} (λ j m. simp (le-leb low j m)) keys up)
+
+  pub part-within : (keys : List ℕ) → Up keys → between keys ≡ keep (λ k. leb low k && ltb k high) keys
+  part-within [] o = refl
+  part-within (k ∷ keys) o =
+      let a = countOf (λ j. ltb j high) keys in
+      let b = countOf (λ j. ltb j low) keys in
+      let less : suc a - suc b ≡ a - b = omega arith in
+      cases (ltb k low)
+      (λ g. let l = ltb-true k low g in
+      simp (g, lt-ltb k high (omega arith), lt-leb low k l, less) (part-within keys (o .1)))
+      (λ g. let l = ltb-false k low g in
+      let up : All (λ j. low ≤ j) (k ∷ keys) = (l, all-map (λ j m. omega arith) keys (o .0)) in
+      first-within (k ∷ keys) o up)

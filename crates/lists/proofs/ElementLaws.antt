@@ -1,15 +1,14 @@
 -- First and last elements, elements at a place, and what tests keep.
-use mathlib.Core.Path.{_≡_, refl}
-use mathlib.Core.Bool.{Bool, _&&_}
+use mathlib.Core.Path.{_≡_, refl, sym, ap, _∙_}
+use mathlib.Core.Bool.{Bool, true, cond, _&&_}
 use mathlib.Core.List.{List, [], _∷_, _++_, map}
-use mathlib.Core.Option.{none, some}
+use mathlib.Core.Option.{none, some, Option·map, Option·none-ne-some, Option·some-injective}
 use Prim.Native.Nat.{ℕ, zero, suc, _+_, _-_, _≤_, _<_}
 use native.Mathlib.Omega.{arith}
 use lib.ListN.{length, getD, getElem?, drop, replicate}
-use Rattle.lists.specs.Lists.{keep, firstOr, lastOr, last}
-use Rattle.lists.proofs.BoolLaws.{cases, and-false}
-use Rattle.lists.proofs.ListLaws.{InOrder, all-keep}
-use Rattle.lists.specs.Lists.{All}
+use Rattle.lists.specs.Lists.{All, keep, allOf, joinOf, firstOr, lastOr, last}
+use Rattle.lists.proofs.BoolLaws.{cases, and-false, both}
+use Rattle.lists.proofs.ListLaws.{InOrder, all-keep, map-at}
 
 -- ## First and last
 
@@ -56,6 +55,35 @@ at-drop [] (suc i) x rest e = (cc, cc)
 at-drop (y ∷ xs) zero x rest e = (cc, cc)
 at-drop (y ∷ xs) (suc i) x rest e = at-drop xs i x rest e
 
+-- Inside a list it does not matter what stands for outside.
+pub at-any : {A : Type 0} (l : List A) (i : ℕ) (d e : A) → i < length l → getD l i d ≡ getD l i e
+at-any [] i d e h = absurd (omega arith)
+at-any (x ∷ l) zero d e h = refl
+at-any (x ∷ l) (suc i) d e h = at-any l i d e (omega arith)
+
+module _ {A : Type 0} where
+  -- What stands at a place is read there.
+  pub at-getD : (xs : List A) (i : ℕ) (x d : A) → getElem? xs i ≡ some x → getD xs i d ≡ x
+  at-getD [] i x d e = absurd (Option·none-ne-some x e)
+  at-getD (y ∷ xs) zero x d e = Option·some-injective y x e
+  at-getD (y ∷ xs) (suc i) x d e = at-getD xs i x d e
+
+  -- A place where something stands is inside.
+  pub at-within : (xs : List A) (i : ℕ) (x : A) → getElem? xs i ≡ some x → i < length xs
+  at-within [] i x e = absurd (Option·none-ne-some x e)
+  at-within (y ∷ xs) zero x e = omega arith
+  at-within (y ∷ xs) (suc i) x e = omega (arith, at-within xs i x e)
+
+  -- A test that each element passes is passed by the one at a place.
+  pub allOf-at : (p : A → Bool) (xs : List A) (i : ℕ) (x : A) → getElem? xs i ≡ some x → allOf p xs ≡ true → p x ≡ true
+  allOf-at p [] i x e h = absurd (Option·none-ne-some x e)
+  allOf-at p (y ∷ xs) zero x e h = ap p (sym (Option·some-injective y x e)) ∙ both (p y) (allOf p xs) h .0
+  allOf-at p (y ∷ xs) (suc i) x e h = allOf-at p xs i x e (both (p y) (allOf p xs) h .1)
+
+-- The cell of what stands at a place.
+pub cell-at : {A B : Type 0} (f : A → B) (xs : List A) (i : ℕ) (x : A) (d : B) → getElem? xs i ≡ some x → getD (map f xs) i d ≡ f x
+cell-at f xs i x d e = at-getD (map f xs) i (f x) d (map-at f xs i ∙ ap (Option·map f) e)
+
 pub at-end : {A : Type 0} (xs : List A) (i : ℕ) → length xs ≤ i → getElem? xs i ≡ none
 at-end [] i h = refl
 at-end (x ∷ xs) zero h = absurd (omega arith)
@@ -72,6 +100,16 @@ all-inside P (x ∷ xs) zero d q h = q .0
 all-inside P (x ∷ xs) (suc i) d q h = all-inside P xs i d (q .1) (omega arith)
 
 -- ## What tests keep
+
+module _ {A : Type 0} (p : A → Bool) where
+  -- A test that each passes keeps all.
+  pub keep-all : (xs : List A) → All (λ x. p x ≡ true) xs → keep p xs ≡ xs
+  keep-all [] q = refl
+  keep-all (x ∷ xs) q = simp (q .0, keep-all xs (q .1))
+
+  pub keep-short : (xs : List A) → length (keep p xs) ≤ length xs
+  keep-short [] = omega arith
+  keep-short (x ∷ xs) = cases (p x) (λ h. simp h (omega (arith, keep-short xs))) (λ h. simp h (omega (arith, keep-short xs)))
 
 module _ {A : Type 0} (p q : A → Bool) where
   pub keep-both : (xs : List A) → keep (λ x. p x && q x) xs ≡ keep q (keep p xs)
@@ -96,6 +134,24 @@ module _ {A B : Type 0} where
   pub map-same : (f g : A → B) (xs : List A) → All (λ x. f x ≡ g x) xs → map f xs ≡ map g xs
   map-same f g [] q = refl
   map-same f g (x ∷ xs) q = simp (q .0, map-same f g xs (q .1))
+
+  -- What a test keeps, mapped, is joined from lists of at most one.
+  pub kept-join : (p : A → Bool) (f : A → B) (xs : List A) → map f (keep p xs) ≡ joinOf (λ x. cond (p x) (f x ∷ []) []) xs
+  kept-join p f [] = refl
+  kept-join p f (x ∷ xs) = cases (p x) (λ h. simp (h, kept-join p f xs)) (λ h. simp (h, kept-join p f xs))
+
+  -- Two functions that give the same list give the same of each element.
+  pub same-each : (f g : A → B) (xs : List A) → map f xs ≡ map g xs → All (λ x. f x ≡ g x) xs
+  same-each f g [] e = tt
+  same-each f g (x ∷ xs) e =
+      let first : f x ≡ g x = cc in
+      let rest : map f xs ≡ map g xs = cc in
+      (first, same-each f g xs rest)
+
+-- A function that gives each element back gives the list back.
+pub map-still : {A : Type 0} (f : A → A) (xs : List A) → All (λ x. f x ≡ x) xs → map f xs ≡ xs
+map-still f [] q = refl
+map-still f (x ∷ xs) q = rw (q .0, map-still f xs (q .1))
 
 pub keep-same : {A : Type 0} (p q : A → Bool) (xs : List A) → All (λ x. p x ≡ q x) xs → keep p xs ≡ keep q xs
 keep-same p q [] a = refl

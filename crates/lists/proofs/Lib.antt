@@ -2,7 +2,9 @@ pub mod BoolLaws
 pub mod TableLaws
 pub mod ListLaws
 pub mod ScanLaws
-pub mod WriteLaws
+pub mod StepLaws
 pub mod ElementLaws
 pub mod BoundLaws
+pub mod EachLaws
 pub mod FillLaws
+pub mod WriteLaws

@@ -11,7 +11,7 @@ use lib.Dec.{leb}
 use lib.ListN.{length, getD, set, take, drop, getElem?, length-append}
 use lib.Seq.{take-at, drop-at, getD-take, getD-drop}
 use Rattle.lists.proofs.BoolLaws.{cases, neither}
-use Rattle.lists.specs.Lists.{All, keep, anyOf, allOf, countOf, leading, one, joinOf, lastOr, numbersFrom, rowsIn}
+use Rattle.lists.specs.Lists.{All, keep, anyOf, allOf, countOf, leading, one, sumOf, joinOf, lastOr, numbersFrom, rowsIn}
 
 -- ## All elements
 
@@ -92,6 +92,24 @@ module _ {A B : Type 0} where
   pub join-none : (f : A → List B) (xs : List A) → All (λ x. f x ≡ []) xs → joinOf f xs ≡ []
   join-none f [] q = refl
   join-none f (x ∷ xs) q = simp (q .0, join-none f xs (q .1))
+
+  -- Where each element gives the same list, the joined lists are the same.
+  pub join-same : (f g : A → List B) (xs : List A) → All (λ x. f x ≡ g x) xs → joinOf f xs ≡ joinOf g xs
+  join-same f g [] q = refl
+  join-same f g (x ∷ xs) q = simp (q .0, join-same f g xs (q .1))
+
+  pub join-short : (f : A → List B) (bound : ℕ) (xs : List A) → All (λ x. length (f x) ≤ bound) xs → length (joinOf f xs) ≤ length xs * bound
+  join-short f bound [] q = omega arith
+  join-short f bound (x ∷ xs) q =
+      let l = length-append (f x) (joinOf f xs) in
+      let r = join-short f bound xs (q .1) in
+      let h = q .0 in
+      omega arith
+
+  -- Joined, they are as many as all lists have.
+  pub length-joined : (f : A → List B) (xs : List A) → length (joinOf f xs) ≡ sumOf (λ x. length (f x)) xs
+  length-joined f [] = refl
+  length-joined f (x ∷ xs) = length-append (f x) (joinOf f xs) ∙ ap (λ (n : ℕ). length (f x) + n) (length-joined f xs)
 
   pub any-map : (p : B → Bool) (f : A → B) (xs : List A) → anyOf p (map f xs) ≡ anyOf (λ x. p (f x)) xs
   any-map p f [] = refl
@@ -180,6 +198,19 @@ module _ {A : Type 0} (p : A → Bool) where
   count-le [] = omega arith
   count-le (x ∷ xs) = cases (p x) (λ h. simp h (omega (arith, count-le xs))) (λ h. simp h (omega (arith, count-le xs)))
 
+-- A test that passes wherever another does counts no fewer.
+pub count-more : {A : Type 0} (p q : A → Bool) → ((x : A) → p x ≡ true → q x ≡ true) → (xs : List A) → countOf p xs ≤ countOf q xs
+count-more p q h [] = omega arith
+count-more p q h (x ∷ xs) =
+    cases (p x)
+    (λ a. simp (a, h x a) (omega (arith, count-more p q h xs)))
+    (λ a. cases (q x) (λ b. simp (a, b) (omega (arith, count-more p q h xs))) (λ b. simp (a, b) (count-more p q h xs)))
+
+-- Of a map as many fit as there are elements whose image fits.
+pub count-map : {A B : Type 0} (p : B → Bool) (f : A → B) (xs : List A) → countOf p (map f xs) ≡ countOf (λ x. p (f x)) xs
+count-map p f [] = refl
+count-map p f (x ∷ xs) = cases (p (f x)) (λ h. simp (h, count-map p f xs)) (λ h. simp (h, count-map p f xs))
+
 -- 1 for a number above 0.
 abbrev pub sgn : ℕ → ℕ
 sgn zero = 0
@@ -198,6 +229,16 @@ InOrder key (x ∷ xs) = All (λ y. key x ≤ key y) xs × InOrder key xs
 pub order-map : {A B : Type 0} (f : A → B) (key : B → ℕ) (xs : List A) → InOrder (λ a. key (f a)) xs → InOrder key (map f xs)
 order-map f key [] q = tt
 order-map f key (x ∷ xs) q = (all-of-map (λ y. key (f x) ≤ key y) f (λ a g. g) xs (q .0), order-map f key xs (q .1))
+
+-- In order by a number, each is bounded by what bounds the last.
+pub order-bound : {A : Type 0} (key : A → ℕ) (bound : ℕ) (x : A) (xs : List A) → InOrder key (x ∷ xs) → key (lastOr x xs) ≤ bound
+    → All (λ y. key y ≤ bound) (x ∷ xs)
+order-bound key bound x [] o h = (h, tt)
+order-bound key bound x (y ∷ ys) o h =
+    let rest = order-bound key bound y ys (o .1) h in
+    let first : key x ≤ key y = o .0 .0 in
+    let next : key y ≤ bound = rest .0 in
+    (omega arith, rest)
 
 -- In order, those up to the first above a bound are all that are not above it.
 pub leading-keep : {A : Type 0} (key : A → ℕ) (bound : ℕ) (xs : List A) → InOrder key xs

@@ -1,7 +1,7 @@
 -- A number past the words has a word of 0; else the code is the definition.
 use mathlib.Core.Path.{refl, sym}
 use borrow.Author.Needs.{needs}
-use Rattle.bitset.specs.Bitset.{bit, isMarked}
+use Rattle.bitset.specs.Bitset.{hasBit, isMarked}
 use Rattle.bitset.proofs.BitsetLaws.{past-words}
 use Rattle.bitset.proofs.marked.Statement.{statement}
 use Rattle.bitset.proofs.marked.Tie as tie
@@ -19,7 +19,7 @@ shr-result : tie.Need-shr-result
 shr-result c = search needs
 
 returns-2 : tie.Need-returns-2
-unfolding isMarked bit
+unfolding isMarked hasBit
 returns-2 c = refl
 
 pub marked-spec : {M : Type 1} → statement M
