@@ -1,26 +1,23 @@
 -- What a user of cursors wants of what they have left. A step that gave a row left one row less, so the length of what is left measures a loop
--- over a cursor. A cursor gives no more rows than its run counts, nor than there are bytes, so a count of them fits its word. A row that owns
--- others is one row of its section: what it owns does not change how many there are.
+-- over a cursor. A row that owns others is one row of its section: what it owns does not change how many there are. All of them together own no
+-- more than the section has that they share.
 use mathlib.Core.Path.{_≡_, refl, sym, ap, _∙_}
-use mathlib.Core.List.{List, [], _∷_}
-use Prim.Native.Nat.{ℕ, zero, suc, _+_, _-_, _*_, _<_, _≤_}
-use native.Mathlib.Nat.{mul-zero, mul-suc}
+use mathlib.Core.List.{List, [], _∷_, _++_}
+use Prim.Native.Nat.{ℕ, zero, suc, _+_, _<_, _≤_}
 use native.Mathlib.Numerals.{add-one}
 use native.Mathlib.Omega.{arith}
 use native.Mathlib.Decide.{decLe}
 use borrow.Author.Tests.{le-leb, lt-leb}
-use lib.ListN.{length, drop}
+use lib.ListN.{length, take, drop, length-append, length-take, length-drop}
+use Rattle.lists.specs.Lists.{joinOf}
 use Rattle.record.specs.declared.tag.CountryTag.{CountryTag}
 use Rattle.record.specs.declared.rows.Switch.{Switch}
 use Rattle.record.specs.declared.rows.OwnerEvent.{OwnerEvent}
 use Rattle.record.specs.declared.rows.WarEvent.{WarEvent}
 use Rattle.record.specs.declared.rows.Point.{Point}
-use Rattle.record.specs.declared.cursors.Countries.{Countries}
-use Rattle.record.specs.declared.cursors.Provinces.{Provinces}
 use Rattle.record.specs.Bytes.{byteAt}
-use Rattle.record.specs.Rows.{rowsAt, PackedCountry, countryAt, PackedProvince, provinceAt, PackedLedger, stringsFrom}
+use Rattle.record.specs.Rows.{PackedCountry, PackedProvince, PackedLedger, stringsFrom}
 use Rattle.record.specs.Campaign.{groupCountries, groupProvinces, groupWars, groupLedgers}
-use Rattle.record.specs.Cursors.{countriesLeft, provincesLeft}
 
 -- ## A step that gave a row
 
@@ -37,38 +34,7 @@ module _ {A Next : Type 0} (told : Next → List A) {left rest : List A} {row : 
 pub told-end : {A Next : Type 0} (told : Next → List A) {left : List A} {r given : Next} → left ≡ told r → r ≡ given → told given ≡ [] → left ≡ []
 told-end told e q f = e ∙ ap told q ∙ f
 
--- ## How many rows are left
-
-module _ {A : Type 0} (row : ℕ → A) (width : ℕ) (xs : List ℕ) where
-  -- at most as many as are counted
-  pub rows-counted : (at n : ℕ) → length (rowsAt row width xs at n) ≤ n
-  unfolding rowsAt
-  rows-counted at zero = omega arith
-  rows-counted at (suc n) =
-      elim (decLe (at + width) (length xs)) as (λ _. length (rowsAt row width xs at (suc n)) ≤ suc n) [
-        | yes h ↦ simp (le-leb _ _ h) (omega (arith, rows-counted (at + width) n))
-        | no h ↦ let past : length xs < at + width = omega arith in simp (lt-leb _ _ past) (omega arith)
-      ]
-
-  -- at most as many as find room
-  pub rows-room : (at n : ℕ) → width * length (rowsAt row width xs at n) ≤ length xs - at
-  unfolding rowsAt
-  rows-room at zero = omega (arith, mul-zero width)
-  rows-room at (suc n) =
-      elim (decLe (at + width) (length xs)) as (λ _. width * length (rowsAt row width xs at (suc n)) ≤ length xs - at) [
-        | yes h ↦
-            simp (le-leb _ _ h)
-            (omega (arith, mul-suc width (length (rowsAt row width xs (at + width) n)), rows-room (at + width) n))
-        | no h ↦ let past : length xs < at + width = omega arith in simp (lt-leb _ _ past) (omega (arith, mul-zero width))
-      ]
-
-  -- all that are counted, where the last one stands whole
-  pub rows-all : (at n : ℕ) → at + width * n ≤ length xs → length (rowsAt row width xs at n) ≡ n
-  unfolding rowsAt
-  rows-all at zero h = refl
-  rows-all at (suc n) h =
-      let inside : at + width ≤ length xs = omega (arith, mul-suc width n) in
-      simp (le-leb _ _ inside) (ap suc (rows-all (at + width) n (omega (arith, mul-suc width n))))
+-- ## How many strings are left
 
 module _ (xs : List ℕ) where
   pub strings-counted : (at n : ℕ) → length (stringsFrom xs at n) ≤ n
@@ -77,15 +43,6 @@ module _ (xs : List ℕ) where
   strings-counted at (suc n) =
       elim (decLe (at + 1 + byteAt xs at) (length xs)) as (λ _. length (stringsFrom xs at (suc n)) ≤ suc n) [
         | yes h ↦ simp (le-leb _ _ h) (omega (arith, strings-counted (at + 1 + byteAt xs at) n))
-        | no h ↦ let past : length xs < at + 1 + byteAt xs at = omega arith in simp (lt-leb _ _ past) (omega arith)
-      ]
-
-  pub strings-room : (at n : ℕ) → length (stringsFrom xs at n) ≤ length xs - at
-  unfolding stringsFrom
-  strings-room at zero = omega arith
-  strings-room at (suc n) =
-      elim (decLe (at + 1 + byteAt xs at) (length xs)) as (λ _. length (stringsFrom xs at (suc n)) ≤ length xs - at) [
-        | yes h ↦ simp (le-leb _ _ h) (omega (arith, strings-room (at + 1 + byteAt xs at) n))
         | no h ↦ let past : length xs < at + 1 + byteAt xs at = omega arith in simp (lt-leb _ _ past) (omega arith)
       ]
 
@@ -111,9 +68,33 @@ unfolding groupLedgers
 ledgers-length [] ps = refl
 ledgers-length (r ∷ rs) ps = ap suc (ledgers-length rs (drop (r .points) ps))
 
--- what `len` answers bounds what the cursor gives
-pub countries-counted : (xs : List ℕ) (c : Countries) → length (countriesLeft xs c) ≤ c .rows .left
-countries-counted xs c = rw countries-length (rows-counted (countryAt xs) 12 xs (c .rows .at) (c .rows .left))
+-- ## What they own together
 
-pub provinces-counted : (xs : List ℕ) (c : Provinces) → length (provincesLeft xs c) ≤ c .rows .left
-provinces-counted xs c = rw provinces-length (rows-counted (provinceAt xs) 7 xs (c .rows .at) (c .rows .left))
+-- One takes n of them, and the others share those behind.
+shared : {A : Type 0} (n : ℕ) (all rest : List A) → length rest ≤ length (drop n all) → length (take n all ++ rest) ≤ length all
+shared n all rest h = omega (arith, length-append (take n all) rest, length-take n all, length-drop n all)
+
+pub previous-owned : (rs : List PackedCountry) (ps : List CountryTag) (ss : List Switch) → length (joinOf (λ k. k .previous) (groupCountries rs ps ss)) ≤ length ps
+unfolding groupCountries
+previous-owned [] ps ss = omega arith
+previous-owned (r ∷ rs) ps ss = shared (r .previous) ps _ (previous-owned rs (drop (r .previous) ps) (drop (r .switches) ss))
+
+pub switches-owned : (rs : List PackedCountry) (ps : List CountryTag) (ss : List Switch) → length (joinOf (λ k. k .switches) (groupCountries rs ps ss)) ≤ length ss
+unfolding groupCountries
+switches-owned [] ps ss = omega arith
+switches-owned (r ∷ rs) ps ss = shared (r .switches) ss _ (switches-owned rs (drop (r .previous) ps) (drop (r .switches) ss))
+
+pub events-owned : (rs : List PackedProvince) (es : List OwnerEvent) → length (joinOf (λ p. p .events) (groupProvinces rs es)) ≤ length es
+unfolding groupProvinces
+events-owned [] es = omega arith
+events-owned (r ∷ rs) es = shared (r .events) es _ (events-owned rs (drop (r .events) es))
+
+pub war-events-owned : (ns : List ℕ) (es : List WarEvent) → length (joinOf (λ es. es) (groupWars ns es)) ≤ length es
+unfolding groupWars
+war-events-owned [] es = omega arith
+war-events-owned (n ∷ ns) es = shared n es _ (war-events-owned ns (drop n es))
+
+pub points-owned : (rs : List PackedLedger) (ps : List Point) → length (joinOf (λ l. l .points) (groupLedgers rs ps)) ≤ length ps
+unfolding groupLedgers
+points-owned [] ps = omega arith
+points-owned (r ∷ rs) ps = shared (r .points) ps _ (points-owned rs (drop (r .points) ps))

@@ -11,10 +11,6 @@ use Rattle.record.specs.Rows.{rowsAt}
 use Rattle.record.specs.Refusal.{firstOf, firstIn}
 use Rattle.record.proofs.RowLaws.{rows-none, rows-more, rows-take, rows-drop, map-rows-same}
 
-pub first-none : firstOf [] ≡ 0
-unfolding firstOf
-first-none = refl
-
 pub first-pass : (n : ℕ) (ns : List ℕ) → n ≡ 0 → firstOf (n ∷ ns) ≡ firstOf ns
 unfolding firstOf
 first-pass zero ns e = refl

@@ -13,11 +13,14 @@ use Rattle.record.specs.Rows.{rowsAt}
 pub record Limits (h : Head) : Type 0 where
   pub countries : h .countries ≤ 2000
   pub provinces : h .provinces ≤ 8000
+  pub previous : h .previous ≤ 20000
   pub switches : h .switches ≤ 20000
   pub events : h .events ≤ 60000
-  pub wars : h .wars ≤ 5000
-  pub ledgers : h .ledgers ≤ 2000
   pub strings : h .strings ≤ 1000
+  pub wars : h .wars ≤ 5000
+  pub warEvents : h .«war_events» ≤ 100000
+  pub ledgers : h .ledgers ≤ 2000
+  pub points : h .points ≤ 1000000
 
 pub limits-of : (h : Head) → withinLimits h ≡ true → Limits h
 unfolding withinLimits
@@ -42,11 +45,14 @@ limits-of h t0 =
     record {
       countries = leb-true (h .countries) 2000 (and-left c (leb (h .provinces) 8000) tp);
       provinces = leb-true (h .provinces) 8000 (and-right c (leb (h .provinces) 8000) tp);
+      previous = leb-true (h .previous) 20000 (and-right p (leb (h .previous) 20000) ta);
       switches = leb-true (h .switches) 20000 (and-right a (leb (h .switches) 20000) tb);
       events = leb-true (h .events) 60000 (and-right b (leb (h .events) 60000) te);
-      wars = leb-true (h .wars) 5000 (and-right n (leb (h .wars) 5000) tw);
-      ledgers = leb-true (h .ledgers) 2000 (and-right v (leb (h .ledgers) 2000) tg);
       strings = leb-true (h .strings) 1000 (and-right e (leb (h .strings) 1000) tn);
+      wars = leb-true (h .wars) 5000 (and-right n (leb (h .wars) 5000) tw);
+      warEvents = leb-true (h .«war_events») 100000 (and-right w (leb (h .«war_events») 100000) tv);
+      ledgers = leb-true (h .ledgers) 2000 (and-right v (leb (h .ledgers) 2000) tg);
+      points = leb-true (h .points) 1000000 (and-right g (leb (h .points) 1000000) t0);
     }
 
 -- an answer about the rows that stand where a head says, told of the head in the bytes

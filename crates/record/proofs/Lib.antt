@@ -10,6 +10,6 @@ pub mod RepeatLaws
 pub mod HeadLaws
 pub mod AcceptLaws
 pub mod OpenedLaws
-pub mod BoundLaws
 pub mod ToldLaws
 pub mod SoundLaws
+pub mod BoundLaws

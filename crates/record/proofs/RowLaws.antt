@@ -1,13 +1,14 @@
 -- Rows at an offset: one at a time, the first so many, and those behind them; and one field of each row.
 use mathlib.Core.Path.{_≡_, refl, ap, ap₂, _∙_}
 use mathlib.Core.List.{List, [], _∷_, map}
-use Prim.Native.Nat.{ℕ, zero, suc, _+_, _-_, _*_, _<_, _≤_, min}
-use native.Mathlib.Nat.{add-zero, mul-zero, mul-suc, sub-zero, suc-sub-suc, zero-min, min-zero, suc-min-suc}
+use Prim.Native.Nat.{ℕ, zero, suc, _+_, _-_, _*_, _/_, _<_, _≤_, min}
+use native.Mathlib.Nat.{add-zero, mul-zero, mul-suc, sub-zero, suc-sub-suc, zero-min, min-zero, suc-min-suc, add-div-left, div-eq-of-lt, le-div-iff-mul-le, mul-comm, min-eq-left, le-refl}
+use native.Mathlib.Numerals.{add-one}
 use native.Mathlib.Omega.{arith}
 use native.Mathlib.Decide.{decLe}
 use borrow.Author.Tests.{le-leb, lt-leb}
 use lib.Dec.{leb}
-use lib.ListN.{length, take, drop}
+use lib.ListN.{length, take, drop, length-take}
 use Rattle.lists.proofs.BoolLaws.{cases}
 use Rattle.record.specs.Rows.{rowsAt}
 
@@ -62,6 +63,34 @@ module _ {A : Type 0} (row : ℕ → A) (width : ℕ) (xs : List ℕ) where
         | yes p ↦ simp (le-leb _ _ p) (rows-drop-past (at + width) n m (omega (arith, mul-suc width n)))
         | no p ↦ let past : length xs < at + width = omega arith in simp (lt-leb _ _ past)
       ]
+
+  -- as many as are counted, or find room
+  pub rows-length : 0 < width → (at n : ℕ) → length (rowsAt row width xs at n) ≡ min n ((length xs - at) / width)
+  unfolding rowsAt
+  rows-length p at zero = rw zero-min
+  rows-length p at (suc n) =
+      elim (decLe (at + width) (length xs)) as (λ _. length (rowsAt row width xs at (suc n)) ≡ min (suc n) ((length xs - at) / width)) [
+        | yes h ↦
+            let room : length xs - at ≡ width + (length xs - (at + width)) = omega arith in
+            simp (le-leb _ _ h) (rw (room, add-div-left (length xs - (at + width)) p, add-one, suc-min-suc) (ap suc (rows-length p (at + width) n)))
+        | no h ↦
+            let past : length xs < at + width = omega arith in
+            let room : length xs - at < width = omega arith in
+            simp (lt-leb _ _ past) (rw (div-eq-of-lt room, min-zero))
+      ]
+
+  -- at most as many as are counted
+  pub rows-counted : (at n : ℕ) → length (rowsAt row width xs at n) ≤ n
+  rows-counted at n =
+      let rows = rowsAt row width xs at n in
+      let front : take n rows ≡ rows = rows-take at n n ∙ ap (rowsAt row width xs at) (min-eq-left (le-refl n)) in
+      omega (arith, ap length front, length-take n rows)
+
+  -- all that are counted, where the last one stands whole
+  pub rows-all : 0 < width → (at n : ℕ) → at + width * n ≤ length xs → length (rowsAt row width xs at n) ≡ n
+  rows-all p at n h =
+      let room : n * width ≤ length xs - at = omega (arith, mul-comm n width) in
+      rows-length p at n ∙ min-eq-left (le-div-iff-mul-le p .1 room)
 
 -- a number of each row, of two sections whose rows agree in it
 pub map-rows-same : {A B C : Type 0} (f : A → C) (row : ℕ → A) (g : B → C) (row′ : ℕ → B) (width : ℕ) (xs : List ℕ)

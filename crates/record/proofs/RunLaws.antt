@@ -9,11 +9,12 @@ use native.Mathlib.Decide.{decLt, decLe}
 use borrow.Author.Tests.{ltb-true, leb-true, lt-ltb, le-leb, lt-leb, not-true, not-false}
 use lib.Dec.{leb, ltb}
 use lib.ListN.{length, take, drop}
-use Rattle.record.specs.declared.cursors.Run.{Run}
+use Rattle.record.specs.declared.runs.Run.{Run}
 use Rattle.record.specs.Bytes.{byteAt}
 use Rattle.record.specs.Rows.{stringsFrom}
-use Rattle.record.specs.Cursors.{runRows, hasRow, pastRun, firstRun, skipRun}
-use Rattle.record.proofs.RowLaws.{rows-end, rows-past, rows-more, rows-take, rows-drop, rows-drop-past}
+use Rattle.record.specs.Cursors.{runRows}
+use Rattle.record.specs.Runs.{hasRow, wholeLeft, pastRun, firstRun, skipRun}
+use Rattle.record.proofs.RowLaws.{rows-end, rows-past, rows-more, rows-take, rows-drop, rows-drop-past, rows-length}
 
 -- ## The test of a run
 
@@ -80,6 +81,9 @@ module _ {A : Type 0} (row : ℕ → A) (width : ℕ) (xs : List ℕ) (c : Run) 
   run-more e h =
       let w = whole (length xs) width c e h in
       rows-more row width xs (c .at) (c .left) (w .some) (w .inside)
+
+  pub run-length : 0 < width → length (runRows row width xs c) ≡ wholeLeft (length xs) width c
+  run-length p = rows-length row width xs p (c .at) (c .left)
 
   pub run-take : (n : ℕ) → take n (runRows row width xs c) ≡ runRows row width xs (firstRun n c)
   run-take n = rows-take row width xs (c .at) n (c .left)

@@ -2,14 +2,15 @@
 use mathlib.Core.Path.{_≡_, refl, ap, _∙_}
 use mathlib.Core.Bool.{Bool}
 use mathlib.Core.List.{List, [], _∷_, map}
-use Prim.Native.Nat.{ℕ, zero, suc, _≤_}
+use Prim.Native.Nat.{ℕ, _≤_}
+use native.Mathlib.Nat.{le-trans}
 use native.Mathlib.Omega.{arith}
 use borrow.Author.Tests.{ltb-false, leb-true}
 use lib.Dec.{leb, ltb}
 use lib.ListN.{length, drop}
 use Rattle.lists.specs.Lists.{All, anyOf, twice}
 use Rattle.lists.proofs.BoolLaws.{neither}
-use Rattle.lists.proofs.ListLaws.{all-map, all-take, all-unmap, any-none}
+use Rattle.lists.proofs.ListLaws.{all-map, all-take, any-none}
 use Rattle.record.specs.declared.tag.CountryTag.{CountryTag}
 use Rattle.record.specs.declared.head.Head.{Head}
 use Rattle.record.specs.declared.rows.Switch.{Switch}
@@ -22,23 +23,19 @@ use Rattle.record.specs.Head.{headOf, provincesAt}
 use Rattle.record.specs.Rows.{PackedCountry, PackedProvince, provinceAt, PackedLedger}
 use Rattle.record.specs.Campaign.{countryRows, previousTags, switchRows, provinceRows, ownerEvents, warRows, warEvents, ledgerRows, points, groupCountries, groupProvinces, groupWars, groupLedgers, campaignOf}
 use Rattle.record.specs.Laid.{Laid}
-use Rattle.record.specs.Refusal.{firstOf, firstIn, tagNumber, dateNumber, headFlagsNumber, countryFlagsNumber, kindNumber, yearNumber, countryNumber, switchNumber, ownerEventNumber, warEventNumber, headNumber, fieldsNumber, tagTwice, idTwiceOrAbove, refusal}
-use Rattle.record.specs.Sound.{GoodTag, GoodDate, GoodSwitch, GoodCountry, GoodOwnerEvent, GoodProvince, GoodWarEvent, GoodLedger, Sound}
+use Rattle.record.specs.Refusal.{firstIn, tagNumber, dateNumber, headFlagsNumber, countryFlagsNumber, kindNumber, yearNumber, countryNumber, switchNumber, ownerEventNumber, warEventNumber, headNumber, fieldsNumber, tagTwice, idTwiceOrAbove, refusal}
+use Rattle.record.specs.Sound.{GoodTag, GoodDate, GoodSwitch, GoodCountry, GoodOwnerEvent, GoodProvince, GoodWarEvent, GoodPoint, GoodLedger, Sound}
 use Rattle.record.proofs.AcceptLaws.{accepted, accepted-laid, number-true}
-use Rattle.record.proofs.CampaignLaws.{rows-all, provinces-length}
+use Rattle.record.proofs.CampaignLaws.{countries-length, provinces-length, wars-length, ledgers-length, strings-counted, previous-owned, switches-owned, events-owned, war-events-owned, points-owned}
+use Rattle.record.proofs.FirstLaws.{all-zero, rows-zero}
+use Rattle.record.proofs.HeadLaws.{Limits, limits-of}
+use Rattle.record.proofs.RowLaws.{rows-counted, rows-all}
 
 -- ## No field refuses
 
-all-zero : (ns : List ℕ) → firstOf ns ≡ 0 → All (λ n. n ≡ 0) ns
-unfolding firstOf
-all-zero [] h = tt
-all-zero (zero ∷ ns) h = (refl, all-zero ns h)
-all-zero (suc n ∷ ns) h = absurd (omega arith)
-
 module _ {A : Type 0} (number : A → ℕ) (P : A → Type 0) (good : (a : A) → number a ≡ 0 → P a) where
   rows-good : (rows : List A) → firstIn number rows ≡ 0 → All P rows
-  unfolding firstIn
-  rows-good rows h = all-map good rows (all-unmap (λ n. n ≡ 0) number rows (all-zero (map number rows) h))
+  rows-good rows h = all-map good rows (rows-zero number rows h)
 
 tag-good : (t : CountryTag) → tagNumber t ≡ 0 → GoodTag t
 tag-good t h = number-true (isTag t) 4 (omega arith) h
@@ -69,7 +66,7 @@ war-event-good e h =
       tag = tag-good (e .tag) (q .1 .1 .0);
     }
 
-point-good : (p : Point) → yearNumber (p .year) ≡ 0 → p .year ≤ 9999
+point-good : (p : Point) → yearNumber (p .year) ≡ 0 → GoodPoint p
 point-good p h = leb-true (p .year) 9999 (number-true (leb (p .year) 9999) 9 (omega arith) h)
 
 record GoodHead (h : Head) : Type 0 where
@@ -95,7 +92,7 @@ record GoodRows (xs : List ℕ) : Type 0 where
   events : All GoodOwnerEvent (ownerEvents xs)
   wars : All GoodWarEvent (warEvents xs)
   ledgers : All (λ r. GoodTag (r .tag)) (ledgerRows xs)
-  points : All (λ p. p .year ≤ 9999) (points xs)
+  points : All GoodPoint (points xs)
 
 good-rows : (xs : List ℕ) → fieldsNumber xs ≡ 0 → GoodRows xs
 unfolding fieldsNumber
@@ -122,7 +119,7 @@ good-rows xs h =
       wars = rows-good warEventNumber GoodWarEvent war-event-good (warEvents xs) (f .1 .1 .1 .1 .1 .1 .0);
       ledgers =
           rows-good (λ r. tagNumber (r .tag)) (λ r. GoodTag (r .tag)) (λ r. tag-good (r .tag)) (ledgerRows xs) (f .1 .1 .1 .1 .1 .1 .1 .0);
-      points = rows-good (λ p. yearNumber (p .year)) (λ p. p .year ≤ 9999) point-good (points xs) (f .1 .1 .1 .1 .1 .1 .1 .1 .0);
+      points = rows-good (λ p. yearNumber (p .year)) GoodPoint point-good (points xs) (f .1 .1 .1 .1 .1 .1 .1 .1 .0);
     }
 
 -- ## Rows with what they own
@@ -151,12 +148,12 @@ unfolding groupWars
 group-wars [] es q = tt
 group-wars (n ∷ ns) es q = let g = all-take GoodWarEvent n es q in (g .0, group-wars ns (drop n es) (g .1))
 
-group-ledgers : (rs : List PackedLedger) (ps : List Point) → All (λ r. GoodTag (r .tag)) rs → All (λ p. p .year ≤ 9999) ps
+group-ledgers : (rs : List PackedLedger) (ps : List Point) → All (λ r. GoodTag (r .tag)) rs → All GoodPoint ps
     → All GoodLedger (groupLedgers rs ps)
 unfolding groupLedgers
 group-ledgers [] ps a b = tt
 group-ledgers (r ∷ rs) ps a b =
-    let g = all-take (λ (p : Point). p .year ≤ 9999) (r .points) ps b in
+    let g = all-take GoodPoint (r .points) ps b in
     (record { tag = a .0; points = g .0 }, group-ledgers rs (drop (r .points) ps) (a .1) (g .1))
 
 country-tags : (rs : List PackedCountry) (ps : List CountryTag) (ss : List Switch) → map (λ k. k .tag .0) (groupCountries rs ps ss) ≡ map (λ r. r .tag .0) rs
@@ -175,13 +172,14 @@ province-ids (r ∷ rs) es = ap (λ (l : List ℕ). r .id .0 ∷ l) (province-id
 province-count : (xs : List ℕ) → Laid xs (headOf xs) → length (groupProvinces (provinceRows xs) (ownerEvents xs)) ≡ headOf xs .provinces
 province-count xs l =
     provinces-length (provinceRows xs) (ownerEvents xs)
-    ∙ rows-all (provinceAt xs) 7 xs (provincesAt (headOf xs)) (headOf xs .provinces) (omega (arith, l .inside))
+    ∙ rows-all (provinceAt xs) 7 xs (omega arith) (provincesAt (headOf xs)) (headOf xs .provinces) (omega (arith, l .inside))
 
 pub sound : (xs : List ℕ) → refusal xs ≡ 0 → Sound (campaignOf xs)
 unfolding campaignOf tagTwice idTwiceOrAbove
 sound xs z =
     let a = accepted xs z in
     let g = good-rows xs (a .fields) in
+    let l = limits-of (headOf xs) (accepted-laid xs a .limits) in
     let above : PackedProvince → Bool = λ r. ltb (headOf xs .provinces) (r .id .0) in
     let ids = neither (twice (map (λ r. r .id .0) (provinceRows xs))) (anyOf above (provinceRows xs)) (a .idsOnce) in
     let inside : All (λ r. r .id .0 ≤ headOf xs .provinces) (provinceRows xs) =
@@ -198,4 +196,14 @@ sound xs z =
       idsOnce = simp province-ids (ids .0);
       wars = group-wars (warRows xs) (warEvents xs) (g .wars);
       ledgers = group-ledgers (ledgerRows xs) (points xs) (g .ledgers) (g .points);
+      fewCountries = simp countries-length (le-trans (rows-counted _ _ _ _ _) (l .countries));
+      fewPrevious = le-trans (previous-owned _ _ _) (le-trans (rows-counted _ _ _ _ _) (l .previous));
+      fewSwitches = le-trans (switches-owned _ _ _) (le-trans (rows-counted _ _ _ _ _) (l .switches));
+      fewProvinces = simp provinces-length (le-trans (rows-counted _ _ _ _ _) (l .provinces));
+      fewEvents = le-trans (events-owned _ _) (le-trans (rows-counted _ _ _ _ _) (l .events));
+      fewWars = simp wars-length (le-trans (rows-counted _ _ _ _ _) (l .wars));
+      fewWarEvents = le-trans (war-events-owned _ _) (le-trans (rows-counted _ _ _ _ _) (l .warEvents));
+      fewLedgers = simp ledgers-length (le-trans (rows-counted _ _ _ _ _) (l .ledgers));
+      fewPoints = le-trans (points-owned _ _) (le-trans (rows-counted _ _ _ _ _) (l .points));
+      fewStrings = le-trans (strings-counted _ _ _) (l .strings);
     }

@@ -1,8 +1,7 @@
--- 01, The packed record: numbers are unsigned, low byte first, unless signed is said.
-use mathlib.Core.Path.{_≡_}
+-- 01, The packed record: how numbers, tags, dates and ids are read from bytes. The low byte comes first.
 use mathlib.Core.Bool.{Bool, cond}
 use mathlib.Core.List.{List}
-use Prim.Native.Nat.{ℕ, _+_, _-_, _*_, _/_, _%_, _^_, _<_}
+use Prim.Native.Nat.{ℕ, _+_, _-_, _*_, _/_, _%_, _^_}
 use lib.Dec.{ltb, eqb}
 use lib.IntN.{ℤ, pos, negsuc}
 use lib.ListN.{getD}
@@ -41,8 +40,3 @@ dateAt xs at = record { 0 = le32 xs at }
 -- 16 bits, read as a province id.
 unfoldable pub idAt : List ℕ → ℕ → ProvinceId
 idAt xs at = record { 0 = le16 xs at }
-
--- What inner reads promise, and no public function: the number's value and its range.
-pub record Num (value bound r : ℕ) : Type 0 where
-  pub same : r ≡ value
-  pub small : r < bound

@@ -1,4 +1,4 @@
--- 01, The packed record: the campaign that a record holds. Sections are grouped in the order of the rows that own them.
+-- 01, The packed record: the campaign that a record holds. What rows own is dealt out to them, each its share, in their order.
 use mathlib.Core.Bool.{Bool}
 use mathlib.Core.List.{List, [], _∷_}
 use Prim.Native.Nat.{ℕ}

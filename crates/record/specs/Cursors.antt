@@ -1,17 +1,15 @@
 -- Rows for the layer above. A cursor is known by what it still has to give: `..Left xs c` are the rows that cursor c has left of the
 -- bytes xs, and each step is promised as one equation, what was left is what is told: nothing at the end, else the row and what the
 -- next cursor has left.
-use mathlib.Core.Bool.{Bool, cond, _&&_}
 use mathlib.Core.List.{List, [], _∷_}
-use Prim.Native.Nat.{ℕ, _+_, _-_, _*_, min}
-use lib.Dec.{leb, ltb}
+use Prim.Native.Nat.{ℕ}
 use lib.ListN.{take, drop}
 use Rattle.record.specs.declared.tag.CountryTag.{CountryTag}
 use Rattle.record.specs.declared.rows.Switch.{Switch}
 use Rattle.record.specs.declared.rows.OwnerEvent.{OwnerEvent}
 use Rattle.record.specs.declared.rows.WarEvent.{WarEvent}
 use Rattle.record.specs.declared.rows.Point.{Point}
-use Rattle.record.specs.declared.cursors.Run.{Run}
+use Rattle.record.specs.declared.runs.Run.{Run}
 use Rattle.record.specs.declared.cursors.PreviousTags.{PreviousTags}
 use Rattle.record.specs.declared.cursors.NextPreviousTag as NextPreviousTag
 use Rattle.record.specs.declared.cursors.Switches.{Switches}
@@ -20,8 +18,8 @@ use Rattle.record.specs.declared.cursors.OwnerEvents.{OwnerEvents}
 use Rattle.record.specs.declared.cursors.NextOwnerEvent as NextOwnerEvent
 use Rattle.record.specs.declared.cursors.WarEvents.{WarEvents}
 use Rattle.record.specs.declared.cursors.NextWarEvent as NextWarEvent
-use Rattle.record.specs.declared.cursors.Points.{Points}
-use Rattle.record.specs.declared.cursors.NextPoint as NextPoint
+use Rattle.record.specs.declared.ledger.Points.{Points}
+use Rattle.record.specs.declared.ledger.NextPoint as NextPoint
 use Rattle.record.specs.declared.cursors.CountryRow.{CountryRow}
 use Rattle.record.specs.declared.cursors.Countries.{Countries}
 use Rattle.record.specs.declared.cursors.NextCountry as NextCountry
@@ -30,36 +28,19 @@ use Rattle.record.specs.declared.cursors.Provinces.{Provinces}
 use Rattle.record.specs.declared.cursors.NextProvince as NextProvince
 use Rattle.record.specs.declared.cursors.Wars.{Wars}
 use Rattle.record.specs.declared.cursors.NextWar as NextWar
-use Rattle.record.specs.declared.cursors.LedgerRow.{LedgerRow}
-use Rattle.record.specs.declared.cursors.Ledgers.{Ledgers}
-use Rattle.record.specs.declared.cursors.NextLedger as NextLedger
-use Rattle.record.specs.declared.cursors.Text.{Text}
-use Rattle.record.specs.declared.cursors.Strings.{Strings}
-use Rattle.record.specs.declared.cursors.NextString as NextString
+use Rattle.record.specs.declared.ledger.LedgerRow.{LedgerRow}
+use Rattle.record.specs.declared.ledger.Ledgers.{Ledgers}
+use Rattle.record.specs.declared.ledger.NextLedger as NextLedger
+use Rattle.record.specs.declared.texts.Text.{Text}
+use Rattle.record.specs.declared.texts.Strings.{Strings}
+use Rattle.record.specs.declared.texts.NextString as NextString
 use Rattle.record.specs.Bytes.{le16, tagAt}
 use Rattle.record.specs.Rows.{rowsAt, countryAt, switchAt, provinceAt, ownerEventAt, warEventAt, ledgerAt, pointAt, stringsFrom}
 use Rattle.record.specs.Campaign.{Country, Province, Ledger, groupCountries, groupProvinces, groupWars, groupLedgers}
 
--- ## Runs of rows
-
 -- The rows that a run gives.
 abbrev pub runRows : {A : Type 0} → (ℕ → A) → ℕ → List ℕ → Run → List A
 runRows row width xs c = rowsAt row width xs (c .at) (c .left)
-
--- A row is left, and stands whole in so many bytes.
-unfoldable pub hasRow : ℕ → ℕ → Run → Bool
-hasRow size width c = ltb 0 (c .left) && leb (c .at + width) size
-
--- Behind the first row; the first n rows; behind the first n rows.
-abbrev pub pastRun : ℕ → Run → Run
-pastRun width c = record { at = c .at + width; left = c .left - 1 }
-
-abbrev pub firstRun : ℕ → Run → Run
-firstRun n c = record { at = c .at; left = min n (c .left) }
-
-unfoldable pub skipRun : ℕ → ℕ → ℕ → Run → Run
-skipRun size width n c =
-    record { at = cond (leb (c .at + width * n) size) (c .at + width * n) size; left = c .left - n }
 
 -- ## Rows that own nothing
 

@@ -3,7 +3,7 @@ use mathlib.Core.Bool.{Bool, cond, _&&_}
 use mathlib.Core.List.{List, [], _∷_}
 use mathlib.Core.Option.{Option, none, some}
 use Prim.Native.Nat.{ℕ, _/_, _%_}
-use lib.Dec.{leb, ltb}
+use lib.Dec.{leb, ltb, eqb}
 use lib.ListN.{getD}
 use Rattle.record.specs.declared.date.Eu4Date.{Eu4Date}
 use Rattle.record.specs.declared.date.Dated.{Dated}
@@ -37,6 +37,10 @@ notAfter a b = leb (a .0) (b .0)
 
 abbrev pub earlier : Eu4Date → Eu4Date → Bool
 earlier a b = ltb (a .0) (b .0)
+
+-- Two dates are the same date when their numbers are.
+abbrev pub sameDate : Eu4Date → Eu4Date → Bool
+sameDate a b = eqb (a .0) (b .0)
 
 -- The answer of `of_word`, by case: a date, or none, which is 5 in a record, 11 in a lent row and 12 in a question.
 abbrev pub datedDate : Dated → Option Eu4Date

@@ -26,7 +26,8 @@ headOf xs =
       points = le32 xs 40;
     }
 
--- Limits: C, G 2,000; P 8,000; A, B 20,000; E 60,000; N 1,000; W 5,000; V 100,000; Y 1,000,000.
+-- At most 2,000 countries, and as many ledger names; 8,000 provinces; 20,000 previous tags, and as many switches; 60,000 owner events;
+-- 1,000 strings; 5,000 wars with 100,000 events; 1,000,000 points.
 unfoldable pub withinLimits : Head → Bool
 withinLimits h =
     leb (h .countries) 2000

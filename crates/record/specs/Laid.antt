@@ -5,12 +5,17 @@ use mathlib.Core.List.{List}
 use Prim.Native.Nat.{ℕ, _<_, _≤_}
 use lib.ListN.{length, getD}
 use Rattle.record.specs.declared.head.Head.{Head}
-use Rattle.record.specs.declared.cursors.Run.{Run}
+use Rattle.record.specs.declared.runs.Run.{Run}
 use Rattle.record.specs.declared.opened.Record.{Record}
 use Rattle.record.specs.Tags.{tagByte}
 use Rattle.record.specs.Dates.{monthDays}
 use Rattle.record.specs.Bytes.{bit}
 use Rattle.record.specs.Head.{headOf, withinLimits, countriesAt, previousAt, switchesAt, provincesAt, eventsAt, warsAt, warEventsAt, ledgersAt, pointsAt, stringsAt}
+
+-- What a read of a number from bytes gives: the number's value, and its range.
+pub record Num (value bound r : ℕ) : Type 0 where
+  pub same : r ≡ value
+  pub small : r < bound
 
 -- The head of these bytes, with counts within their limits and sections that end inside the bytes.
 pub record Laid (xs : List ℕ) (h : Head) : Type 0 where

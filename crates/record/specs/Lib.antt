@@ -3,6 +3,7 @@ pub mod Dates
 pub mod Bytes
 pub mod Head
 pub mod Laid
+pub mod Runs
 pub mod Rows
 pub mod Campaign
 pub mod Refusal

@@ -2,7 +2,6 @@
 use mathlib.Core.Path.{_≡_}
 use mathlib.Core.List.{List}
 use Prim.Native.Nat.{ℕ, _<_}
-use lib.ListN.{length}
 use Rattle.record.specs.declared.opened.Record.{Record}
 use Rattle.record.specs.declared.opened.Opened.{Opened}
 use Rattle.record.specs.declared.opened.Opened.the-variants.{Accepted, Refused}
@@ -15,8 +14,7 @@ abbrev pub openedNumber : Opened → ℕ
 openedNumber (Accepted r) = 0
 openedNumber (Refused n) = n
 
--- The record tells its campaign: flags, dates, and of each section a cursor that has left exactly the campaign's rows. Of countries and
--- provinces the cursor counts them rightly too.
+-- The record tells its campaign: flags, dates, and of each section a cursor that has left exactly the campaign's rows.
 pub record Tells (xs : List ℕ) (r : Record) : Type 0 where
   pub ironman : r .ironman ≡ campaignOf xs .ironman
   pub multiplayer : r .multiplayer ≡ campaignOf xs .multiplayer
@@ -27,8 +25,6 @@ pub record Tells (xs : List ℕ) (r : Record) : Type 0 where
   pub wars : warsLeft xs (r .wars) ≡ campaignOf xs .wars
   pub ledgers : ledgersLeft xs (r .ledgers) ≡ campaignOf xs .ledgers
   pub strings : stringsLeft xs (r .strings) ≡ campaignOf xs .strings
-  pub countryCount : r .countries .rows .left ≡ length (campaignOf xs .countries)
-  pub provinceCount : r .provinces .rows .left ≡ length (campaignOf xs .provinces)
 
 -- What an accepted record's rows are; a refused one has none, and a number above 0.
 abbrev pub Rows : List ℕ → Opened → Type 0

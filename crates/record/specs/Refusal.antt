@@ -1,5 +1,5 @@
--- 01, Who can be refused, and by which number: the host that wrote the record. Checks run 1, 2, 3; then 4, 5, 6, 9, where the
--- lowest offset wins; then 7, 8.
+-- 01's numbers for a bad record, and which of them a record with several faults gets: 1, 2 and 3 in turn; of 4, 5, 6 and 9 that of the
+-- first bad field in file order; last 7 and 8.
 use mathlib.Core.Bool.{Bool, cond, _&&_, _||_}
 use mathlib.Core.List.{List, [], _∷_, map}
 use Prim.Native.Nat.{ℕ, zero, suc}
@@ -33,7 +33,7 @@ firstIn number rows = firstOf (map number rows)
 unfoldable pub opens : List ℕ → Bool
 opens xs = leb 44 (length xs) && (eqb (byteAt xs 0) 65 && eqb (byteAt xs 1) 84 && eqb (byteAt xs 2) 76)
 
--- 1: under 44 bytes, or not opening with `ATL`.
+-- 1: there is no such head.
 abbrev pub openingNumber : List ℕ → ℕ
 openingNumber xs = cond (opens xs) 0 1
 
@@ -58,11 +58,11 @@ lengthAgrees xs = eqb (stringsEnd xs (stringsAt (headOf xs)) (headOf xs .strings
 unfoldable pub sizesAgree : List ℕ → Bool
 sizesAgree xs = withinLimits (headOf xs) && totalsAgree xs && lengthAgrees xs
 
--- 3: a count above its limit, row totals that disagree with the head, or a length other than the rows need.
+-- 3: they do not agree.
 abbrev pub sizesNumber : List ℕ → ℕ
 sizesNumber xs = cond (sizesAgree xs) 0 3
 
--- 4: a tag byte other than an ASCII letter, digit or `-`.
+-- 4: a word that is no tag's.
 abbrev pub tagNumber : CountryTag → ℕ
 tagNumber t = cond (isTag t) 0 4
 
@@ -101,7 +101,7 @@ warEventNumber e = firstOf (dateNumber (e .date) ∷ kindNumber (e .kind) ∷ ta
 unfoldable pub headNumber : Head → ℕ
 headNumber h = firstOf (headFlagsNumber (h .flags) ∷ dateNumber (h .start) ∷ dateNumber (h .current) ∷ [])
 
--- 4, 5, 6, 9, where the lowest offset wins: the first bad field in file order, the head before the rows.
+-- 4, 5, 6 or 9: the number of the first bad field in file order, the head before the rows.
 unfoldable pub fieldsNumber : List ℕ → ℕ
 fieldsNumber xs =
     firstOf
@@ -125,7 +125,7 @@ unfoldable pub idTwiceOrAbove : List ℕ → Bool
 idTwiceOrAbove xs =
     twice (map (λ r. r .id .0) (provinceRows xs)) || anyOf (λ r. ltb (headOf xs .provinces) (r .id .0)) (provinceRows xs)
 
--- 7: a country tag or province id twice, or an id above P.
+-- 7: either of the two.
 abbrev pub repeatsNumber : List ℕ → ℕ
 repeatsNumber xs = cond (tagTwice xs || idTwiceOrAbove xs) 7 0
 

@@ -1,8 +1,8 @@
 -- 01, The packed record: the rows of each section, as fields with names. Offsets stand here and in Head, and nowhere above.
-use mathlib.Core.Bool.{cond}
+use mathlib.Core.Bool.{Bool, cond}
 use mathlib.Core.List.{List, [], _∷_}
 use Prim.Native.Nat.{ℕ, zero, suc, _+_}
-use lib.Dec.{leb}
+use lib.Dec.{leb, eqb}
 use lib.IntN.{ℤ}
 use lib.ListN.{length, take, drop}
 use Rattle.record.specs.declared.tag.CountryTag.{CountryTag}
@@ -18,7 +18,7 @@ unfoldable pub rowsAt : {A : Type 0} → (ℕ → A) → ℕ → List ℕ → �
 rowsAt row width xs at zero = []
 rowsAt row width xs at (suc n) = cond (leb (at + width) (length xs)) (row at ∷ rowsAt row width xs (at + width) n) []
 
--- Country, 12: tag 3, flags 1, signed num_of_cities 4, previous-tag count 2, switch count 2.
+-- Country, 12: tag 3, flags 1, cities 4 (signed), how many previous tags 2, how many switches 2.
 pub record PackedCountry : Type 0 where
   pub tag : CountryTag
   pub flags : ℕ
@@ -39,6 +39,10 @@ countryAt xs at =
 -- Switch, 7: date, from.
 unfoldable pub switchAt : List ℕ → ℕ → Switch
 switchAt xs at = record { date = dateAt xs at; from = tagAt xs (at + 4) }
+
+-- Two province ids are the same id when their numbers are.
+abbrev pub sameId : ProvinceId → ProvinceId → Bool
+sameId a b = eqb (a .0) (b .0)
 
 -- Province, 7: id 2, owner 3, event count 2.
 pub record PackedProvince : Type 0 where

@@ -1,17 +1,18 @@
 -- What the campaign of an accepted record satisfies, for the layer above: if `refusal xs` is 0, then `campaignOf xs` is `Sound`
--- (proofs/SoundLaws). These are the rules behind 4, 5, 7, 8 and 9, and of 6 that of kinds, told of
--- rows instead of bytes.
+-- (proofs/SoundLaws). These are the rules behind 4, 5, 7, 8 and 9, of 6 that of kinds, and of 3 the limits, told of rows instead of
+-- bytes and head.
 use mathlib.Core.Path.{_≡_}
 use mathlib.Core.Bool.{true, false}
 use mathlib.Core.List.{map}
 use Prim.Native.Nat.{ℕ, _≤_}
 use lib.ListN.{length}
-use Rattle.lists.specs.Lists.{All, twice}
+use Rattle.lists.specs.Lists.{All, joinOf, twice}
 use Rattle.record.specs.declared.tag.CountryTag.{CountryTag}
 use Rattle.record.specs.declared.date.Eu4Date.{Eu4Date}
 use Rattle.record.specs.declared.rows.Switch.{Switch}
 use Rattle.record.specs.declared.rows.OwnerEvent.{OwnerEvent}
 use Rattle.record.specs.declared.rows.WarEvent.{WarEvent}
+use Rattle.record.specs.declared.rows.Point.{Point}
 use Rattle.record.specs.Tags.{isTag}
 use Rattle.record.specs.Dates.{goodDate}
 use Rattle.record.specs.Campaign.{Country, Province, Ledger, Campaign}
@@ -51,12 +52,17 @@ pub record GoodWarEvent (e : WarEvent) : Type 0 where
   pub kind : e .kind ≤ 4
   pub tag : GoodTag (e .tag)
 
--- A ledger name that is a tag. 9: no year of its points is above 9999.
+-- 9: a point's year is at most 9999.
+abbrev pub GoodPoint : Point → Type 0
+GoodPoint p = p .year ≤ 9999
+
+-- A ledger name that is a tag, with good points.
 pub record GoodLedger (l : Ledger) : Type 0 where
   pub tag : GoodTag (l .tag)
-  pub points : All (λ p. p .year ≤ 9999) (l .points)
+  pub points : All GoodPoint (l .points)
 
--- All rows are good; 7: no tag and no id stands twice; 8: the current date is not before the start date.
+-- All rows are good; 7: no tag and no id stands twice; 8: the start is no later than the current date. 3: there are no more rows than
+-- the limits allow; of rows that others own, all owners together count.
 pub record Sound (c : Campaign) : Type 0 where
   pub start : GoodDate (c .start)
   pub current : GoodDate (c .current)
@@ -67,3 +73,13 @@ pub record Sound (c : Campaign) : Type 0 where
   pub idsOnce : twice (map (λ p. p .id .0) (c .provinces)) ≡ false
   pub wars : All (λ es. All GoodWarEvent es) (c .wars)
   pub ledgers : All GoodLedger (c .ledgers)
+  pub fewCountries : length (c .countries) ≤ 2000
+  pub fewPrevious : length (joinOf (λ k. k .previous) (c .countries)) ≤ 20000
+  pub fewSwitches : length (joinOf (λ k. k .switches) (c .countries)) ≤ 20000
+  pub fewProvinces : length (c .provinces) ≤ 8000
+  pub fewEvents : length (joinOf (λ p. p .events) (c .provinces)) ≤ 60000
+  pub fewWars : length (c .wars) ≤ 5000
+  pub fewWarEvents : length (joinOf (λ es. es) (c .wars)) ≤ 100000
+  pub fewLedgers : length (c .ledgers) ≤ 2000
+  pub fewPoints : length (joinOf (λ l. l .points) (c .ledgers)) ≤ 1000000
+  pub fewStrings : length (c .strings) ≤ 1000

@@ -17,7 +17,8 @@ tagByte b = leb 48 b && leb b 57 || leb 65 b && leb b 90 || leb 97 b && leb b 12
 abbrev pub tagOf : ℕ → ℕ → ℕ → CountryTag
 tagOf a b c = record { 0 = a * 65536 + b * 256 + c }
 
--- `NONE` is `---`, a tag like any other.
+-- `---`, a tag like any other. `CountryTag::is_none` ties the constant `CountryTag::NONE` to it: whether a tag is that constant is
+-- promised to be whether it is this tag.
 abbrev pub NONE : CountryTag
 NONE = tagOf 45 45 45
 

@@ -6,7 +6,8 @@ ghost use mathlib.Core.Path.{_≡_};
 ghost use Prim.Native.Nat.{_+_, _<_, _≤_};
 ghost use lib.Dec.{ltb};
 ghost use lib.ListN.{length};
-ghost use Rattle.record.specs.Bytes.{Num, byteAt, le16, le32, signed32, tagAt, dateAt, idAt, bit};
+ghost use Rattle.record.specs.Laid.{Num};
+ghost use Rattle.record.specs.Bytes.{byteAt, le16, le32, signed32, tagAt, dateAt, idAt, bit};
 
 pub(crate) fn byte(s: &[u8], at: usize) -> u32
     requires { ⌜ at < length (now s) ⌝ }

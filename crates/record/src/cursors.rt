@@ -2,92 +2,16 @@
 // them. A cursor made for one slice may be used on another: it then gives what stands there, and never reads past the end.
 use crate::bytes;
 use crate::rows::OwnerEvent;
-use crate::rows::Point;
 use crate::rows::ProvinceId;
 use crate::rows::Switch;
 use crate::rows::WarEvent;
+use crate::runs::Run;
 use crate::tag::CountryTag;
 ghost use mathlib.Core.Path.{_≡_};
-ghost use Prim.Native.Nat.{_-_, _+_, _<_, _≤_, min};
 ghost use lib.ListN.{length};
-ghost use Rattle.record.specs.Cursors.{hasRow, firstRun, pastRun, skipRun};
 ghost use Rattle.record.specs.Cursors.{previousLeft, previousTold, switchesLeft, switchTold};
-ghost use Rattle.record.specs.Cursors.{ownerEventsLeft, ownerEventTold, warEventsLeft, warEventTold, pointsLeft, pointTold};
+ghost use Rattle.record.specs.Cursors.{ownerEventsLeft, ownerEventTold, warEventsLeft, warEventTold};
 ghost use Rattle.record.specs.Cursors.{countriesLeft, countryTold, provincesLeft, provinceTold, warsLeft, warTold};
-ghost use Rattle.record.specs.Cursors.{ledgersLeft, ledgerTold, stringsLeft, stringTold, textOf};
-
-// Rows of one width: where the next one stands, and how many are left.
-pub struct Run {
-    pub(crate) at: usize,
-    pub(crate) left: usize,
-}
-
-fn least(a: usize, b: usize) -> usize
-    ensures { λ r. ⌜ r ≡ min a b ⌝ }
-{
-    if a < b { a } else { b }
-}
-
-fn minus(a: usize, b: usize) -> usize
-    ensures { λ r. ⌜ r ≡ a - b ⌝ }
-{
-    if b < a { a - b } else { 0 }
-}
-
-impl Run {
-    // Whether a row of this width is left and stands whole in the bytes.
-    fn has(self, s: &[u8], width: usize) -> bool
-        ensures { λ r. ⌜ r ≡ hasRow (length (now (s .entry))) width self ⌝ }
-    {
-        if self.left == 0 {
-            return false;
-        }
-        if s.len() < width {
-            return false;
-        }
-        self.at <= s.len() - width
-    }
-
-    // The run behind its first row.
-    fn past(self, s: &[u8], width: usize) -> Run
-        requires { ⌜ self .at + width ≤ length (now s) ⌝ }
-        ensures { λ r. ⌜ r ≡ pastRun width self ⌝ }
-    {
-        Run {
-            at: self.at + width,
-            left: minus(self.left, 1),
-        }
-    }
-
-    // The first n rows of the run.
-    fn first(self, n: usize) -> Run
-        ensures { λ r. ⌜ r ≡ firstRun n self ⌝ }
-    {
-        Run {
-            at: self.at,
-            left: least(n, self.left),
-        }
-    }
-
-    // The run behind its first n rows; where those end past the bytes, nothing is left to read.
-    fn skip(self, s: &[u8], width: usize, n: usize) -> Run
-        requires { ⌜ width ≤ 8 ⌝ }
-        requires { ⌜ n < 65536 ⌝ }
-        ensures { λ r. ⌜ r ≡ skipRun (length (now (s .entry))) width n self ⌝ }
-    {
-        let left = minus(self.left, n);
-        if s.len() < self.at {
-            return Run { at: s.len(), left };
-        }
-        if s.len() - self.at < width * n {
-            return Run { at: s.len(), left };
-        }
-        Run {
-            at: self.at + width * n,
-            left,
-        }
-    }
-}
 
 // A country's previous tags.
 pub struct PreviousTags(Run);
@@ -98,6 +22,7 @@ pub enum NextPreviousTag {
 }
 
 impl PreviousTags {
+    // The next previous tag and where to go on, or the end.
     pub fn next(self, s: &[u8]) -> NextPreviousTag
         ensures { λ r. ⌜ previousLeft (now (s .entry)) self ≡ previousTold (now (s .entry)) r ⌝ }
     {
@@ -118,6 +43,7 @@ pub enum NextSwitch {
 }
 
 impl Switches {
+    // The next switch and where to go on, or the end.
     pub fn next(self, s: &[u8]) -> NextSwitch
         ensures { λ r. ⌜ switchesLeft (now (s .entry)) self ≡ switchTold (now (s .entry)) r ⌝ }
     {
@@ -143,6 +69,7 @@ pub enum NextOwnerEvent {
 }
 
 impl OwnerEvents {
+    // The next owner event and where to go on, or the end.
     pub fn next(self, s: &[u8]) -> NextOwnerEvent
         ensures { λ r. ⌜ ownerEventsLeft (now (s .entry)) self ≡ ownerEventTold (now (s .entry)) r ⌝ }
     {
@@ -168,6 +95,7 @@ pub enum NextWarEvent {
 }
 
 impl WarEvents {
+    // The next war event and where to go on, or the end.
     pub fn next(self, s: &[u8]) -> NextWarEvent
         ensures { λ r. ⌜ warEventsLeft (now (s .entry)) self ≡ warEventTold (now (s .entry)) r ⌝ }
     {
@@ -182,31 +110,6 @@ impl WarEvents {
             tag: bytes::tag_at(s, at + 5),
         };
         NextWarEvent::Row(row, WarEvents(run.past(s, 8)))
-    }
-}
-
-// A ledger's points.
-pub struct Points(Run);
-
-pub enum NextPoint {
-    Row(Point, Points),
-    End,
-}
-
-impl Points {
-    pub fn next(self, s: &[u8]) -> NextPoint
-        ensures { λ r. ⌜ pointsLeft (now (s .entry)) self ≡ pointTold (now (s .entry)) r ⌝ }
-    {
-        let run = self.0;
-        if !run.has(s, 6) {
-            return NextPoint::End;
-        }
-        let at = run.at;
-        let row = Point {
-            year: bytes::u16_at(s, at),
-            value: bytes::u32_at(s, at + 2),
-        };
-        NextPoint::Row(row, Points(run.past(s, 6)))
     }
 }
 
@@ -233,6 +136,7 @@ pub enum NextCountry {
 }
 
 impl Countries {
+    // The next country and where to go on, or the end.
     pub fn next(self, s: &[u8]) -> NextCountry
         ensures { λ r. ⌜ countriesLeft (now (s .entry)) self ≡ countryTold (now (s .entry)) r ⌝ }
     {
@@ -263,11 +167,12 @@ impl Countries {
         NextCountry::Row(row, rest)
     }
 
-    // How many country rows are left, of a cursor as an accepted record gave it.
-    pub fn len(self) -> usize
-        ensures { λ r. ⌜ r ≡ self .rows .left ⌝ }
+    // How many country rows are left.
+    pub fn len(self, s: &[u8]) -> usize
+        ensures { λ r. ⌜ r ≡ length (countriesLeft (now (s .entry)) self) ⌝ }
     {
-        self.rows.left
+        let rows = self.rows;
+        rows.count(s, 12)
     }
 }
 
@@ -289,6 +194,7 @@ pub enum NextProvince {
 }
 
 impl Provinces {
+    // The next province and where to go on, or the end.
     pub fn next(self, s: &[u8]) -> NextProvince
         ensures { λ r. ⌜ provincesLeft (now (s .entry)) self ≡ provinceTold (now (s .entry)) r ⌝ }
     {
@@ -311,11 +217,12 @@ impl Provinces {
         NextProvince::Row(row, rest)
     }
 
-    // How many province rows are left, of a cursor as an accepted record gave it.
-    pub fn len(self) -> usize
-        ensures { λ r. ⌜ r ≡ self .rows .left ⌝ }
+    // How many province rows are left.
+    pub fn len(self, s: &[u8]) -> usize
+        ensures { λ r. ⌜ r ≡ length (provincesLeft (now (s .entry)) self) ⌝ }
     {
-        self.rows.left
+        let rows = self.rows;
+        rows.count(s, 7)
     }
 }
 
@@ -330,6 +237,7 @@ pub enum NextWar {
 }
 
 impl Wars {
+    // The next war and where to go on, or the end.
     pub fn next(self, s: &[u8]) -> NextWar
         ensures { λ r. ⌜ warsLeft (now (s .entry)) self ≡ warTold (now (s .entry)) r ⌝ }
     {
@@ -344,93 +252,5 @@ impl Wars {
             events: events.skip(s, 8, n),
         };
         NextWar::Row(WarEvents(events.first(n)), rest)
-    }
-}
-
-// A ledger name's row, with a cursor over its points.
-pub struct LedgerRow {
-    pub tag: CountryTag,
-    pub points: Points,
-}
-
-pub struct Ledgers {
-    pub(crate) rows: Run,
-    pub(crate) points: Run,
-}
-
-pub enum NextLedger {
-    Row(LedgerRow, Ledgers),
-    End,
-}
-
-impl Ledgers {
-    pub fn next(self, s: &[u8]) -> NextLedger
-        ensures { λ r. ⌜ ledgersLeft (now (s .entry)) self ≡ ledgerTold (now (s .entry)) r ⌝ }
-    {
-        let rows = self.rows;
-        if !rows.has(s, 5) {
-            return NextLedger::End;
-        }
-        let at = rows.at;
-        let n = bytes::u16_at(s, at + 3) as usize;
-        let points = self.points;
-        let row = LedgerRow {
-            tag: bytes::tag_at(s, at),
-            points: Points(points.first(n)),
-        };
-        let rest = Ledgers {
-            rows: rows.past(s, 5),
-            points: points.skip(s, 6, n),
-        };
-        NextLedger::Row(row, rest)
-    }
-}
-
-// A string's place; `bytes` gives its bytes.
-pub struct Text {
-    start: usize,
-    len: usize,
-}
-
-impl Text {
-    // The bytes of the string, of the slice that it was found in.
-    pub fn bytes(self, s: &[u8]) -> &[u8]
-        ensures { λ r. ⌜ now r ≡ textOf (now (s .entry)) self ⌝ }
-    {
-        let start = self.start;
-        if s.len() < start {
-            return &s[0..0];
-        }
-        let len = least(self.len, s.len() - start);
-        let end = start + len;
-        &s[start..end]
-    }
-}
-
-pub struct Strings(pub(crate) Run);
-
-pub enum NextString {
-    Row(Text, Strings),
-    End,
-}
-
-impl Strings {
-    pub fn next(self, s: &[u8]) -> NextString
-        ensures { λ r. ⌜ stringsLeft (now (s .entry)) self ≡ stringTold (now (s .entry)) r ⌝ }
-    {
-        let run = self.0;
-        if !run.has(s, 1) {
-            return NextString::End;
-        }
-        let at = run.at;
-        let len = bytes::byte(s, at) as usize;
-        if s.len() - (at + 1) < len {
-            return NextString::End;
-        }
-        let rest = Strings(Run {
-            at: at + 1 + len,
-            left: minus(run.left, 1),
-        });
-        NextString::Row(Text { start: at + 1, len }, rest)
     }
 }

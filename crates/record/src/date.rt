@@ -1,5 +1,5 @@
 ghost use mathlib.Core.Path.{_≡_};
-ghost use Rattle.record.specs.Dates.{month, monthDays, goodDate, datedDate, dateOfWord, notAfter, earlier};
+ghost use Rattle.record.specs.Dates.{month, monthDays, goodDate, datedDate, dateOfWord, notAfter, earlier, sameDate};
 ghost use Rattle.record.specs.Dates.{year as yearOf};
 ghost use Rattle.record.specs.Laid.{MonthTable};
 
@@ -77,6 +77,13 @@ impl Eu4Date {
         }
     }
 
+    // The date that was kept as its word in a sort key or a cell. Nothing is tested: a word from outside goes through `of_word`.
+    pub fn kept(word: u32) -> Eu4Date
+        ensures { λ r. ⌜ r .0 ≡ word ⌝ }
+    {
+        Eu4Date(word)
+    }
+
     // The word that a row holds for this date.
     pub fn word(self) -> u32
         ensures { λ r. ⌜ r ≡ self .0 ⌝ }
@@ -84,21 +91,31 @@ impl Eu4Date {
         self.0
     }
 
+    // The year.
     pub fn year(self) -> u32
         ensures { λ r. ⌜ r ≡ yearOf self ⌝ }
     {
         self.0 / 10000
     }
 
+    // Whether it is this date or an earlier one.
     pub fn not_after(self, other: Eu4Date) -> bool
         ensures { λ r. ⌜ r ≡ notAfter self other ⌝ }
     {
         self.0 <= other.0
     }
 
+    // Whether it comes before the other.
     pub fn earlier(self, other: Eu4Date) -> bool
         ensures { λ r. ⌜ r ≡ earlier self other ⌝ }
     {
         self.0 < other.0
+    }
+
+    // Whether both are one date.
+    pub fn same(self, other: Eu4Date) -> bool
+        ensures { λ r. ⌜ r ≡ sameDate self other ⌝ }
+    {
+        self.0 == other.0
     }
 }

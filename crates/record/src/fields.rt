@@ -5,13 +5,14 @@ use crate::date::Eu4Date;
 use crate::head;
 use crate::head::Head;
 use crate::tag;
+use crate::years;
 ghost use mathlib.Core.Path.{_≡_};
 ghost use Prim.Native.Nat.{_+_, _*_, _<_, _≤_};
 ghost use lib.ListN.{length};
 ghost use Rattle.record.specs.Bytes.{tagAt};
 ghost use Rattle.record.specs.Laid.{Laid, TagTable, MonthTable};
 ghost use Rattle.record.specs.Campaign.{countryRows, previousTags, switchRows, provinceRows, ownerEvents, warEvents, ledgerRows, points};
-ghost use Rattle.record.specs.Rows.{rowsAt, countryAt, ownerEventAt, warEventAt, pointAt};
+ghost use Rattle.record.specs.Rows.{rowsAt, countryAt, ownerEventAt, warEventAt};
 ghost use Rattle.record.specs.Refusal.{firstIn, tagNumber, dateNumber, yearNumber, countryNumber};
 ghost use Rattle.record.specs.Refusal.{switchNumber, ownerEventNumber, warEventNumber, headNumber, fieldsNumber};
 
@@ -137,62 +138,6 @@ fn war_events_number(tags: &[bool; 256], months: &[u32; 100], s: &[u8], at: usiz
     0
 }
 
-// A point's year.
-fn point_number(s: &[u8], at: usize) -> u32
-    requires { ⌜ at + 6 ≤ length (now s) ⌝ }
-    ensures { λ r. ⌜ r ≡ yearNumber (pointAt (now (s .entry)) at .year) ⌝ }
-{
-    if bytes::u16_at(s, at) <= 9999 { 0 } else { 9 }
-}
-
-// Four points at once, of which any bad one refuses with the same number.
-fn four_points_number(s: &[u8], at: usize) -> u32
-    requires { ⌜ at + 24 ≤ length (now s) ⌝ }
-    ensures { λ r. ⌜ r ≡ firstIn (λ p. yearNumber (p .year)) (rowsAt (pointAt (now (s .entry))) 6 (now (s .entry)) at 4) ⌝ }
-{
-    let good = (bytes::u16_at(s, at) <= 9999)
-        & (bytes::u16_at(s, at + 6) <= 9999)
-        & (bytes::u16_at(s, at + 12) <= 9999)
-        & (bytes::u16_at(s, at + 18) <= 9999);
-    if good { 0 } else { 9 }
-}
-
-// Points one by one, where few are left.
-fn last_points_number(s: &[u8], at: usize, n: usize) -> u32
-    requires { ⌜ at + 6 * n ≤ length (now s) ⌝ }
-    ensures { λ r. ⌜ r ≡ firstIn (λ p. yearNumber (p .year)) (rowsAt (pointAt (now (s .entry))) 6 (now (s .entry)) at n) ⌝ }
-{
-    let mut a = at;
-    let mut left = n;
-    while 0 < left {
-        let number = point_number(s, a);
-        if number != 0 {
-            return number;
-        }
-        a += 6;
-        left -= 1;
-    }
-    0
-}
-
-// Most of a record's bytes are points, so they are read by fours.
-fn points_number(s: &[u8], at: usize, n: usize) -> u32
-    requires { ⌜ at + 6 * n ≤ length (now s) ⌝ }
-    ensures { λ r. ⌜ r ≡ firstIn (λ p. yearNumber (p .year)) (rowsAt (pointAt (now (s .entry))) 6 (now (s .entry)) at n) ⌝ }
-{
-    let mut a = at;
-    let mut left = n;
-    while 4 <= left {
-        let number = four_points_number(s, a);
-        if number != 0 {
-            return number;
-        }
-        a += 24;
-        left -= 4;
-    }
-    last_points_number(s, a, left)
-}
-
 // The head's flags and dates.
 fn head_number(h: Head) -> u32
     requires { ⌜ h .flags < 256 ⌝ }
@@ -269,7 +214,7 @@ fn points_field(s: &[u8], h: Head) -> u32
     requires { ⌜ Laid (now s) h ⌝ }
     ensures { λ r. ⌜ r ≡ firstIn (λ p. yearNumber (p .year)) (points (now (s .entry))) ⌝ }
 {
-    points_number(s, head::points_at(h), h.points as usize)
+    years::points_number(s, head::points_at(h), h.points as usize)
 }
 
 // Each section's fields in the order of the file, behind a head that is not refused.

@@ -1,15 +1,15 @@
 // A record that passed its check, with a cursor over each section.
 use crate::bytes;
 use crate::cursors::Countries;
-use crate::cursors::Ledgers;
 use crate::cursors::Provinces;
-use crate::cursors::Run;
-use crate::cursors::Strings;
 use crate::cursors::Wars;
 use crate::date::Eu4Date;
 use crate::head;
 use crate::head::Head;
+use crate::ledger::Ledgers;
 use crate::refusal;
+use crate::runs::Run;
+use crate::texts::Strings;
 ghost use mathlib.Core.Path.{_≡_};
 ghost use Rattle.record.specs.Laid.{recordAt};
 ghost use Rattle.record.specs.Opened.{RightlyOpened};

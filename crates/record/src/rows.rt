@@ -7,6 +7,13 @@ ghost use mathlib.Core.Path.{_≡_};
 pub struct ProvinceId(pub(crate) u32);
 
 impl ProvinceId {
+    // The id that was kept as its number in a sort key or a cell.
+    pub fn kept(word: u32) -> ProvinceId
+        ensures { λ r. ⌜ r .0 ≡ word ⌝ }
+    {
+        ProvinceId(word)
+    }
+
     // The word that a row holds for this id.
     pub fn word(self) -> u32
         ensures { λ r. ⌜ r ≡ self .0 ⌝ }

@@ -4,7 +4,7 @@ ghost use Prim.Native.Nat.{_+_, _≤_};
 ghost use lib.ListN.{length};
 ghost use Rattle.record.specs.Bytes.{tagAt};
 ghost use Rattle.record.specs.Laid.{TagTable};
-ghost use Rattle.record.specs.Tags.{tagByte, isTag, createdTag, tested, sameTag, created, tagOfWord};
+ghost use Rattle.record.specs.Tags.{tagByte, isTag, createdTag, tested, sameTag, NONE, created, tagOfWord};
 
 // A country's tag of three bytes, held as its word a*65536 + b*256 + c: equal words are equal tags, and word order is byte order.
 pub struct CountryTag(pub(crate) u32);
@@ -84,6 +84,13 @@ impl CountryTag {
         }
     }
 
+    // The tag that was kept as its word in a sort key or a cell. Nothing is tested: a word from outside goes through `of_word`.
+    pub fn kept(word: u32) -> CountryTag
+        ensures { λ r. ⌜ r .0 ≡ word ⌝ }
+    {
+        CountryTag(word)
+    }
+
     // The word that a row holds for this tag.
     pub fn word(self) -> u32
         ensures { λ r. ⌜ r ≡ self .0 ⌝ }
@@ -91,6 +98,14 @@ impl CountryTag {
         self.0
     }
 
+    // Whether it is the tag of no one.
+    pub fn is_none(self) -> bool
+        ensures { λ r. ⌜ r ≡ sameTag self NONE ⌝ }
+    {
+        self.same(CountryTag::NONE)
+    }
+
+    // Whether both are one tag.
     pub fn same(self, other: CountryTag) -> bool
         ensures { λ r. ⌜ r ≡ sameTag self other ⌝ }
     {

@@ -1,0 +1,18 @@
+-- `Provinces::len` meets its contract: a province with what it owns is one row of its section. Assumes nothing.
+use mathlib.Core.Path.{sym, _∙_}
+use native.Mathlib.Omega.{arith}
+use Rattle.record.specs.Rows.{provinceAt}
+use Rattle.record.proofs.RunLaws.{run-length}
+use Rattle.record.proofs.CampaignLaws.{provinces-length}
+use borrow.Author.Needs.{needs}
+use Rattle.record.proofs.cursors.Provinces.len.Statement.{statement}
+use Rattle.record.proofs.cursors.Provinces.len.Tie as tie
+
+count-requires : tie.Need-count-requires
+count-requires c κs = search needs
+
+returns : tie.Need-returns
+returns c = c .count .ensures ∙ sym (provinces-length _ _ ∙ run-length (provinceAt _) 7 _ _ (omega arith))
+
+pub len-spec : {M : Type 1} → statement M
+len-spec = tie.close (tie.spec count-requires returns)
