@@ -1,21 +1,16 @@
 // The chronicle of a campaign.
-mod chains;
-mod changes;
-mod countries;
-mod entries;
-mod holders;
-mod listing;
-mod lives;
-mod lookup;
-mod nations;
-mod settling;
-mod starting;
-mod switches;
-
-pub use changes::EventsOn;
-pub use changes::Owners;
-pub use changes::events_on;
-pub use changes::province_owners;
 pub use nations::NationCounts;
 pub use nations::NationEvents;
 pub use nations::nation_events;
+pub use owner_changes::EventsOn;
+pub use owner_changes::Owners;
+pub use owner_changes::events_on;
+pub use owner_changes::province_owners;
+pub use questions::Each;
+pub use questions::resolve_each;
+pub use resolver::Resolved;
+pub use resolver::TagData;
+pub use resolver::TagResolverDated;
+pub use resolver::at;
+pub use resolver::initial;
+pub use resolver::resolve;

@@ -1,0 +1,86 @@
+-- The computed cases hold of the definitions. An edit of a rule that changes one of them is refused here.
+use mathlib.Core.Path.{_≡_, refl}
+use Prim.Native.Nat.{ℕ}
+use lib.ListN.{length}
+use Rattle.lists.specs.Lists.{joinOf}
+use Rattle.record.specs.Campaign.{Campaign}
+use Rattle.rules.specs.Changes.{changesOf}
+use Rattle.rules.specs.Nations.{nationsOf}
+use Rattle.rules.specs.PageOutcomes.{limitsNumber}
+use Rattle.rules.specs.CaseForms.{Hold}
+use Rattle.rules.specs.RecordCases.{changeCases, eventsOnCases, nationCases, holderCases, wornCases, dayCases, countedCases}
+use Rattle.rules.specs.LentCases.{resolveCases, dayResolveCases, askedCases, shapeCases, misshapenCases, bookingCases, ledgerCases}
+use Rattle.rules.specs.PlayerCases.{playerCases, releaseCases, historyCases, startingCases, startingShapeCases}
+use Rattle.rules.specs.PageCases.{pageCases, pageRoomCases, bytesCases}
+use Rattle.rules.proofs.Computes.{computes}
+
+pub changes : Hold changeCases × Hold eventsOnCases
+unfolding computes changeCases eventsOnCases
+changes = (refl, refl)
+
+pub nations : Hold nationCases
+unfolding computes nationCases
+nations = refl
+
+pub days : Hold holderCases × Hold wornCases × Hold dayCases × Hold countedCases
+unfolding computes holderCases wornCases dayCases countedCases
+days = (refl, refl, refl, refl)
+
+pub resolver : Hold resolveCases × Hold dayResolveCases × Hold askedCases
+unfolding computes resolveCases dayResolveCases askedCases
+resolver = (refl, refl, refl)
+
+pub shapes : Hold shapeCases × Hold misshapenCases
+unfolding computes shapeCases misshapenCases
+shapes = (refl, refl)
+
+pub bookings : Hold bookingCases
+unfolding computes bookingCases
+bookings = refl
+
+pub ledger : Hold ledgerCases
+unfolding computes ledgerCases
+ledger = refl
+
+pub players : Hold playerCases × Hold releaseCases × Hold historyCases
+unfolding computes playerCases releaseCases historyCases
+players = (refl, refl, refl)
+
+pub starting : Hold startingCases × Hold startingShapeCases
+unfolding computes startingCases startingShapeCases
+starting = (refl, refl)
+
+pub page : Hold pageCases × Hold pageRoomCases × Hold bytesCases
+unfolding computes pageCases pageRoomCases bytesCases
+page = (refl, refl, refl)
+
+-- All of them.
+pub cases :
+    (Hold changeCases × Hold eventsOnCases)
+    × Hold nationCases
+    × (Hold holderCases × Hold wornCases × Hold dayCases × Hold countedCases)
+    × (Hold resolveCases × Hold dayResolveCases × Hold askedCases)
+    × (Hold shapeCases × Hold misshapenCases)
+    × Hold bookingCases
+    × Hold ledgerCases
+    × (Hold playerCases × Hold releaseCases × Hold historyCases)
+    × (Hold startingCases × Hold startingShapeCases)
+    × (Hold pageCases × Hold pageRoomCases × Hold bytesCases)
+cases = (changes, nations, days, resolver, shapes, bookings, ledger, players, starting, page)
+
+-- Campaigns at the page's limits are too large to compute with: these hold of any campaign of that size.
+module _ (c : Campaign) where
+  abbrev entries : ℕ
+  entries = length (joinOf (λ n. n .entries) (nationsOf c))
+
+  pub at-limits : length (changesOf c) ≡ 4000 → entries ≡ 5000 → limitsNumber c ≡ 0
+  unfolding limitsNumber
+  at-limits h k = simp (h, k)
+
+  pub changes-over : length (changesOf c) ≡ 4001 → limitsNumber c ≡ 10
+  unfolding limitsNumber
+  changes-over h = simp h
+
+  pub entries-over : length (changesOf c) ≡ 4000 → entries ≡ 5001 → limitsNumber c ≡ 10
+  unfolding limitsNumber
+  entries-over h k = simp (h, k)

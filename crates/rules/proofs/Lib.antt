@@ -1,0 +1,12 @@
+pub mod Computes
+pub mod LivingLaws
+pub mod CampaignLaws
+pub mod ResolverLaws
+pub mod RowLaws
+pub mod ShapeLaws
+pub mod DemandLaws
+pub mod WorkedLaws
+pub mod OrderLaws
+pub mod LentLaws
+pub mod TableLaws
+pub mod CaseLaws
