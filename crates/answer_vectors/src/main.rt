@@ -2,12 +2,15 @@
 // answers. The list is made by host/oracle's answer_vectors. Its numbers take 32 bits each, low byte first: the bytes of
 // the record, and how many changes, days, nations, entries, slots and countries follow; then these, of 4, 3, 5, 3, 1 and
 // 1 numbers each. Held to the record are its changes, days and nations.
+mod stored;
+
 use chronicle::EventsOn;
 use chronicle::NationCounts;
 use chronicle::NationEvents;
 use chronicle::Owners;
 use libc::STDOUT_FILENO;
-ghost use Prim.Native.Nat.{_<_, _≤_};
+use record::Eu4Date;
+ghost use Prim.Native.Nat.{_≤_};
 ghost use lib.ListN.{length};
 
 // Whether the list goes on, how many days were asked for, and how many answers are wrong.
@@ -15,89 +18,6 @@ struct Replayed {
     more: bool,
     days: u64,
     wrong: u64,
-}
-
-fn wide(b: u8) -> u32
-    ensures { λ r. ⌜ r < 256 ⌝ }
-{
-    b as u32
-}
-
-// The byte at an offset, 0 past the end.
-fn byte(bytes: &[u8], i: usize) -> u32
-    ensures { λ r. ⌜ r < 256 ⌝ }
-{
-    if i < bytes.len() {
-        return wide(bytes[i]);
-    }
-    0
-}
-
-// Number k of the list's numbers.
-fn word(bytes: &[u8], k: usize) -> u32
-    requires { ⌜ k ≤ 65536 ⌝ }
-{
-    let i = 4 * k;
-    let low = byte(bytes, i) + byte(bytes, i + 1) * 256;
-    let high = byte(bytes, i + 2) + byte(bytes, i + 3) * 256;
-    low + high * 65536
-}
-
-// Number k of a head, of which no stored one is above 1000.
-fn number(head: &[u8], k: usize) -> usize
-    requires { ⌜ k < 7 ⌝ }
-    ensures { λ r. ⌜ r ≤ 1000 ⌝ }
-{
-    let n = word(head, k);
-    if n < 1000 {
-        return n as usize;
-    }
-    1000
-}
-
-// Whether no number of a head is above 1000.
-fn fits(head: &[u8]) -> bool {
-    let mut k = 0;
-    while k < 7 {
-        if word(head, k) > 1000 {
-            return false;
-        }
-        k += 1;
-    }
-    true
-}
-
-// How many bytes stand after a campaign's days.
-fn rest_of(head: &[u8]) -> usize
-    ensures { λ r. ⌜ r ≤ 40000 ⌝ }
-{
-    let nations = number(head, 3);
-    let entries = number(head, 4);
-    let slots = number(head, 5);
-    let countries = number(head, 6);
-    4 * (5 * nations + 3 * entries + slots + countries)
-}
-
-// Whether the list had n more bytes, which then begin the buffer.
-fn read_exactly(file: i32, buf: &mut [u8], n: usize) -> bool
-    requires { ⌜ n ≤ length (now buf) ⌝ }
-{
-    let got = io::read_full(file, &mut buf[0..n]);
-    got == n
-}
-
-// Whether the words are the n numbers from number `at` on.
-fn same_from(words: &[u32], bytes: &[u8], at: usize, n: usize) -> bool
-    requires { ⌜ (n ≤ length (now words)) × (at ≤ 10000) × (n ≤ 10000) ⌝ }
-{
-    let mut i = 0;
-    while i < n {
-        if words[i] != word(bytes, at + i) {
-            return false;
-        }
-        i += 1;
-    }
-    true
 }
 
 // 1 for other owner changes than the stored ones.
@@ -111,7 +31,7 @@ fn wrong_owners(s: &[u8], bytes: &[u8], changes: usize) -> u64
             if n != changes {
                 return 1;
             }
-            if !same_from(&words, bytes, 0, 4 * changes) {
+            if !stored::same_from(&words, bytes, 0, 4 * changes) {
                 return 1;
             }
             0
@@ -122,11 +42,11 @@ fn wrong_owners(s: &[u8], bytes: &[u8], changes: usize) -> u64
 
 // Whether the counts are those of a head.
 fn same_counts(head: &[u8], counts: NationCounts) -> bool {
-    (counts.changes == number(head, 1))
-        & (counts.nations == number(head, 3))
-        & (counts.entries == number(head, 4))
-        & (counts.slots == number(head, 5))
-        & (counts.countries == number(head, 6))
+    (counts.changes == stored::number(head, 1))
+        & (counts.nations == stored::number(head, 3))
+        & (counts.entries == stored::number(head, 4))
+        & (counts.slots == stored::number(head, 5))
+        & (counts.countries == stored::number(head, 6))
 }
 
 // 1 for other nations, entries, holders or slots held than the stored ones.
@@ -150,19 +70,19 @@ fn wrong_nations(s: &[u8], head: &[u8], bytes: &[u8]) -> u64
             if !same_counts(head, counts) {
                 return 1;
             }
-            let n = 5 * number(head, 3);
-            let e = 3 * number(head, 4);
-            let slots = number(head, 5);
-            if !same_from(&nations, bytes, 0, n) {
+            let n = 5 * stored::number(head, 3);
+            let e = 3 * stored::number(head, 4);
+            let slots = stored::number(head, 5);
+            if !stored::same_from(&nations, bytes, 0, n) {
                 return 1;
             }
-            if !same_from(&entries, bytes, n, e) {
+            if !stored::same_from(&entries, bytes, n, e) {
                 return 1;
             }
-            if !same_from(&holders, bytes, n + e, slots) {
+            if !stored::same_from(&holders, bytes, n + e, slots) {
                 return 1;
             }
-            if !same_from(&held, bytes, n + e + slots, number(head, 6)) {
+            if !stored::same_from(&held, bytes, n + e + slots, stored::number(head, 6)) {
                 return 1;
             }
             0
@@ -175,12 +95,12 @@ fn wrong_nations(s: &[u8], head: &[u8], bytes: &[u8]) -> u64
 fn wrong_day(s: &[u8], day: &[u8]) -> u64
     ensures { λ r. ⌜ r ≤ 1 ⌝ }
 {
-    match chronicle::events_on(s, word(day, 0)) {
+    match chronicle::events_on(s, Eu4Date::kept(stored::word(day, 0))) {
         EventsOn::Run(first, count) => {
-            if first != word(day, 1) as usize {
+            if first != stored::word(day, 1) as usize {
                 return 1;
             }
-            if count != word(day, 2) as usize {
+            if count != stored::word(day, 2) as usize {
                 return 1;
             }
             0
@@ -232,18 +152,18 @@ fn replay_campaign(file: i32, head: &[u8], s: &mut [u8], bytes: &mut [u8]) -> Re
     requires { ⌜ 65536 ≤ length (now bytes) ⌝ }
     ensures { λ r. ⌜ (r .days ≤ 1000) × (r .wrong ≤ 1002) ⌝ }
 {
-    let len = number(head, 0);
-    let changes = number(head, 1);
-    let days = number(head, 2);
-    if !read_exactly(file, s, len) {
+    let len = stored::number(head, 0);
+    let changes = stored::number(head, 1);
+    let days = stored::number(head, 2);
+    if !stored::read_exactly(file, s, len) {
         return broken();
     }
-    if !read_exactly(file, bytes, 16 * changes) {
+    if !stored::read_exactly(file, bytes, 16 * changes) {
         return broken();
     }
     let owners = wrong_owners(&s[0..len], bytes, changes);
     let on = wrong_days(file, &s[0..len], days);
-    if !read_exactly(file, bytes, rest_of(head)) {
+    if !stored::read_exactly(file, bytes, stored::rest_of(head)) {
         return broken();
     }
     let lived = wrong_nations(&s[0..len], head, bytes);
@@ -272,7 +192,7 @@ fn replay(file: i32, s: &mut [u8], bytes: &mut [u8]) -> Replayed
     if got != 28 {
         return broken();
     }
-    if !fits(&head) {
+    if !stored::fits(&head) {
         return broken();
     }
     replay_campaign(file, &head, s, bytes)

@@ -1,3 +1,2 @@
-pub mod Computes
-pub mod TableLaws
 pub mod HostLaws
+pub mod ResolvingLaws

@@ -1,17 +1,13 @@
--- How an outcome comes back from a C function other than check and page: one signed number, and the lent slices. (DECISIONS, 'What each
--- call is given'.)
+-- How an outcome comes back from a C function: one signed number, and the lent slices. (DECISIONS, 'What each call is given'.) So it is for
+-- every call that has an outcome. `check` has none: it is lent nothing to write, and returns the record's number as it stands.
 use mathlib.Core.Path.{_≡_}
-use mathlib.Core.Bool.{_&&_}
 use mathlib.Core.List.{List, [], _∷_}
-use Prim.Native.Nat.{ℕ, _<_}
+use Prim.Native.Nat.{ℕ}
 use lib.IntN.{ℤ, pos, negℤ}
 use lib.ListN.{length}
-use Rattle.record.specs.Campaign.{campaignOf}
-use Rattle.record.specs.Refusal.{refusal, firstOf}
-use Rattle.chronicle.specs.declared.nations.NationCounts.{NationCounts}
-use Rattle.chronicle.specs.Lent.{Answer, refused, gives, written, fits, roomNumber, Outcome, outcome}
-use Rattle.chronicle.specs.Changes.{Run}
-use Rattle.chronicle.specs.Outcomes.{callEventsOn, answersOf, NationCells, cellsOf, allFit, allWritten, Counts, countsOf}
+use Rattle.rules.specs.Lent.{Answer, refused, gives, written, fits, roomNumber, Outcome, outcome}
+use Rattle.rules.specs.Changes.{Run}
+use Rattle.rules.specs.Outcomes.{callEventsOn, NationCells, Counts, callNationEvents}
 
 -- The number that is given, or minus the refusal number.
 abbrev pub returned : Answer ℕ → ℤ
@@ -53,21 +49,17 @@ pub record NationSlices : Type 0 where
 abbrev pub nationSlices : NationCells → List ℕ → NationSlices
 nationSlices cells counts = record { cells = cells; counts = counts }
 
--- The number of counts, and all slices with their words in them. Refused by the record's number, or by 10 if any slice is too short.
-unfoldable pub callNationEventsCells : List ℕ → NationSlices → Outcome ℕ NationSlices
-callNationEventsCells xs before =
-    let answers = answersOf (campaignOf xs) in
-    let cells = cellsOf answers in
-    let words = countWords (countsOf answers) in
-    outcome (firstOf (refusal xs ∷ roomNumber (allFit cells (before .cells) && fits words (before .counts)) ∷ []))
-    (length words)
-    (nationSlices (allWritten cells (before .cells)) (written words (before .counts)))
+-- The number of counts, and all slices with their words in them. Refused as before, or by 10 if the slice for the counts is too short:
+-- then all slices are as they were lent.
+abbrev pub withCounts : Answer Counts → NationCells → NationSlices → Outcome ℕ NationSlices
+withCounts (refused n) after before = record { answer = refused n; memory = nationSlices after (before .counts) }
+withCounts (gives r) after before =
+    outcome (roomNumber (fits (countWords r) (before .counts)))
+    (length (countWords r))
+    (nationSlices after (written (countWords r) (before .counts)))
     before
 
--- A condition of an inner step, cited by no C function's promise: each count fits a word.
-pub record FewCounts (r : NationCounts) : Type 0 where
-  pub nations : r .nations < 4294967296
-  pub entries : r .entries < 4294967296
-  pub slots : r .slots < 4294967296
-  pub countries : r .countries < 4294967296
-  pub changes : r .changes < 4294967296
+-- The C function `nation_events`: the outcome of the call, with its counts in a slice of their own.
+unfoldable pub callNationEventsCells : List ℕ → NationSlices → Outcome ℕ NationSlices
+callNationEventsCells xs before =
+    let called = callNationEvents xs (before .cells) in withCounts (called .answer) (called .memory) before

@@ -1,4 +1,3 @@
-pub mod Page
-pub mod Outcomes
-pub mod Table
 pub mod Host
+pub mod Inner
+pub mod Resolving

@@ -1,18 +1,22 @@
 // What the Rust host calls: C functions over slices. A slice is a pointer and then a length.
+mod resolving;
+
 use chronicle::EventsOn;
 use chronicle::NationCounts;
 use chronicle::NationEvents;
 use chronicle::Owners;
+use record::Eu4Date;
 ghost use mathlib.Core.Path.{_≡_};
 ghost use mathlib.Core.List.{_∷_, []};
 ghost use Prim.Native.Nat.{_≤_};
-ghost use lib.IntN.{pos, negℤ};
+ghost use lib.IntN.{pos};
 ghost use lib.ListN.{length};
 ghost use Rattle.record.specs.Refusal.{refusal, firstOf};
-ghost use Rattle.chronicle.specs.Lent.{written};
-ghost use Rattle.chronicle.specs.Outcomes.{callProvinceOwners};
-ghost use Rattle.chronicle.specs.Cases.{countsIn, nationCells};
-ghost use Rattle.page.specs.Host.{Returns, callEventsOnCells, countWords, FewCounts, nationSlices, callNationEventsCells};
+ghost use Rattle.rules.specs.Lent.{refused, written};
+ghost use Rattle.rules.specs.Outcomes.{callProvinceOwners};
+ghost use Rattle.nations.specs.Cases.{countsIn, nationCells};
+ghost use Rattle.page.specs.Host.{returned, Returns, callEventsOnCells, countWords, nationSlices, callNationEventsCells};
+ghost use Rattle.page.specs.Inner.{FewCounts};
 
 // The record's refusal number, 0 when it is accepted.
 #[no_mangle]
@@ -22,8 +26,9 @@ pub extern "C" fn check(s: &[u8]) -> i64
     record::check(s) as i64
 }
 
+// What a refused call returns: minus its number.
 fn minus(number: u32) -> i64
-    ensures { λ r. ⌜ r ≡ negℤ (pos number) ⌝ }
+    ensures { λ r. ⌜ r ≡ returned (refused number) ⌝ }
 {
     0 - number as i64
 }
@@ -39,13 +44,14 @@ pub extern "C" fn province_owners(s: &[u8], out: &mut [u32]) -> i64
     }
 }
 
-// Writes where the changes of a date begin, and how many there are. Gives 2, or minus the refusal number: 10 where the
-// slice has no two words.
+// Writes where the changes of a date begin, and how many there are. Gives 2, or minus the refusal number: 12 for a word that is no
+// date, 10 where the slice has no two words.
 #[no_mangle]
 pub extern "C" fn events_on(s: &[u8], date: u32, out: &mut [u32]) -> i64
     ensures { λ r. ⌜ Returns (callEventsOnCells (now (s .entry)) date (now (out .entry))) r (now (out .exit)) ⌝ }
 {
-    match chronicle::events_on(s, date) {
+    // The word is tested by the call, behind the record.
+    match chronicle::events_on(s, Eu4Date::kept(date)) {
         EventsOn::Run(first, count) => {
             if out.len() < 2 {
                 return minus(10);

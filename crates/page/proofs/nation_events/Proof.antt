@@ -4,9 +4,9 @@ use mathlib.Core.Path.{_≡_, refl, sym, ap, _∙_}
 use native.Mathlib.Omega.{arith}
 use mir.Syntax.{w64}
 use mir.Facts.{toZ-ofZ}
-use Rattle.chronicle.specs.declared.nations.NationEvents.{NationEvents}
-use Rattle.chronicle.specs.Outcomes.{NationCells, callNationEvents}
-use Rattle.chronicle.specs.Cases.{nationsAnswer, nationCells}
+use Rattle.nations.specs.declared.nations.NationEvents.{NationEvents}
+use Rattle.rules.specs.Outcomes.{NationCells, callNationEvents}
+use Rattle.nations.specs.Cases.{nationsAnswer, nationCells}
 use Rattle.page.proofs.HostLaws.{returns-of, slices-short, slices-refused, slices-given, counts-narrow}
 use borrow.Author.Needs.{needs}
 use Rattle.page.proofs.nation_events.Statement.{statement}
@@ -110,7 +110,7 @@ returns-3 : tie.Need-returns-3
 returns-3 c =
     let known : tie.After-slice-known11 = c .before .before .before .before in
     let refusal = told known _ (c .before .before .number .given .1) in
-    returns-of (slices-refused _ _ (roomy known .if1 .left) _ _ refusal) (toZ-ofZ {w = w64} (record { sfits = c .minus2 .ok }) ∙ c .minus2 .ensures)
+    returns-of (slices-refused _ _ _ _ refusal) (toZ-ofZ {w = w64} (record { sfits = c .minus2 .ok }) ∙ c .minus2 .ensures)
 
 pub nation-events-spec : {M : Type 1} → statement M
 nation-events-spec =

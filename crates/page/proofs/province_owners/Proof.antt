@@ -4,8 +4,8 @@ use Prim.Native.Nat.{_≤_}
 use native.Mathlib.Omega.{arith}
 use mir.Syntax.{w64}
 use mir.Facts.{toZ-pos, toZ-ofZ}
-use Rattle.chronicle.specs.Cases.{ownersAnswer, ownersOutcome}
-use Rattle.chronicle.proofs.OutcomeLaws.{owners-few}
+use Rattle.owner_changes.specs.Cases.{ownersAnswer, ownersOutcome}
+use Rattle.owner_changes.proofs.OutcomeLaws.{owners-few}
 use Rattle.page.proofs.HostLaws.{returns-of}
 use borrow.Author.Needs.{needs}
 use Rattle.page.proofs.province_owners.Statement.{statement}

@@ -1,0 +1,7 @@
+pub mod ChangeLaws
+pub mod KeyLaws
+pub mod FillLaws
+pub mod RoomLaws
+pub mod OutcomeLaws
+pub mod CountLaws
+pub mod WrittenLaws

@@ -1,0 +1,107 @@
+// What is asked of owner changes: all of them in order, and the run of a date.
+use crate::changes;
+use crate::changes::NextChange;
+use crate::keys;
+use record::Dated;
+use record::Eu4Date;
+use record::Opened;
+use record::Provinces;
+ghost use mathlib.Core.Path.{_≡_};
+ghost use Rattle.lists.specs.Lists.{one as oneOf};
+ghost use Rattle.record.specs.Campaign.{campaignOf};
+ghost use Rattle.rules.specs.Lent.{gives};
+ghost use Rattle.rules.specs.Changes.{changesOf, eventsOn};
+ghost use Rattle.rules.specs.Outcomes.{callProvinceOwners, callEventsOn};
+ghost use Rattle.owner_changes.specs.Cases.{ownersOutcome, eventsOnAnswer};
+ghost use Rattle.owner_changes.specs.ChangeSteps.{Ready};
+
+// How many changes a campaign can have: as many as owner events.
+const MOST: usize = 60000;
+
+// The number of changes, whose rows are written, or the number of the refusal.
+pub enum Owners {
+    Rows(usize),
+    Refused(u32),
+}
+
+// Sorts and counts the changes before the first cell is written.
+fn owner_rows(s: &[u8], provinces: Provinces, out: &mut [u32]) -> Owners
+    requires { ⌜ Ready (now s) provinces ⌝ }
+    ensures { λ r. ⌜ ownersOutcome r (now (out .exit)) ≡ callProvinceOwners (now (s .entry)) (now (out .entry)) ⌝ }
+{
+    let mut sorted = [0u64; MOST];
+    let mut tags = [0u64; MOST];
+    let n = keys::sort_changes(s, provinces, &mut sorted, &mut tags);
+    if out.len() < keys::CHANGE_WIDTH * n {
+        return Owners::Refused(10);
+    }
+    keys::write_rows(&sorted[0..n], &tags[0..n], out);
+    Owners::Rows(n)
+}
+
+// All owner changes, the earliest first and on one day those of the lowest id, with a row of four words each; returns how many.
+// A bad record is refused by its number, a slice that is too short by 10.
+pub fn province_owners(s: &[u8], out: &mut [u32]) -> Owners
+    ensures { λ r. ⌜ ownersOutcome r (now (out .exit)) ≡ callProvinceOwners (now (s .entry)) (now (out .entry)) ⌝ }
+{
+    match record::open_record(s) {
+        Opened::Accepted(rows) => {
+            let provinces = rows.provinces;
+            owner_rows(s, provinces, out)
+        }
+        Opened::Refused(number) => Owners::Refused(number),
+    }
+}
+
+// Where the changes of a date begin, and how many there are, or the number of the refusal.
+pub enum EventsOn {
+    Run(usize, usize),
+    Refused(u32),
+}
+
+// 1 if it is so, else 0.
+fn one(b: bool) -> usize
+    ensures { λ r. ⌜ r ≡ oneOf b ⌝ }
+{
+    if b { 1 } else { 0 }
+}
+
+// How many changes are before the day, and how many are on it: their order does not matter.
+fn count_on(s: &[u8], provinces: Provinces, day: Eu4Date) -> EventsOn
+    requires { ⌜ Ready (now s) provinces ⌝ }
+    ensures { λ r. ⌜ eventsOnAnswer r ≡ gives (eventsOn (changesOf (campaignOf (now (s .entry)))) day) ⌝ }
+{
+    let mut at = provinces.next(s);
+    let mut first = 0;
+    let mut count = 0;
+    loop {
+        match changes::next_change(s, at) {
+            NextChange::Row(x, rest) => {
+                let date = x.date;
+                first += one(date.earlier(day));
+                count += one(date.same(day));
+                at = rest;
+            }
+            NextChange::End => {
+                return EventsOn::Run(first, count);
+            }
+        }
+    }
+}
+
+// The run of changes with a date, among those that `province_owners` writes: with none, where it would begin, and 0. A bad record is
+// refused by its number, a bad date by 12, whatever its type says.
+pub fn events_on(s: &[u8], date: Eu4Date) -> EventsOn
+    ensures { λ r. ⌜ eventsOnAnswer r ≡ callEventsOn (now (s .entry)) (date .0) ⌝ }
+{
+    match record::open_record(s) {
+        Opened::Accepted(rows) => match Eu4Date::of_word(date.word()) {
+            Dated::Date(day) => {
+                let provinces = rows.provinces;
+                count_on(s, provinces, day)
+            }
+            Dated::NoDate => EventsOn::Refused(12),
+        },
+        Opened::Refused(number) => EventsOn::Refused(number),
+    }
+}
