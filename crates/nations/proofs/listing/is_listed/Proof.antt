@@ -1,0 +1,36 @@
+-- The lookup answers the last row of the initial, and the walk whether it holds a slot ever.
+use mathlib.Core.Path.{sym, ap, _∙_}
+use native.Mathlib.Omega.{arith}
+use borrow.Author.Needs.{needs}
+use lib.Seq.{take-length}
+use lib.Dec.{leb}
+use Rattle.sorting.specs.Sort.{sortBy}
+use Rattle.nations.proofs.listing.is_listed.Statement.{statement}
+use Rattle.nations.proofs.listing.is_listed.Tie as tie
+
+cast-row : tie.Need-cast-row
+cast-row c = search needs
+
+mul-low : tie.Need-mul-low
+mul-low c = search needs
+
+add-last-within : tie.Need-add-last-within
+add-last-within c = search needs
+
+last-within-requires : tie.Need-last-within-requires
+last-within-requires c κs =
+    let all = take-length (c .before .args .initial-keys .now) in
+    record { inside = omega arith; sorted = ap (sortBy leb) all ∙ c .before .pre .0 ∙ sym all }
+
+holds-ever-requires : tie.Need-holds-ever-requires
+holds-ever-requires c κs = search needs
+
+returns : tie.Need-returns
+returns c =
+    let all = take-length (c .before .before .before .args .initial-keys .now) in
+    rw (c .before .last-within .ensures, c .holds-ever .ensures, all)
+
+pub is-listed-spec : {M : Type 1} → statement M
+is-listed-spec =
+    tie.close
+    (tie.spec cast-row mul-low add-last-within last-within-requires holds-ever-requires returns)

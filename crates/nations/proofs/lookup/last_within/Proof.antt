@@ -1,0 +1,74 @@
+-- The key before the count of keys below `high` is the last one below `high`: if it is not below `low`, it is the last between.
+use mathlib.Core.Path.{_∙_}
+use Prim.Native.Nat.{_≤_}
+use native.Mathlib.Nat.{sub-zero}
+use borrow.Author.Needs.{needs}
+use Rattle.nations.proofs.tables.LookupLaws.{count-inside, no-last, last-too-low, last-found}
+use Rattle.nations.proofs.lookup.last_within.Statement.{statement}
+use Rattle.nations.proofs.lookup.last_within.Tie as tie
+
+sub-lower-bound : tie.Need-sub-lower-bound
+sub-lower-bound c = search needs
+
+part-lower-bound-start : tie.Need-part-lower-bound-start
+part-lower-bound-start c = search needs
+
+part-lower-bound-end : tie.Need-part-lower-bound-end
+part-lower-bound-end c = search needs
+
+lower-bound-requires : tie.Need-lower-bound-requires
+lower-bound-requires c κs = rw sub-zero (c .before .before .pre .sorted)
+
+returns : tie.Need-returns
+returns c =
+    let s0 = c .before .before .before .before in
+    let g = s0 .args in
+    no-last (g .low) (g .high) (g .keys .now) (g .n) (s0 .pre) _ (c .before .lower-bound .ensures) (search needs)
+
+sub-key : tie.Need-sub-key
+sub-key c = search needs
+
+-- no more keys are below `high` than there are
+inside : (c : tie.Else1) → c .before .lower-bound .result ≤ c .before .before .before .before .args .n
+inside c =
+    let s0 = c .before .before .before .before in
+    let g = s0 .args in
+    count-inside (g .low) (g .high) (g .keys .now) (g .n) (s0 .pre) _ (c .before .lower-bound .ensures)
+
+mul-key : tie.Need-mul-key
+mul-key c = let l = inside c in search needs
+
+shared-slice-read-key : tie.Need-shared-slice-read-key
+shared-slice-read-key c = let l = inside (c .before) in search needs
+
+returns-2 : tie.Need-returns-2
+returns-2 c =
+    let s0 = c .before .before .before .before .before .before in
+    let g = s0 .args in
+    last-too-low (g .low) (g .high) (g .keys .now) (g .n) (s0 .pre) _ (c .before .before .before .lower-bound .ensures) (search needs) (search needs)
+
+row-in-requires : tie.Need-row-in-requires
+row-in-requires c κs = search needs
+
+returns-3 : tie.Need-returns-3
+returns-3 c =
+    let s0 = c .before .before .before .before .before .before .before in
+    let g = s0 .args in
+    c .row-in .ensures
+    ∙ last-found (g .low) (g .high) (g .keys .now) (g .n) (s0 .pre) _ (c .before .before .before .before .lower-bound .ensures) (search needs) (search needs)
+
+pub last-within-spec : {M : Type 1} → statement M
+last-within-spec =
+    tie.close
+    (tie.spec
+    sub-lower-bound
+    part-lower-bound-start
+    part-lower-bound-end
+    lower-bound-requires
+    returns
+    sub-key
+    mul-key
+    shared-slice-read-key
+    returns-2
+    row-in-requires
+    returns-3)

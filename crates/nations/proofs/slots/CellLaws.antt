@@ -1,0 +1,166 @@
+-- Lists of cells that are written one cell after the other, and counted.
+use mathlib.Core.Path.{_≡_, refl, sym, ap, ap₂, _∙_}
+use mathlib.Core.List.{List, [], _∷_, _++_, map}
+use Prim.Native.Nat.{ℕ, zero, suc, _+_, _-_, _%_, _≤_, _<_}
+use native.Mathlib.Nat.{sub-zero}
+use native.Mathlib.Numerals.{add-one}
+use native.Mathlib.Omega.{arith}
+use borrow.Author.Tests.{eqb-true, eqb-false}
+use lib.Dec.{eqb}
+use lib.ListN.{length, getD, set, take, drop, length-set, length-map, List·getD-map}
+use lib.Seq.{length-take-le, take-all, take-at, take-suc, set-out, ext-getD, getD-drop, getD-set-same, getD-set-other}
+use Rattle.lists.specs.Lists.{countOf, numbersFrom}
+use Rattle.lists.proofs.BoolLaws.{cases}
+use Rattle.lists.proofs.FillLaws.{Filling}
+use Rattle.lists.proofs.ListLaws.{length-numbers, numbers-at, count-append, count-le}
+use Rattle.rules.specs.Lent.{written}
+use Rattle.nations.specs.Turning.{lows}
+use Rattle.nations.specs.Holders.{slotCounts}
+
+-- ## Lists
+
+-- A front of elements before others, found by its length.
+pub front : {A : Type 0} (n : ℕ) (part all rest : List A) → part ≡ all → length all ≡ n → take n (part ++ rest) ≡ all
+front n part all rest e l = take-at part rest n (ap length e ∙ l) ∙ e
+
+-- A cell that is not yet written is as it was.
+pub filling-kept : {A : Type 0} (all rest before : List A) (k : ℕ) (now : List A) (d : A) → Filling all rest before k now → getD now k d ≡ getD before k d
+filling-kept all rest before k now d f =
+    let none : k + 0 ≡ k = omega arith in
+    ap (λ (i : ℕ). getD now i d) (sym none)
+    ∙ sym (getD-drop k now 0 d)
+    ∙ ap (λ (l : List _). getD l 0 d) (f .back)
+    ∙ getD-drop k before 0 d
+    ∙ ap (λ (i : ℕ). getD before i d) none
+
+-- ## Counting the slots of each row
+
+-- No slot is counted yet.
+zeros : (a : ℕ) (l : List ℕ) → map {B = ℕ} (λ _. 0) l ≡ map {B = ℕ} (λ _. 0) (numbersFrom a (length l))
+zeros a [] = refl
+zeros a (x ∷ l) = ap (λ (m : List ℕ). 0 ∷ m) (zeros (suc a) l)
+
+pub counts-none : (l : List ℕ) → map (λ _. 0) l ≡ slotCounts [] (length l)
+counts-none l = zeros 0 l
+
+-- A cell for each row.
+pub length-counts : (rows : List ℕ) (n : ℕ) → length (slotCounts rows n) ≡ n
+length-counts rows n = length-map (numbersFrom 0 n) (λ r. countOf (λ x. eqb x r) rows) ∙ length-numbers 0 n
+
+-- The cell of a row.
+count-at : (rows : List ℕ) (n r : ℕ) → r < n → getD (slotCounts rows n) r 0 ≡ countOf (λ x. eqb x r) rows
+count-at rows n r h =
+    let sum : 0 + r ≡ r = omega arith in
+    numbers-at (λ i. countOf (λ x. eqb x i) rows) 0 0 n r h ∙ ap (λ (i : ℕ). countOf (λ x. eqb x i) rows) sum
+
+-- A row has no more slots than there are.
+pub count-small : (rows : List ℕ) (n r : ℕ) → r < n → getD (slotCounts rows n) r 0 ≤ length rows
+count-small rows n r h = omega (arith, count-at rows n r h, count-le (λ x. eqb x r) rows)
+
+-- One slot more: its row has one more, if it is one.
+counts-more : (rows : List ℕ) (x n : ℕ) → set (slotCounts rows n) x (getD (slotCounts rows n) x 0 + 1) ≡ slotCounts (rows ++ (x ∷ [])) n
+counts-more rows x n =
+    let old : List ℕ = slotCounts rows n in
+    let v : ℕ = getD old x 0 + 1 in
+    let size : length (set old x v) ≡ n = length-set old x v ∙ length-counts rows n in
+    ext-getD 0 (set old x v) (slotCounts (rows ++ (x ∷ [])) n) (size ∙ sym (length-counts (rows ++ (x ∷ [])) n))
+    (λ r l. let inside : r < n = omega arith in
+    let room : r < length old = omega (arith, length-counts rows n) in
+    let new : getD (slotCounts (rows ++ (x ∷ [])) n) r 0 ≡ countOf (λ y. eqb y r) rows + countOf (λ y. eqb y r) (x ∷ []) =
+    count-at (rows ++ (x ∷ [])) n r inside ∙ count-append (λ y. eqb y r) rows (x ∷ []) in
+    cases (eqb x r)
+    (λ g. let e : x ≡ r = eqb-true x r g in
+    ap (λ (i : ℕ). getD (set old i (getD old i 0 + 1)) r 0) e
+    ∙ getD-set-same old r (getD old r 0 + 1) 0 room
+    ∙ ap (λ (m : ℕ). m + 1) (count-at rows n r inside)
+    ∙ sym (new ∙ simp g))
+    (λ g. getD-set-other old x r v 0 (λ e. eqb-false x r g (sym e))
+    ∙ count-at rows n r inside
+    ∙ sym (new ∙ simp g (omega arith))))
+
+module _ (rows : List ℕ) (i n : ℕ) (h : i < length rows) where
+  -- The next slot has a row.
+  pub counts-next : set (slotCounts (take i rows) n) (getD rows i 0) (getD (slotCounts (take i rows) n) (getD rows i 0) 0 + 1)
+      ≡ slotCounts (take (i + 1) rows) n
+  counts-next =
+      counts-more (take i rows) (getD rows i 0) n
+      ∙ ap (λ (l : List ℕ). slotCounts l n) (sym (take-suc rows i 0 h) ∙ ap (λ (j : ℕ). take j rows) (sym (add-one i)))
+
+  -- It has none.
+  pub counts-outside : n ≤ getD rows i 0 → slotCounts (take i rows) n ≡ slotCounts (take (i + 1) rows) n
+  counts-outside l =
+      sym (set-out (slotCounts (take i rows) n) (getD rows i 0) _ (omega (arith, length-counts (take i rows) n))) ∙ counts-next
+
+-- Counts in the front of a slice, where the front was lent.
+pub counts-written : (rows before counts : List ℕ) (n : ℕ) → n ≤ length before → counts ≡ slotCounts rows (length (take (n - 0) before))
+    → counts ++ drop (n - 0) before ≡ written (slotCounts rows n) before
+counts-written rows before counts n h e =
+    let size : length (take (n - 0) before) ≡ n = rw (sub-zero n) (length-take-le n before h) in
+    ap₂ (λ (l : List ℕ) (k : ℕ). l ++ drop k before) (e ∙ ap (slotCounts rows) size) (sub-zero n ∙ sym (length-counts rows n))
+
+-- The slots before i are counted, by the rows in their cells.
+pub record SlotsCounting (slots counts₀ counts : List ℕ) (i : ℕ) : Type 0 where
+  pub inside : i ≤ length slots
+  pub cells : counts ≡ slotCounts (take i (lows slots)) (length counts₀)
+
+-- Cells of 0 count no slot.
+pub counting-none : (slots before counts : List ℕ) → counts ≡ map (λ _. 0) before → SlotsCounting slots counts counts 0
+counting-none slots before counts e =
+    record {
+      inside = omega arith;
+      cells = e ∙ counts-none before ∙ ap (slotCounts []) (sym (ap length e ∙ length-map before (λ _. 0)));
+    }
+
+module _ (slots counts₀ counts : List ℕ) (i : ℕ) (q : SlotsCounting slots counts₀ counts i) where
+  -- As many cells as at first.
+  pub counting-long : length counts ≡ length counts₀
+  counting-long = ap length (q .cells) ∙ length-counts (take i (lows slots)) (length counts₀)
+
+  -- As many rows as slots.
+  rows-long : length (lows slots) ≡ length slots
+  rows-long = length-map slots (λ x. x % 65536)
+
+  module _ (h : i < length slots) where
+    -- The row in the next slot's cell.
+    row-here : getD (lows slots) i 0 ≡ getD slots i 0 % 65536
+    row-here = List·getD-map (λ x. x % 65536) slots i 0
+
+    -- So few that one more has room.
+    pub counting-few : (row : ℕ) → row < length counts → getD counts row 0 ≤ i
+    counting-few row l =
+        let r = rows-long in
+        let n = q .inside in
+        omega (
+          arith,
+          ap (λ (l : List ℕ). getD l row 0) (q .cells),
+          count-small (take i (lows slots)) (length counts₀) row (omega (arith, counting-long)),
+          length-take-le i (lows slots) (omega arith),
+        )
+
+    -- The next slot is counted.
+    pub counting-next : SlotsCounting slots counts₀ (set counts (getD slots i 0 % 65536) (getD counts (getD slots i 0 % 65536) 0 + 1)) (i + 1)
+    counting-next =
+        let r = rows-long in
+        record {
+          inside = omega arith;
+          cells =
+              ap (λ (n : ℕ). set counts n (getD counts n 0 + 1)) (sym row-here)
+              ∙ ap (λ (l : List ℕ). set l (getD (lows slots) i 0) (getD l (getD (lows slots) i 0) 0 + 1)) (q .cells)
+              ∙ counts-next (lows slots) i (length counts₀) (omega arith);
+        }
+
+    -- It has no row.
+    pub counting-past : length counts ≤ getD slots i 0 % 65536 → SlotsCounting slots counts₀ counts (i + 1)
+    counting-past l =
+        let r = rows-long in
+        let e = row-here in
+        record {
+          inside = omega arith;
+          cells = q .cells ∙ counts-outside (lows slots) i (length counts₀) (omega arith) (omega (arith, counting-long));
+        }
+
+  -- All slots are counted.
+  pub counting-done : (before : List ℕ) → counts₀ ≡ map (λ _. 0) before → length slots ≤ i → counts ≡ slotCounts (lows slots) (length before)
+  counting-done before e h =
+      let r = rows-long in
+      q .cells ∙ ap₂ slotCounts (take-all i (lows slots) (omega arith)) (ap length e ∙ length-map before (λ _. 0))

@@ -1,0 +1,12 @@
+pub mod Turning
+pub mod Keys
+pub mod Lookup
+pub mod Countries
+pub mod Settling
+pub mod Starting
+pub mod Holders
+pub mod Switches
+pub mod Entries
+pub mod Listing
+pub mod NationSteps
+pub mod Cases

@@ -1,0 +1,183 @@
+-- The listed nations in the order of the keys of initials, as they are read from cells. No public promise cites these: they are how the
+-- nations are computed.
+use mathlib.Core.Path.{_≡_}
+use mathlib.Core.Bool.{Bool, false, cond, _&&_, _||_}
+use mathlib.Core.List.{List, [], _∷_}
+use Prim.Native.Nat.{ℕ, suc, _+_, _-_, _*_, _/_, _≤_, _<_}
+use lib.Dec.{leb, ltb, eqb}
+use lib.ListN.{length, getD, take, drop}
+use Rattle.lists.specs.Lists.{All, joinOf, twice}
+use Rattle.sorting.specs.Sort.{sortBy}
+use Rattle.record.specs.declared.date.Eu4Date.{Eu4Date}
+use Rattle.record.specs.Sound.{Sound}
+use Rattle.record.specs.Campaign.{Campaign}
+use Rattle.nations.specs.declared.lives.Lives.{Lives}
+use Rattle.nations.specs.declared.listing.Listed.{Listed}
+use Rattle.rules.specs.Chronicle.{Entry, Nation}
+use Rattle.rules.specs.Lent.{written}
+use Rattle.rules.specs.NationRows.{nationRowWords, nationRowsFrom, nationWords, entryWords}
+use Rattle.nations.specs.Lookup.{rowIn, lastWithin}
+use Rattle.nations.specs.Countries.{tagWords, initialWords, rowKeys, Keyed}
+use Rattle.nations.specs.Turning.{highs, lows, Lived, livedLeft, firstLives, Chained, Linked, Rowed, rowTurnsOf}
+use Rattle.nations.specs.Holders.{startedOf}
+use Rattle.nations.specs.Switches.{runStart, runKeys, targetWords}
+use Rattle.nations.specs.Entries.{mergedEntries, latestTag}
+
+-- ## What is read
+
+-- The words of tags, the keys of initials, the keys and targets of switches, the chains of changes with their first ones for each row, the
+-- slots that each row starts with, the keys of changes, and the start date.
+pub record Cells : Type 0 where
+  pub tags : List ℕ
+  pub initials : List ℕ
+  pub runs : List ℕ
+  pub targets : List ℕ
+  pub losses : List ℕ
+  pub gains : List ℕ
+  pub started : List ℕ
+  pub keys : List ℕ
+  pub olds : List ℕ
+  pub news : List ℕ
+  pub start : Eu4Date
+
+-- The cells as they are lent: the first losses and gains share cells, and so do the links of changes.
+abbrev pub cellsFrom : List ℕ → List ℕ → List ℕ → List ℕ → List ℕ → List ℕ → List ℕ → List ℕ → Eu4Date → Cells
+cellsFrom tags initials runs targets firsts started keys turns start =
+    record {
+      tags = tags;
+      initials = initials;
+      runs = runs;
+      targets = targets;
+      losses = highs firsts;
+      gains = lows firsts;
+      started = started;
+      keys = keys;
+      olds = highs turns;
+      news = lows turns;
+      start = start;
+    }
+
+-- The same cells with other tags and targets.
+abbrev pub retold : Cells → List ℕ → List ℕ → Cells
+retold w tags targets =
+    record {
+      tags = tags;
+      initials = w .initials;
+      runs = w .runs;
+      targets = targets;
+      losses = w .losses;
+      gains = w .gains;
+      started = w .started;
+      keys = w .keys;
+      olds = w .olds;
+      news = w .news;
+      start = w .start;
+    }
+
+-- ## The nation of a key
+
+-- The walk over the lives of a row's country.
+abbrev pub walkOf : Cells → ℕ → Lives
+walkOf w row = firstLives (w .losses) (w .gains) row (getD (w .started) row 0)
+
+-- What it tells.
+abbrev pub livedOf : Cells → ℕ → Lived
+livedOf w row = livedLeft (w .start) (w .keys) (w .olds) (w .news) (walkOf w row)
+
+-- The keys of the row's switches.
+abbrev pub runOf : List ℕ → ℕ → List ℕ
+runOf runs row = take (runStart (suc row) runs - runStart row runs) (drop (runStart row runs) runs)
+
+-- The row's entries.
+abbrev pub entriesAt : Cells → ℕ → List Entry
+entriesAt w row = mergedEntries (w .targets) (runOf (w .runs) row) (livedOf w row .entries)
+
+-- Of a key of an initial: it is the last one with that initial, and the walk holds a slot now or gains one later.
+abbrev pub isListed : List ℕ → ℕ → Lives → Bool
+isListed initials key walk =
+    eqb (lastWithin (key / 2048 * 2048) (key / 2048 * 2048 + 2048) initials) (rowIn key)
+    && (ltb 0 (walk .held) || ltb (walk .gain) 65535)
+
+-- The nation of a key.
+abbrev pub nationOfKey : Cells → ℕ → Nation
+nationOfKey w key =
+    record {
+      initial = record { 0 = key / 2048 };
+      latest = latestTag (w .targets) (runOf (w .runs) (rowIn key)) (record { 0 = key / 2048 });
+      stored = record { 0 = getD (w .tags) (rowIn key) 0 };
+      entries = entriesAt w (rowIn key);
+    }
+
+-- It, if it is listed.
+unfoldable pub keyNations : Cells → ℕ → List Nation
+keyNations w key = cond (isListed (w .initials) key (walkOf w (rowIn key))) (nationOfKey w key ∷ []) []
+
+-- The nations of keys, in their order.
+abbrev pub nationsAt : Cells → List ℕ → List Nation
+nationsAt w keys = joinOf (keyNations w) keys
+
+-- How many nations, and how many entries they have.
+abbrev pub listedOf : List Nation → Listed
+listedOf ns = record { nations = length ns; entries = length (joinOf (λ n. n .entries) ns) }
+
+-- ## What the reading asks of the cells
+
+-- Chains that rise, keys in order, and rows that are countries'.
+pub record Readable (w : Cells) : Type 0 where
+  pub chained : Chained (w .keys) (w .olds) (w .news)
+  pub runs : sortBy leb (w .runs) ≡ w .runs
+  pub initials : sortBy leb (w .initials) ≡ w .initials
+  pub few : length (w .initials) ≤ 2048
+  pub fewRuns : length (w .runs) ≤ 32768
+  pub tagRows : All (λ key. rowIn key < length (w .tags)) (w .initials)
+  pub startRows : All (λ key. rowIn key < length (w .started)) (w .initials)
+  pub lossRows : All (λ key. rowIn key < length (w .losses)) (w .initials)
+  pub gainRows : All (λ key. rowIn key < length (w .gains)) (w .initials)
+  pub words : All (λ key. key < 8796093022208) (w .initials)
+  pub started : All (λ n. n ≤ 65536) (w .started)
+
+-- ## What the functions leave
+
+-- The count does not hang on the tags, nor on the targets.
+pub record Counted (w : Cells) (r : Listed) : Type 0 where
+  pub listed : (tags targets : List ℕ) → r ≡ listedOf (nationsAt (retold w tags targets) (w .initials))
+
+-- Room for the rows of nations and of their entries.
+pub record NationsRoom (ns : List Nation) (rows₀ entries₀ : List ℕ) : Type 0 where
+  pub rows : length (nationWords ns) ≤ length rows₀
+  pub entries : length (entryWords ns) ≤ length entries₀
+
+-- The rows of nations, the first of whose entries has a number, and of their entries, and how many they are.
+pub record NationsPut (ns : List Nation) (first : ℕ) (r : Listed) (rows₀ rows₁ entries₀ entries₁ : List ℕ) : Type 0 where
+  pub listed : r ≡ listedOf ns
+  pub rows : rows₁ ≡ written (joinOf nationRowWords (nationRowsFrom first ns)) rows₀
+  pub entries : entries₁ ≡ written (entryWords ns) entries₀
+
+-- The rows of the nations, and of their entries.
+pub record NationsWritten (ns : List Nation) (rows₀ rows₁ entries₀ entries₁ : List ℕ) : Type 0 where
+  pub rows : rows₁ ≡ written (nationWords ns) rows₀
+  pub entries : entries₁ ≡ written (entryWords ns) entries₀
+
+-- ## Cells of a campaign
+
+-- The tables of its countries, the runs and targets of its switches, and the chains of its turns by rows.
+pub record CampaignCells (c : Campaign) (w : Cells) : Type 0 where
+  pub keyed : Keyed (c .countries)
+  pub once : twice (tagWords (c .countries)) ≡ false
+  pub sound : Sound c
+  pub tags : w .tags ≡ tagWords (c .countries)
+  pub initials : w .initials ≡ rowKeys (initialWords (c .countries))
+  pub runs : w .runs ≡ runKeys (c .countries)
+  pub fewRuns : length (w .runs) ≤ 20000
+  pub targets : w .targets ≡ targetWords (c .countries)
+  pub start : w .start ≡ c .start
+  pub started : w .started ≡ startedOf c
+  pub oldRows : List ℕ
+  pub newRows : List ℕ
+  pub rowed : Rowed (w .keys) oldRows newRows (rowTurnsOf c)
+  pub few : length (w .keys) ≤ 60000
+  pub losses : Linked oldRows (w .olds) (w .losses)
+  pub gains : Linked newRows (w .news) (w .gains)
+  pub lossRows : length (c .countries) ≤ length (w .losses)
+  pub gainRows : length (c .countries) ≤ length (w .gains)
+  pub slots : length (c .provinces) ≤ 8000
