@@ -1,0 +1,3 @@
+pub mod RowAtLaws
+pub mod ShapeLaws
+pub mod NumberedLaws

@@ -1,0 +1,127 @@
+-- Between two blocks: some claims are passed, the walk has the others left, and each row holds the best of those passed.
+use mathlib.Core.Path.{_≡_, refl, sym, ap, _∙_}
+use mathlib.Core.Bool.{true}
+use mathlib.Core.List.{List, [], _∷_, _++_, map, append-assoc, append-nil}
+use Prim.Native.Nat.{ℕ, zero, suc, _+_, _-_, _<_, _≤_}
+use native.Mathlib.Nat.{sub-zero}
+use native.Mathlib.Omega.{arith}
+use lib.Dec.{leb}
+use lib.ListN.{length, take, drop, length-append, length-take, length-drop, take-append-drop}
+use lib.Seq.{take-at}
+use Rattle.lists.specs.Lists.{All, allOf}
+use Rattle.lists.proofs.ListLaws.{all-map, all-take}
+use Rattle.sorting.specs.Sort.{sortBy}
+use Rattle.sorting.proofs.SortLaws.{length-sort}
+use Rattle.sorting.proofs.KeyLaws.{sort-again}
+use Rattle.rules.specs.NationRows.{nationRowsIn, wellShaped}
+use Rattle.rules.specs.Questions.{questionsIn, questionShaped}
+use Rattle.resolver.specs.declared.claims.Claim.{Claim}
+use Rattle.resolver.specs.declared.claims.Walk.{Walk}
+use Rattle.resolver.specs.Claims.{claimsIn, claimsLeft, walkStart}
+use Rattle.resolver.proofs.ClaimLaws.{walk-start}
+use Rattle.questions.specs.Keys.{keysFrom, SortsBlock, roomOf}
+use Rattle.questions.specs.Passes.{rowsWith, blankRow, blockRow, bestRow}
+use Rattle.questions.proofs.BlockLaws.{length-keys}
+use Rattle.questions.proofs.GoodLaws.{Sound, claims-sound}
+use Rattle.questions.proofs.RowsLaws.{block-rows, blank-rows}
+
+pub record Between (ws es qs before : List ℕ) (walk : Walk) (out keys owners scratch : List ℕ) : Type 0 where
+  pub passed : List Claim
+  pub whole : claimsIn ws es ≡ passed ++ claimsLeft ws es walk
+  pub cells : out ≡ rowsWith (bestRow qs passed) (length (questionsIn qs)) before
+  pub long : length out ≡ length before
+  pub keys-long : length keys ≡ 24576
+  pub owners-long : length owners ≡ 24576
+  pub scratch-long : length scratch ≡ 24576
+
+-- ## The first block
+
+pub between-start : (ws es qs before out : List ℕ) (walk : Walk) (n : ℕ) (keys owners scratch : List ℕ) → n ≡ length (questionsIn qs) → out ≡ rowsWith blankRow n before → walk ≡ walkStart
+    → length keys ≡ 24576 → length owners ≡ 24576 → length scratch ≡ 24576 → Between ws es qs out walk out keys owners scratch
+between-start ws es qs before out walk n keys owners scratch m e w k o s =
+    record {
+      passed = [];
+      whole = sym (ap (claimsLeft ws es) w ∙ walk-start ws es);
+      cells = rw (← m) (blank-rows qs n before out e);
+      long = refl;
+      keys-long = k;
+      owners-long = o;
+      scratch-long = s;
+    }
+
+-- ## A block
+
+module _ (left rest : List Claim) (room count : ℕ) (keys₀ keys₁ owners₀ owners₁ scratch₀ scratch₁ : List ℕ) (b : SortsBlock left rest room count keys₀ keys₁ owners₀ owners₁ scratch₀ scratch₁) where
+  block : List Claim
+  block = take room left
+
+  sorted : List ℕ
+  unfolding block
+  sorted = sortBy leb (keysFrom 0 block)
+
+  sorted-long : length sorted ≡ count
+  unfolding sorted block
+  sorted-long = length-sort leb (keysFrom 0 block) ∙ (length-keys 0 block ∙ sym (b .counted))
+
+  pub sorted-inside : count ≤ length keys₁
+  unfolding sorted block
+  sorted-inside = omega (arith, sorted-long, ap length (b .keys) ∙ length-append sorted (drop (length sorted) keys₀))
+
+  part-sorted : take (count - 0) keys₁ ≡ sorted
+  unfolding sorted block
+  part-sorted = rw (sub-zero count) (ap (take count) (b .keys) ∙ take-at sorted (drop (length sorted) keys₀) count sorted-long)
+
+  pub part-in-order : sortBy leb (take (count - 0) keys₁) ≡ take (count - 0) keys₁
+  unfolding sorted block
+  part-in-order = ap (sortBy leb) part-sorted ∙ (sort-again (keysFrom 0 block) ∙ sym part-sorted)
+
+  -- Nothing was taken because nothing was left.
+  pub nothing-left : 0 < room → count ≡ 0 → left ≡ []
+  nothing-left h e = go left room h (sym (b .counted) ∙ e)
+    where
+      go : (l : List Claim) (r : ℕ) → 0 < r → length (take r l) ≡ 0 → l ≡ []
+      go l zero p q = absurd (omega arith)
+      go [] (suc r) p q = refl
+      go (c ∷ l) (suc r) p q = absurd (omega arith)
+
+  pub fewer-left : (count ≡ 0 → ⊥) → length rest < length left
+  fewer-left h = omega (arith, b .counted, length-take room left, ap length (b .behind) ∙ length-drop room left)
+
+  block-few : room ≤ 65536 → length (take room left) ≤ 65536
+  block-few h = omega (arith, length-take room left)
+
+all-behind : {A : Type 0} (P : A → Type 0) (xs ys : List A) → All P (xs ++ ys) → All P ys
+all-behind P [] ys q = q
+all-behind P (x ∷ xs) ys q = all-behind P xs ys (q .1)
+
+module _ (ws es qs before : List ℕ) (walk : Walk) (out keys owners scratch : List ℕ) (t : Between ws es qs before walk out keys owners scratch) where
+  pub between-end : claimsLeft ws es walk ≡ [] → out ≡ rowsWith (bestRow qs (claimsIn ws es)) (length (questionsIn qs)) before
+  between-end e =
+      let all : claimsIn ws es ≡ t .passed = t .whole ∙ (ap (λ (l : List Claim). t .passed ++ l) e ∙ append-nil (t .passed)) in
+      rw all (t .cells)
+
+  pub between-next : (rest : Walk) (count : ℕ) (keys₁ owners₁ scratch₁ new : List ℕ) → wellShaped ws es ≡ true → allOf questionShaped (questionsIn qs) ≡ true
+      → SortsBlock (claimsLeft ws es walk) (claimsLeft ws es rest) (roomOf keys owners) count keys keys₁ owners owners₁ scratch scratch₁
+      → new ≡ rowsWith (blockRow qs (take (count - 0) keys₁) owners₁ out) (length (questionsIn qs)) out
+      → length new ≡ length out → length keys₁ ≡ length keys → length owners₁ ≡ length owners → length scratch₁ ≡ length scratch
+      → Between ws es qs before rest new keys₁ owners₁ scratch₁
+  unfolding block sorted
+  between-next rest count keys₁ owners₁ scratch₁ new shaped good b w lo lk lw ls =
+      let left = claimsLeft ws es walk in
+      let room = roomOf keys owners in
+      let ys : List Claim = take room left in
+      let all = rw (t .whole) at (claims-sound ws es shaped) in
+      let sound = all-take (Sound (length (nationRowsIn ws))) room left (all-behind (Sound (length (nationRowsIn ws))) (t .passed) left all) .0 in
+      record {
+        passed = t .passed ++ ys;
+        whole = t .whole ∙ (ap (λ (l : List Claim). t .passed ++ l) (sym (take-append-drop room left) ∙ ap (λ (l : List Claim). ys ++ l) (sym (b .behind))) ∙ sym (append-assoc (t .passed) ys (claimsLeft ws es rest)));
+        cells =
+            block-rows qs good (t .passed) ys (drop (length (map (λ (c : Claim). c .nation) ys)) owners) before (all-map (λ c s. s .good) ys sound)
+            (block-few left (claimsLeft ws es rest) room count keys keys₁ owners owners₁ scratch scratch₁ b (omega arith))
+            (take (count - 0) keys₁) owners₁ (part-sorted left (claimsLeft ws es rest) room count keys keys₁ owners owners₁ scratch scratch₁ b) (b .owners)
+            (length (questionsIn qs)) refl out new (t .cells) w;
+        long = lo ∙ t .long;
+        keys-long = lk ∙ t .keys-long;
+        owners-long = lw ∙ t .owners-long;
+        scratch-long = ls ∙ t .scratch-long;
+      }

@@ -1,0 +1,12 @@
+pub mod AskedLaws
+pub mod KeyLaws
+pub mod BlockLaws
+pub mod LookLaws
+pub mod AnsweredLaws
+pub mod WordLaws
+pub mod PassLaws
+pub mod BestLaws
+pub mod GoodLaws
+pub mod RowsLaws
+pub mod BetweenLaws
+pub mod EachLaws

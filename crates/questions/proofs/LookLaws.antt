@@ -1,0 +1,37 @@
+-- The last key of a tag that is not after a date, by the count of keys up to there.
+use mathlib.Core.Path.{_≡_, sym, ap, _∙_}
+use mathlib.Core.List.{List}
+use mathlib.Core.Option.{none, some}
+use Prim.Native.Nat.{ℕ, _+_, _-_, _≤_, _<_}
+use native.Mathlib.Omega.{arith}
+use lib.Dec.{leb, ltb}
+use lib.ListN.{getD}
+use Rattle.lists.specs.Lists.{keep, countOf, last}
+use Rattle.lists.proofs.BoundLaws.{last-none, last-below, last-there}
+use Rattle.lists.proofs.ElementLaws.{last-some}
+use Rattle.sorting.specs.Sort.{sortBy}
+use Rattle.sorting.proofs.KeyLaws.{sorted-up}
+use Rattle.record.specs.declared.tag.CountryTag.{CountryTag}
+use Rattle.record.specs.declared.date.Eu4Date.{Eu4Date}
+use Rattle.questions.specs.Keys.{lowestKey, Counts, isAskedKey, lastAsked}
+
+-- What the code has worked out: the lowest key of the tag, from date `zero`, the highest one not after the date, and the count up to it.
+module _ (tag : CountryTag) (date zero-date : Eu4Date) (keys : List ℕ) (low key i : ℕ) (z : zero-date .0 ≡ 0) (l : low ≡ lowestKey tag zero-date) (h : key ≡ lowestKey tag date)
+    (k : Counts keys (key + 65535 + 1) i) (s : sortBy leb keys ≡ keys) where
+  lowest : low ≡ lowestKey tag (record { 0 = 0 })
+  lowest = l ∙ ap (λ (w : ℕ). lowestKey tag (record { 0 = w })) z
+
+  upto : i ≡ countOf (λ x. ltb x (lowestKey tag date + 65536)) keys
+  upto = let e : key + 65535 + 1 ≡ lowestKey tag date + 65536 = omega arith in rw e at (k .counted s)
+
+  pub looked-none : i ≡ 0 → none ≡ lastAsked tag date keys
+  looked-none e = sym (ap last (last-none (lowestKey tag (record { 0 = 0 })) (lowestKey tag date + 65536) keys (sorted-up keys s) i upto e))
+
+  pub looked-below : (i ≡ 0 → ⊥) → getD keys (i - 1) 0 < low → none ≡ lastAsked tag date keys
+  looked-below e b =
+      sym (ap last (last-below (lowestKey tag (record { 0 = 0 })) (lowestKey tag date + 65536) keys (sorted-up keys s) i upto (omega arith) (omega (arith, lowest))))
+
+  pub looked-there : (i ≡ 0 → ⊥) → low ≤ getD keys (i - 1) 0 → some (getD keys (i - 1) 0) ≡ lastAsked tag date keys
+  looked-there e b =
+      sym (last-there (lowestKey tag (record { 0 = 0 })) (lowestKey tag date + 65536) keys (sorted-up keys s) i upto some none (omega arith) (omega (arith, lowest)))
+      ∙ last-some (keep (isAskedKey tag date) keys)

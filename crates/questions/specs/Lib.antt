@@ -1,0 +1,4 @@
+pub mod Cases
+pub mod Asked
+pub mod Keys
+pub mod Passes

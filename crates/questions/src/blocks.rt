@@ -1,0 +1,134 @@
+// Blocks of claims as sorted keys. A key holds a claim's tag, date and number in the block, so that the claims to a tag stand together
+// in the order of their dates, those of one date in list order.
+use record::CountryTag;
+use record::Eu4Date;
+use resolver::NextClaim;
+use resolver::Walk;
+use sorting::sort_keys;
+ghost use mathlib.Core.Path.{_≡_};
+ghost use Prim.Native.Nat.{_+_, _<_, _≤_, min};
+ghost use lib.Dec.{leb};
+ghost use Rattle.sorting.specs.Sort.{sortBy};
+ghost use Rattle.resolver.specs.Claims.{claimsLeft};
+ghost use Rattle.questions.specs.Keys.{tagBits, lowestKey, Fills, SortsBlock, roomOf, Counts, lastAsked, lookedTold};
+
+// The most claims that a block can have: a number takes 16 bits.
+const NUMBERS: usize = 65536;
+
+// A tag's 21 bits, seven for each byte.
+fn tag_bits(tag: CountryTag) -> u64
+    ensures { λ r. ⌜ (r ≡ tagBits tag) × (r < 2097152) ⌝ }
+{
+    let w = tag.word() as u64;
+    w / 65536 % 128 * 16384 + w / 256 % 128 * 128 + w % 128
+}
+
+// The lowest key of a tag and a date: the tag's 21 bits, the date's 27, and 16 for a number.
+fn key_of(tag: CountryTag, date: Eu4Date) -> u64
+    ensures { λ r. ⌜ (r ≡ lowestKey tag date) × (r + 65536 ≤ 18446744073709551616) ⌝ }
+{
+    tag_bits(tag) * 8796093022208 + date.word() as u64 % 134217728 * 65536
+}
+
+fn least(a: usize, b: usize) -> usize
+    ensures { λ r. ⌜ r ≡ min a b ⌝ }
+{
+    if a < b { a } else { b }
+}
+
+// How many claims were taken, and where to go on.
+pub struct Block {
+    pub count: usize,
+    pub rest: Walk,
+}
+
+// Takes as many claims as there is room for, and writes the key and the nation number of each.
+fn fill_block(
+    nations: &[u32],
+    entries: &[u32],
+    walk: Walk,
+    keys: &mut [u64],
+    owners: &mut [u64],
+) -> Block
+    ensures { λ r. ⌜ Fills (claimsLeft (now (nations .entry)) (now (entries .entry)) walk) (claimsLeft (now (nations .entry)) (now (entries .entry)) (r .rest)) (roomOf (now (keys .entry)) (now (owners .entry))) (r .count) (now (keys .entry)) (now (keys .exit)) (now (owners .entry)) (now (owners .exit)) ⌝ }
+{
+    let room = least(least(keys.len(), owners.len()), NUMBERS);
+    let mut rest = walk;
+    let mut count = 0;
+    while count < room {
+        match rest.next_claim(nations, entries) {
+            NextClaim::Row(claim, behind) => {
+                let tag = claim.tag;
+                let date = claim.date;
+                keys[count] = key_of(tag, date) + count as u64;
+                owners[count] = claim.nation as u64;
+                count += 1;
+                rest = behind;
+            }
+            NextClaim::End => {
+                return Block { count, rest };
+            }
+        }
+    }
+    Block { count, rest }
+}
+
+// Takes as many claims as there is room for, and gives their sorted keys and, by their numbers, the numbers of their nations. The scratch
+// is for the sort.
+pub fn sort_block(
+    nations: &[u32],
+    entries: &[u32],
+    walk: Walk,
+    keys: &mut [u64],
+    owners: &mut [u64],
+    scratch: &mut [u64],
+) -> Block
+    ensures { λ r. ⌜ SortsBlock (claimsLeft (now (nations .entry)) (now (entries .entry)) walk) (claimsLeft (now (nations .entry)) (now (entries .entry)) (r .rest)) (roomOf (now (keys .entry)) (now (owners .entry))) (r .count) (now (keys .entry)) (now (keys .exit)) (now (owners .entry)) (now (owners .exit)) (now (scratch .entry)) (now (scratch .exit)) ⌝ }
+{
+    let block = fill_block(nations, entries, walk, keys, owners);
+    let n = block.count;
+    sort_keys(&mut keys[0..n], scratch);
+    block
+}
+
+// How many of the keys, which are in order, are at most x.
+fn count_upto(keys: &[u64], x: u64) -> usize
+    ensures { λ r. ⌜ Counts (now (keys .entry)) (x + 1) r ⌝ }
+{
+    let mut base = 0;
+    let mut size = keys.len();
+    while 1 < size {
+        let half = size / 2;
+        if keys[base + half - 1] <= x {
+            base += half;
+        }
+        size -= half;
+    }
+    if size == 0 {
+        return base;
+    }
+    if keys[base] <= x { base + 1 } else { base }
+}
+
+// The key of a block's claim that answers a question.
+pub enum Looked {
+    Key(u64),
+    Nothing,
+}
+
+// The last key of the tag that is not after the date.
+pub fn look_up(keys: &[u64], tag: CountryTag, date: Eu4Date) -> Looked
+    ensures { λ r. ⌜ (sortBy leb (now (keys .entry)) ≡ now (keys .entry) → lookedTold r ≡ lastAsked tag date (now (keys .entry))) ⌝ }
+{
+    let low = key_of(tag, Eu4Date::kept(0));
+    let i = count_upto(keys, key_of(tag, date) + 65535);
+    if i == 0 {
+        return Looked::Nothing;
+    }
+    let key = keys[i - 1];
+    if key < low {
+        Looked::Nothing
+    } else {
+        Looked::Key(key)
+    }
+}

@@ -1,0 +1,4 @@
+pub mod ClaimLaws
+pub mod ResolvedLaws
+pub mod WornLaws
+pub mod AnswerLaws
