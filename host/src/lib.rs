@@ -24,6 +24,8 @@ pub mod pack;
 pub mod recount;
 pub mod reference;
 mod refusal;
+#[cfg(feature = "resolver")]
+mod resolver;
 pub mod rows;
 pub mod sample;
 pub mod seal;
@@ -34,6 +36,8 @@ pub mod vectors;
 
 pub use library::*;
 pub use refusal::Refusal;
+#[cfg(feature = "resolver")]
+pub use resolver::{Chronicle, TagData};
 
 /// The answer as 01 numbers it: 0 for accepted, else the refusal's number.
 ///

@@ -127,7 +127,7 @@ pub fn events_on(record: &[u8], date: Date, out: &mut [u32]) -> Result<(), Refus
 pub struct Room<'a> {
     /// Five words a nation: initial, latest, stored, first entry, entry count.
     pub nations: &'a mut [u32],
-    /// Three words an entry: date, kind (0 switch, 1 Appeared, 2 Annexed), target or 0.
+    /// Three words an entry: its date, what happened (0 a switch, 1 Appeared, 2 Annexed), and a switch's target.
     pub entries: &'a mut [u32],
     /// The holder of each of the slots 0 to P, a word each, 0 for nobody.
     pub holders: &'a mut [u32],
@@ -206,8 +206,8 @@ pub fn nation_events(record: &[u8], room: Room<'_>) -> Result<(), Refusal> {
 }
 
 /// A count, or minus the number of a refusal.
-#[cfg(any(feature = "province_owners", feature = "nation_events"))]
-fn counted(function: &str, answer: i64) -> Result<usize, Refusal> {
+#[cfg(any(feature = "province_owners", feature = "nation_events", feature = "resolver"))]
+pub(crate) fn counted(function: &str, answer: i64) -> Result<usize, Refusal> {
     match (usize::try_from(answer), answer.checked_neg().and_then(refusal)) {
         (Ok(count), _) => Ok(count),
         (_, Some(refusal)) => Err(refusal),

@@ -6,8 +6,8 @@
 use crate::pack::{Campaign, Country, Date, Tag, NONE};
 use crate::rows::Change;
 
-/// Whom a tag given on a date settles to: the country of the first switch from it dated not before
-/// that, ties in row order, else the tag itself.
+/// Whose a tag is that was given on a date: of the country which next gives that tag up, on that day or
+/// later. With several on one day the first row wins; where nobody gives it up, it is the tag's own.
 ///
 /// ```
 /// use chronicle_host::{recount::settled, sample};

@@ -6,31 +6,31 @@ use std::fmt;
 #[non_exhaustive]
 #[repr(u8)]
 pub enum Refusal {
-    /// Under 44 bytes, or not opening with `ATL`.
+    /// Too short for a head, or without `ATL` at its front.
     NotARecord = 1,
-    /// A version other than 1.
+    /// Written by a packer of another version.
     UnknownVersion = 2,
-    /// A count above its limit, row totals that disagree with the head, or a wrong length.
+    /// More rows than may be, or rows, head and length that do not fit together.
     SizesDisagree = 3,
-    /// A tag byte other than an ASCII letter, digit or `-`.
+    /// A tag with a byte that tags do not use.
     BadTag = 4,
     /// A day that no calendar without leap days has.
     BadDate = 5,
-    /// An undefined flag bit, or a war event of an undefined kind.
+    /// A flag or a kind of war event that nothing defines.
     UndefinedFlagOrKind = 6,
-    /// A country tag or province id twice, or an id above the number of provinces.
+    /// Two countries of one tag, two provinces of one id, or an id that is too large.
     Repeated = 7,
-    /// The current date lies before the start date.
+    /// A campaign that ends before it starts.
     DatesReversed = 8,
-    /// A ledger year above 9999.
+    /// A year of the ledger with five digits.
     LedgerYear = 9,
-    /// An output slice shorter than its answer.
+    /// Lent memory without room for the answer, or more than a page holds.
     NoRoom = 10,
-    /// Chronicle or history rows that are not well shaped.
+    /// Lent rows that no chronicle or history has.
     NotWellShaped = 11,
-    /// A question about a bad tag or date.
+    /// A question whose tag or date is none.
     BadQuestion = 12,
-    /// A nation number that is not in the list.
+    /// A question about a nation behind the last one.
     NoSuchNation = 13,
 }
 
@@ -89,23 +89,27 @@ impl Refusal {
 
     fn words(self) -> &'static str {
         match self {
-            Refusal::NotARecord => "the bytes are no packed record (44 bytes or more, opening ATL)",
-            Refusal::UnknownVersion => "the record's version is not 1",
+            Refusal::NotARecord => "these bytes do not begin as a packed campaign does",
+            Refusal::UnknownVersion => "the record was packed by another version",
             Refusal::SizesDisagree => {
-                "a count is above its limit, or counts, rows and length do not fit each other"
+                "the record holds too many rows, or they do not add up to what its head says"
             }
-            Refusal::BadTag => "a tag byte is not an ASCII letter, digit or -",
-            Refusal::BadDate => "a date is no day from year 1 to 9999 (29 February is none)",
-            Refusal::UndefinedFlagOrKind => "an undefined flag bit or war event kind is used",
+            Refusal::BadTag => "a tag in the record uses a byte that tags do not have",
+            Refusal::BadDate => {
+                "a date in the record is no day of the calendar (29 February is none)"
+            }
+            Refusal::UndefinedFlagOrKind => {
+                "a flag or a kind of war event in the record is unknown"
+            }
             Refusal::Repeated => {
-                "a country tag or province id stands twice, or an id exceeds the province count"
+                "two countries share a tag, two provinces an id, or an id is too large"
             }
-            Refusal::DatesReversed => "the current date lies before the start date",
-            Refusal::LedgerYear => "a ledger year is above 9999",
-            Refusal::NoRoom => "a lent slice is shorter than its answer",
-            Refusal::NotWellShaped => "the lent chronicle or history rows are not well shaped",
-            Refusal::BadQuestion => "the tag or date asked about is none",
-            Refusal::NoSuchNation => "no nation in the list has this number",
+            Refusal::DatesReversed => "the campaign ends before it starts",
+            Refusal::LedgerYear => "a year of the ledger is past 9999",
+            Refusal::NoRoom => "the answer has no room in what was lent for it",
+            Refusal::NotWellShaped => "the lent rows are no chronicle's, or no history's",
+            Refusal::BadQuestion => "the question names no tag or no date",
+            Refusal::NoSuchNation => "no nation has the number that was asked for",
         }
     }
 }

@@ -98,7 +98,7 @@ struct Course {
 }
 
 impl Course {
-    /// A start slot is held by the country its tag maps to, else by nobody.
+    /// Before the first change: each slot belongs to whom the map of initials names for its owner, if anyone.
     fn start(campaign: &Campaign, mapped: &BTreeMap<Tag, usize>) -> Course {
         let mut owners = vec![NONE; campaign.provinces.len() + 1];
         for province in &campaign.provinces {

@@ -73,9 +73,7 @@ mod run {
     }
 
     fn nation_events(rounds: usize) {
-        heading(
-            "province_owners + nation_events: C = 2,000, P = 8,000, A = B = 20,000, E = 60,000",
-        );
+        heading("province_owners + nation_events: every row that they read at its limit");
         NATIONS.race("dates as drawn", &nations(1), 60_000, rounds);
         NATIONS.race("dates rising", &rising(nations(1)), 60_000, rounds);
         heading("province_owners + nation_events: growth in events");

@@ -1,0 +1,196 @@
+//! The resolver's C functions of libpage.a, made safe to call.
+//!
+//! Each is lent nation words and entry words, as [`nation_events`](crate::nation_events) writes
+//! them or as anybody else does. A refusal has written nothing.
+
+use crate::library::counted;
+use crate::pack::Date;
+use crate::Refusal;
+
+mod c {
+    extern "C" {
+        pub fn resolver_resolve(
+            nations: *const u32,
+            nations_len: usize,
+            entries: *const u32,
+            entries_len: usize,
+            tag: u32,
+            date: u32,
+            out: *mut u32,
+            out_len: usize,
+        ) -> i64;
+        pub fn resolver_initial(
+            nations: *const u32,
+            nations_len: usize,
+            entries: *const u32,
+            entries_len: usize,
+            tag: u32,
+            out: *mut u32,
+            out_len: usize,
+        ) -> i64;
+        pub fn resolver_resolve_at(
+            nations: *const u32,
+            nations_len: usize,
+            entries: *const u32,
+            entries_len: usize,
+            day: u32,
+            tag: u32,
+            date: u32,
+            out: *mut u32,
+            out_len: usize,
+        ) -> i64;
+        pub fn resolver_initial_at(
+            nations: *const u32,
+            nations_len: usize,
+            entries: *const u32,
+            entries_len: usize,
+            day: u32,
+            tag: u32,
+            out: *mut u32,
+            out_len: usize,
+        ) -> i64;
+        pub fn resolver_resolve_each(
+            nations: *const u32,
+            nations_len: usize,
+            entries: *const u32,
+            entries_len: usize,
+            questions: *const u32,
+            questions_len: usize,
+            out: *mut u32,
+            out_len: usize,
+        ) -> i64;
+    }
+}
+
+/// The words of a chronicle: five for a nation, three for an entry.
+#[derive(Clone, Copy, Debug)]
+pub struct Chronicle<'a> {
+    /// Initial, latest, stored, first entry, entry count.
+    pub nations: &'a [u32],
+    /// Date, kind (0 switch, 1 Appeared, 2 Annexed), target or 0.
+    pub entries: &'a [u32],
+}
+
+/// A tag's word, and the word of the tag it is stored under.
+pub type TagData = [u32; 2];
+
+impl Chronicle<'_> {
+    /// Where the country that went by a tag on a date is now.
+    ///
+    /// # Panics
+    ///
+    /// If the library answers a number that is neither 0, 2 nor a refusal's.
+    ///
+    /// ```
+    /// use chronicle_host::{Chronicle, Refusal};
+    ///
+    /// let (eng, gbr) = (0x45_4e_47, 0x47_42_52);
+    /// let nations = [eng, gbr, gbr, 0, 1];
+    /// let entries = [14480601, 0, gbr];
+    /// let rows = Chronicle { nations: &nations, entries: &entries };
+    /// assert_eq!(rows.resolve(gbr, 14480531), Ok(None));
+    /// assert_eq!(rows.resolve(gbr, 14480601), Ok(Some([gbr, gbr])));
+    /// assert_eq!(rows.resolve_at(14480531, eng, 14480531), Ok(Some([eng, gbr])));
+    /// assert_eq!(rows.initial(eng), Ok(Some([gbr, gbr])));
+    /// assert_eq!(rows.initial_at(14480531, eng), Ok(None));
+    /// assert_eq!(rows.resolve(gbr, 14440229), Err(Refusal::BadQuestion));
+    /// let torn = Chronicle { nations: &nations[..4], entries: &entries };
+    /// assert_eq!(torn.resolve(gbr, 14440229), Err(Refusal::NotWellShaped));
+    /// ```
+    pub fn resolve(self, tag: u32, date: Date) -> Result<Option<TagData>, Refusal> {
+        self.asked("resolver_resolve", |n, nl, e, el, out| {
+            // SAFETY: each pointer comes with the length of the live slice it belongs to; the
+            // function reads the two, writes within the third, and keeps none.
+            unsafe { c::resolver_resolve(n, nl, e, el, tag, date, out, 2) }
+        })
+    }
+
+    /// Where the country that began as a tag is now.
+    ///
+    /// # Panics
+    ///
+    /// As [`Chronicle::resolve`].
+    pub fn initial(self, tag: u32) -> Result<Option<TagData>, Refusal> {
+        self.asked("resolver_initial", |n, nl, e, el, out| {
+            // SAFETY: as for `resolve`.
+            unsafe { c::resolver_initial(n, nl, e, el, tag, out, 2) }
+        })
+    }
+
+    /// Which tag the country that went by a tag on a date wore on a day.
+    ///
+    /// # Panics
+    ///
+    /// As [`Chronicle::resolve`].
+    pub fn resolve_at(self, day: Date, tag: u32, date: Date) -> Result<Option<TagData>, Refusal> {
+        self.asked("resolver_resolve_at", |n, nl, e, el, out| {
+            // SAFETY: as for `resolve`.
+            unsafe { c::resolver_resolve_at(n, nl, e, el, day, tag, date, out, 2) }
+        })
+    }
+
+    /// Which tag the country that began as a tag had switched to by a day.
+    ///
+    /// # Panics
+    ///
+    /// As [`Chronicle::resolve`].
+    pub fn initial_at(self, day: Date, tag: u32) -> Result<Option<TagData>, Refusal> {
+        self.asked("resolver_initial_at", |n, nl, e, el, out| {
+            // SAFETY: as for `resolve`.
+            unsafe { c::resolver_initial_at(n, nl, e, el, day, tag, out, 2) }
+        })
+    }
+
+    /// Answers questions of two words, tag and date, by two words each, 0 and 0 for none; says how
+    /// many there are.
+    ///
+    /// # Panics
+    ///
+    /// If the library answers a number that is neither a count nor a refusal's.
+    ///
+    /// ```
+    /// use chronicle_host::Chronicle;
+    ///
+    /// let rows = Chronicle { nations: &[0x45_4e_47, 0x47_42_52, 0x47_42_52, 0, 0], entries: &[] };
+    /// let mut out = [7; 5];
+    /// assert_eq!(rows.resolve_each(&[0x45_4e_47, 14440101, 0x46_52_41, 14440101], &mut out), Ok(2));
+    /// assert_eq!(out, [0x47_42_52, 0x47_42_52, 0, 0, 7]);
+    /// ```
+    pub fn resolve_each(self, questions: &[u32], out: &mut [u32]) -> Result<usize, Refusal> {
+        // SAFETY: each pointer comes with the length of the live slice it belongs to; the function
+        // reads three, writes within the fourth, and keeps none.
+        let answer = unsafe {
+            c::resolver_resolve_each(
+                self.nations.as_ptr(),
+                self.nations.len(),
+                self.entries.as_ptr(),
+                self.entries.len(),
+                questions.as_ptr(),
+                questions.len(),
+                out.as_mut_ptr(),
+                out.len(),
+            )
+        };
+        counted("resolver_resolve_each", answer)
+    }
+
+    fn asked(
+        self,
+        name: &str,
+        call: impl Fn(*const u32, usize, *const u32, usize, *mut u32) -> i64,
+    ) -> Result<Option<TagData>, Refusal> {
+        let mut out = [0; 2];
+        let answer = call(
+            self.nations.as_ptr(),
+            self.nations.len(),
+            self.entries.as_ptr(),
+            self.entries.len(),
+            out.as_mut_ptr(),
+        );
+        match counted(name, answer)? {
+            0 => Ok(None),
+            2 => Ok(Some(out)),
+            words => panic!("{name} answered {words} words"),
+        }
+    }
+}
