@@ -3,7 +3,7 @@
 //! [`check`] and the functions beside it call the proved functions of the static library.
 //! Everything else is here to hold those against something: a writer and a reader of packed
 //! records ([`pack`], [`mod@unpack`]), campaigns and damage to try them on ([`generate`],
-//! [`adversary`], [`extremes`], [`edges`], [`damage`], [`cases`], [`vectors`]), memory to lend ([`guard`], [`seal`], [`trial`]), an
+//! [`adversary`], [`extremes`], [`lists`], [`edges`], [`damage`], [`cases`], [`vectors`]), memory to lend ([`guard`], [`seal`], [`trial`]), an
 //! independent checker ([`mod@reference`]), an independent model of the answers ([`model`]) and a second
 //! count of who holds what ([`recount`]).
 //!
@@ -19,6 +19,7 @@ pub mod generate;
 pub mod guard;
 pub mod layout;
 mod library;
+pub mod lists;
 pub mod model;
 pub mod pack;
 pub mod recount;

@@ -182,7 +182,7 @@ fn check_ledger_name(row: &[u8; layout::LEDGER_NAME]) -> Result<(), Refusal> {
     check_tag([row[0], row[1], row[2]])
 }
 
-fn check_tag(tag: [u8; 3]) -> Result<(), Refusal> {
+pub(crate) fn check_tag(tag: [u8; 3]) -> Result<(), Refusal> {
     let good = |byte: u8| TAG_BYTES[usize::from(byte)];
     require(tag.into_iter().all(good), Refusal::BadTag)
 }
@@ -191,7 +191,7 @@ fn check_flags(flags: u8, defined: u8) -> Result<(), Refusal> {
     require(flags & !defined == 0, Refusal::UndefinedFlagOrKind)
 }
 
-fn check_date(date: u32) -> Result<(), Refusal> {
+pub(crate) fn check_date(date: u32) -> Result<(), Refusal> {
     let (year, month, day) = (date / 10_000, date / 100 % 100, date % 100);
     let days = DAYS.get(month as usize).copied().unwrap_or(0);
     let good = (1..=9999).contains(&year) && (1..=days).contains(&day);

@@ -5,6 +5,7 @@
 
 use crate::library::counted;
 use crate::pack::Date;
+use crate::rows::Question;
 use crate::Refusal;
 
 mod c {
@@ -98,11 +99,7 @@ impl Chronicle<'_> {
     /// assert_eq!(torn.resolve(gbr, 14440229), Err(Refusal::NotWellShaped));
     /// ```
     pub fn resolve(self, tag: u32, date: Date) -> Result<Option<TagData>, Refusal> {
-        self.asked("resolver_resolve", |n, nl, e, el, out| {
-            // SAFETY: each pointer comes with the length of the live slice it belongs to; the
-            // function reads the two, writes within the third, and keeps none.
-            unsafe { c::resolver_resolve(n, nl, e, el, tag, date, out, 2) }
-        })
+        self.data(Question::Resolve { tag, date })
     }
 
     /// Where the country that began as a tag is now.
@@ -111,10 +108,7 @@ impl Chronicle<'_> {
     ///
     /// As [`Chronicle::resolve`].
     pub fn initial(self, tag: u32) -> Result<Option<TagData>, Refusal> {
-        self.asked("resolver_initial", |n, nl, e, el, out| {
-            // SAFETY: as for `resolve`.
-            unsafe { c::resolver_initial(n, nl, e, el, tag, out, 2) }
-        })
+        self.data(Question::Initial { tag })
     }
 
     /// Which tag the country that went by a tag on a date wore on a day.
@@ -123,10 +117,7 @@ impl Chronicle<'_> {
     ///
     /// As [`Chronicle::resolve`].
     pub fn resolve_at(self, day: Date, tag: u32, date: Date) -> Result<Option<TagData>, Refusal> {
-        self.asked("resolver_resolve_at", |n, nl, e, el, out| {
-            // SAFETY: as for `resolve`.
-            unsafe { c::resolver_resolve_at(n, nl, e, el, day, tag, date, out, 2) }
-        })
+        self.data(Question::ResolveAt { day, tag, date })
     }
 
     /// Which tag the country that began as a tag had switched to by a day.
@@ -135,10 +126,48 @@ impl Chronicle<'_> {
     ///
     /// As [`Chronicle::resolve`].
     pub fn initial_at(self, day: Date, tag: u32) -> Result<Option<TagData>, Refusal> {
-        self.asked("resolver_initial_at", |n, nl, e, el, out| {
-            // SAFETY: as for `resolve`.
-            unsafe { c::resolver_initial_at(n, nl, e, el, day, tag, out, 2) }
-        })
+        self.data(Question::InitialAt { day, tag })
+    }
+
+    /// Answers a question into a slice: two words are written and counted if somebody is found, none
+    /// otherwise. Only who is found needs the room.
+    ///
+    /// # Panics
+    ///
+    /// If the library answers a number that is neither a count nor a refusal's.
+    ///
+    /// ```
+    /// use chronicle_host::{rows::Question, Chronicle, Refusal};
+    ///
+    /// let rows = Chronicle { nations: &[0x45_4e_47, 0x47_42_52, 0x47_42_52, 0, 0], entries: &[] };
+    /// let [eng, fra] = [0x45_4e_47, 0x46_52_41].map(|tag| Question::Initial { tag });
+    /// let mut out = [7; 3];
+    /// assert_eq!(rows.ask(eng, &mut out), Ok(2));
+    /// assert_eq!(out, [0x47_42_52, 0x47_42_52, 7]);
+    /// assert_eq!(rows.ask(eng, &mut out[..1]), Err(Refusal::NoRoom));
+    /// assert_eq!(rows.ask(fra, &mut []), Ok(0));
+    /// ```
+    pub fn ask(self, question: Question, out: &mut [u32]) -> Result<usize, Refusal> {
+        let (n, nl) = (self.nations.as_ptr(), self.nations.len());
+        let (e, el) = (self.entries.as_ptr(), self.entries.len());
+        let (out, room) = (out.as_mut_ptr(), out.len());
+        // SAFETY: each pointer comes with the length of the live slice it belongs to; a function
+        // reads the two, writes within the third, and keeps none.
+        let answer = unsafe {
+            match question {
+                Question::Resolve { tag, date } => {
+                    c::resolver_resolve(n, nl, e, el, tag, date, out, room)
+                }
+                Question::Initial { tag } => c::resolver_initial(n, nl, e, el, tag, out, room),
+                Question::ResolveAt { day, tag, date } => {
+                    c::resolver_resolve_at(n, nl, e, el, day, tag, date, out, room)
+                }
+                Question::InitialAt { day, tag } => {
+                    c::resolver_initial_at(n, nl, e, el, day, tag, out, room)
+                }
+            }
+        };
+        counted("the resolver", answer)
     }
 
     /// Answers questions of two words, tag and date, by two words each, 0 and 0 for none; says how
@@ -174,23 +203,12 @@ impl Chronicle<'_> {
         counted("resolver_resolve_each", answer)
     }
 
-    fn asked(
-        self,
-        name: &str,
-        call: impl Fn(*const u32, usize, *const u32, usize, *mut u32) -> i64,
-    ) -> Result<Option<TagData>, Refusal> {
+    fn data(self, question: Question) -> Result<Option<TagData>, Refusal> {
         let mut out = [0; 2];
-        let answer = call(
-            self.nations.as_ptr(),
-            self.nations.len(),
-            self.entries.as_ptr(),
-            self.entries.len(),
-            out.as_mut_ptr(),
-        );
-        match counted(name, answer)? {
+        match self.ask(question, &mut out)? {
             0 => Ok(None),
             2 => Ok(Some(out)),
-            words => panic!("{name} answered {words} words"),
+            words => panic!("{question:?} is answered by {words} words"),
         }
     }
 }

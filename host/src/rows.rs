@@ -13,6 +13,18 @@ pub fn tag_word([a, b, c]: Tag) -> u32 {
     u32::from_be_bytes([0, a, b, c])
 }
 
+/// The three bytes of a tag's word.
+///
+/// ```
+/// use chronicle_host::rows::{tag_of_word, tag_word};
+///
+/// assert_eq!(tag_of_word(tag_word(*b"ENG")), *b"ENG");
+/// ```
+pub fn tag_of_word(word: u32) -> Tag {
+    let [_, a, b, c] = word.to_be_bytes();
+    [a, b, c]
+}
+
 /// A province went from one tag to another.
 #[derive(Clone, Copy, Debug, PartialEq, Eq)]
 #[allow(missing_docs)]
@@ -152,6 +164,33 @@ pub fn entry_words(nations: &[Nation]) -> Vec<u32> {
 pub struct Resolved {
     pub current: Tag,
     pub stored: Tag,
+}
+
+impl Resolved {
+    /// Current, stored.
+    ///
+    /// ```
+    /// use chronicle_host::rows::Resolved;
+    ///
+    /// assert_eq!(Resolved { current: *b"---", stored: *b"--0" }.words(), [2960685, 2960688]);
+    /// ```
+    pub fn words(&self) -> [u32; 2] {
+        [self.current, self.stored].map(tag_word)
+    }
+}
+
+/// What a resolver is asked, tag and dates in words: anybody may ask with any.
+#[derive(Clone, Copy, Debug, PartialEq, Eq)]
+#[allow(missing_docs)]
+pub enum Question {
+    /// Who went by the tag on the date?
+    Resolve { tag: u32, date: Date },
+    /// Who began as the tag?
+    Initial { tag: u32 },
+    /// As `Resolve`; the answer has the tag worn on the day.
+    ResolveAt { day: Date, tag: u32, date: Date },
+    /// As `Initial`; the answer has the tag worn on the day.
+    InitialAt { day: Date, tag: u32 },
 }
 
 /// Who entered a war.

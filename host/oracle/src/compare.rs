@@ -8,12 +8,14 @@ use std::fmt::Debug;
 
 use chronicle_host::adversary::{days_of, tags_of};
 use chronicle_host::generate::Random;
+use chronicle_host::lists::{altered, any_nations, questions, some_of};
 use chronicle_host::model::Chronicle;
 use chronicle_host::pack::{pack, Campaign, Date, Tag};
-use chronicle_host::rows::{Change, Entry, History, Kind, Nation, Run};
+use chronicle_host::rows::{Change, History, Nation, Run};
 use chronicle_host::{model, recount, trial};
 use eu4save::query::{NationEvents, PlayerHistory, ProvinceOwners};
 
+use crate::resolving;
 use crate::rust::{self, Named, Resolver, Rust};
 use crate::seen::Seen;
 
@@ -48,9 +50,11 @@ pub fn compare(campaign: &Campaign, seed: u64, most: usize, seen: &mut Seen) -> 
     seen.add("answer: events_on", runs.len());
 
     let any = any_nations(&mut random, &tags, &days);
-    let mut asked = Asked { campaign, rust, days, tags, most, seen };
-    asked.about(&chronicle.nations)?;
-    asked.about(&any)?;
+    let altered = altered(&mut random, &chronicle.nations, &tags);
+    let mut asked = Asked { campaign, rust, random, days, tags, most, seen };
+    for nations in [&chronicle.nations, &any, &altered] {
+        asked.about(nations)?;
+    }
     trial::accepted(&pack(campaign), &chronicle, &runs)
 }
 
@@ -67,14 +71,6 @@ fn recounted(campaign: &Campaign, chronicle: &Chronicle) -> Result<(), String> {
     Ok(())
 }
 
-/// A sample of the list, or all of it.
-fn some_of<T: Copy>(random: &mut Random, list: Vec<T>, most: usize) -> Vec<T> {
-    if list.len() <= most {
-        return list;
-    }
-    (0..most).map(|_| random.pick(&list)).collect()
-}
-
 fn runs(
     owners: &ProvinceOwners,
     changes: &[Change],
@@ -89,33 +85,11 @@ fn runs(
     Ok(runs)
 }
 
-/// A list of nations that no record gave: resolver, bookings, ledger and histories take any.
-fn any_nations(random: &mut Random, tags: &[Tag], days: &[Date]) -> Vec<Nation> {
-    let entry = |random: &mut Random| Entry {
-        date: random.pick(days),
-        kind: match random.below(5) {
-            0 => Kind::Appeared,
-            1 => Kind::Annexed,
-            _ => Kind::Switch(random.pick(tags)),
-        },
-    };
-    let nation = |random: &mut Random| {
-        let entries = random.below(6);
-        Nation {
-            initial: random.pick(tags),
-            latest: random.pick(tags),
-            stored: random.pick(tags),
-            entries: (0..entries).map(|_| entry(random)).collect(),
-        }
-    };
-    let nations = random.below(5);
-    (0..nations).map(|_| nation(random)).collect()
-}
-
 /// What is asked about a list of nations.
 struct Asked<'a> {
     campaign: &'a Campaign,
     rust: Rust,
+    random: Random,
     days: Vec<Date>,
     tags: Vec<Tag>,
     most: usize,
@@ -125,8 +99,10 @@ struct Asked<'a> {
 impl Asked<'_> {
     fn about(&mut self, nations: &[Nation]) -> Result<(), String> {
         let theirs: Vec<NationEvents> = nations.iter().map(rust::nation_events).collect();
-        if copies(nations) <= MOST_COPIES {
-            self.resolver(nations, &Resolver::of(&theirs))?;
+        self.seen.list(nations);
+        let small = copies(nations) <= MOST_COPIES;
+        self.resolver(nations, small.then(|| Resolver::of(&theirs)).as_ref())?;
+        if small {
             self.bookings(nations, &theirs)?;
         }
         self.ledgers(nations, &theirs)?;
@@ -137,40 +113,9 @@ impl Asked<'_> {
         Ok(())
     }
 
-    fn resolver(&mut self, nations: &[Nation], theirs: &Resolver) -> Result<(), String> {
-        let mut found = 0;
-        for &tag in &self.tags {
-            let ours = model::initial(nations, tag);
-            equal(|| format!("initial {tag:?}"), &theirs.initial(tag), &ours)?;
-            for &day in &self.days {
-                let ours = model::initial_at(nations, day, tag);
-                let what = || format!("initial {tag:?} set to {day}");
-                equal(what, &theirs.initial_at(day, tag), &ours)?;
-                found += self.resolver_on(nations, theirs, tag, day)?;
-            }
-        }
-        self.seen.add("answer: resolver, not none", found);
-        Ok(())
-    }
-
-    /// Plain and set to each day; says how often there was an answer.
-    fn resolver_on(
-        &self,
-        nations: &[Nation],
-        theirs: &Resolver,
-        tag: Tag,
-        date: Date,
-    ) -> Result<usize, String> {
-        let ours = model::resolve(nations, tag, date);
-        let mut found = usize::from(ours.is_some());
-        equal(|| format!("resolve {tag:?} on {date}"), &theirs.resolve(tag, date), &ours)?;
-        for &day in &self.days {
-            let ours = model::resolve_at(nations, day, tag, date);
-            let what = || format!("resolve {tag:?} on {date} set to {day}");
-            equal(what, &theirs.resolve_at(day, tag, date), &ours)?;
-            found += usize::from(ours.is_some());
-        }
-        Ok(found)
+    fn resolver(&mut self, nations: &[Nation], theirs: Option<&Resolver>) -> Result<(), String> {
+        let asked = questions(&mut self.random, nations, &self.tags, &self.days, self.most);
+        resolving::compare(nations, theirs, &asked, self.seen)
     }
 
     fn bookings(&mut self, nations: &[Nation], theirs: &[NationEvents]) -> Result<(), String> {
@@ -243,7 +188,7 @@ fn copies(nations: &[Nation]) -> usize {
     nations.iter().map(|nation| nation.entries.len() * nation.entries.len()).sum()
 }
 
-fn equal<T: PartialEq + Debug>(
+pub(crate) fn equal<T: PartialEq + Debug>(
     what: impl Fn() -> String,
     theirs: &T,
     ours: &T,

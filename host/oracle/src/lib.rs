@@ -10,6 +10,8 @@
 #[cfg(found)]
 pub mod compare;
 #[cfg(found)]
+pub mod resolving;
+#[cfg(found)]
 pub mod rust;
 #[cfg(found)]
 pub mod save;

@@ -73,6 +73,46 @@ impl Seen {
         self.turns(campaign, &chronicle.changes);
     }
 
+    /// Notes what is hard for a resolver about a list of nations.
+    ///
+    /// ```
+    /// use chronicle_host::{model, sample};
+    /// use chronicle_oracle::seen::Seen;
+    ///
+    /// let mut seen = Seen::default();
+    /// seen.list(&model::chronicle(&sample::worked()).nations);
+    /// assert_eq!(seen.times("list: a nation without entries"), 1);
+    /// assert!(seen.never().contains(&"list: entries out of date order"));
+    /// ```
+    pub fn list(&mut self, nations: &[Nation]) {
+        let any = |test: fn(&Nation) -> bool| nations.iter().any(test);
+        let initials: BTreeSet<Tag> = nations.iter().map(|nation| nation.initial).collect();
+        let apart: BTreeSet<_> =
+            nations.iter().map(|nation| (nation.initial, nation.stored)).collect();
+        let tags = |nation: &Nation| [nation.initial, nation.latest, nation.stored];
+        let known: BTreeSet<Tag> = nations.iter().flat_map(tags).collect();
+        let mut targets = BTreeMap::new();
+        let mut met_twice = false;
+        for (number, nation) in nations.iter().enumerate() {
+            for entry in &nation.entries {
+                let Kind::Switch(target) = entry.kind else { continue };
+                let before = targets.insert((target, entry.date), number);
+                met_twice |= before.is_some_and(|before| before != number);
+            }
+        }
+        self.if_any("list: a nation without entries", any(|n| n.entries.is_empty()));
+        self.if_any(
+            "list: entries out of date order",
+            any(|n| !n.entries.is_sorted_by_key(|entry| entry.date)),
+        );
+        self.if_any("list: one initial, two stored tags", initials.len() < apart.len());
+        self.if_any(
+            "list: a switch to a tag that is nobody's",
+            targets.keys().any(|(target, _)| !known.contains(target)),
+        );
+        self.if_any("list: two nations switch to a tag on one day", met_twice);
+    }
+
     fn rows(&mut self, chronicle: &Chronicle) {
         let entries: Vec<&Entry> = chronicle.nations.iter().flat_map(|n| &n.entries).collect();
         let of = |kind: fn(&Kind) -> bool| entries.iter().filter(|e| kind(&e.kind)).count();

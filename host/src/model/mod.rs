@@ -9,11 +9,13 @@ mod ledger;
 mod nations;
 mod players;
 mod resolver;
+mod shape;
 mod wars;
 
 pub use changes::{changes, events_on};
 pub use ledger::ledger;
 pub use nations::{chronicle, Chronicle};
 pub use players::{histories, players, starting_country};
-pub use resolver::{initial, initial_at, resolve, resolve_at};
+pub use resolver::{answer, initial, initial_at, resolve, resolve_at};
+pub use shape::nations_told;
 pub use wars::bookings;

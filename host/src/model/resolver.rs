@@ -1,7 +1,7 @@
 //! 01, "Resolver". The nations may be any list: also unsorted, with unsorted entries.
 
 use crate::pack::{Date, Tag};
-use crate::rows::{Kind, Nation, Resolved};
+use crate::rows::{tag_of_word, Kind, Nation, Question, Resolved};
 
 /// Whom a tag meant on a date, under the tag it has now.
 ///
@@ -57,6 +57,23 @@ pub fn initial_at(nations: &[Nation], day: Date, tag: Tag) -> Option<Resolved> {
     let nation = began_as(nations, tag)?;
     let current = switched_to(nation, day)?;
     Some(Resolved { current, stored: nation.stored })
+}
+
+/// The answer to any of the four questions, whose tag and dates are good.
+///
+/// ```
+/// use chronicle_host::{model::{answer, chronicle}, rows::{tag_word, Question}, sample};
+///
+/// let nations = chronicle(&sample::worked()).nations;
+/// assert_eq!(answer(&nations, Question::Initial { tag: tag_word(*b"GBR") }), None);
+/// ```
+pub fn answer(nations: &[Nation], question: Question) -> Option<Resolved> {
+    match question {
+        Question::Resolve { tag, date } => resolve(nations, tag_of_word(tag), date),
+        Question::Initial { tag } => initial(nations, tag_of_word(tag)),
+        Question::ResolveAt { day, tag, date } => resolve_at(nations, day, tag_of_word(tag), date),
+        Question::InitialAt { day, tag } => initial_at(nations, day, tag_of_word(tag)),
+    }
 }
 
 fn now(nation: &Nation) -> Resolved {

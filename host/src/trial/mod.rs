@@ -7,10 +7,15 @@
 mod nations;
 #[cfg(feature = "province_owners")]
 mod owners;
+#[cfg(feature = "resolver")]
+mod resolver;
+
+#[cfg(feature = "resolver")]
+pub use resolver::{asked, asked_each};
 
 use crate::model::Chronicle;
 use crate::pack::Date;
-use crate::rows::Run;
+use crate::rows::{Nation, Question, Resolved, Run};
 use crate::{check, Refusal};
 
 /// The functions that are called.
@@ -22,6 +27,8 @@ pub const TRIED: &[&str] = &[
     "events_on",
     #[cfg(feature = "nation_events")]
     "nation_events",
+    #[cfg(feature = "resolver")]
+    "resolve, initial, resolve_at, initial_at, resolve_each",
 ];
 
 /// Holds every function's answers on an accepted record against these; `Err` says what differs.
@@ -59,6 +66,26 @@ pub fn refused(record: &[u8], refusal: Refusal) -> Result<(), String> {
     owners::refused(record, refusal)?;
     #[cfg(feature = "nation_events")]
     nations::refused(record, refusal)?;
+    Ok(())
+}
+
+/// Holds the resolver's answers about a list of nations against these, one by one, and those to
+/// all questions for a tag on a date by one call besides.
+///
+/// ```
+/// use chronicle_host::{model, rows::{tag_word, Question}, sample, trial};
+///
+/// let nations = model::chronicle(&sample::worked()).nations;
+/// let asked = [14480531, 14480601].map(|date| {
+///     let question = Question::Resolve { tag: tag_word(*b"GBR"), date };
+///     (question, model::answer(&nations, question))
+/// });
+/// assert_eq!(trial::resolver(&nations, &asked), Ok(()));
+/// ```
+#[cfg_attr(not(feature = "resolver"), allow(unused_variables))]
+pub fn resolver(nations: &[Nation], asked: &[(Question, Option<Resolved>)]) -> Result<(), String> {
+    #[cfg(feature = "resolver")]
+    resolver::answered(nations, asked)?;
     Ok(())
 }
 

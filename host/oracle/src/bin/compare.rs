@@ -30,6 +30,7 @@ mod run {
     use chronicle_host::trial;
     use chronicle_host::unpack::unpack;
     use chronicle_oracle::compare::compare;
+    use chronicle_oracle::resolving;
     use chronicle_oracle::seen::Seen;
 
     const DIFFERENCE: &str = "difference.atl";
@@ -82,7 +83,7 @@ mod run {
 
     fn all(campaigns: u64, seed: u64, extremes: usize) -> Result<(), String> {
         let mut seen = Seen::default();
-        for what in LOOKED_FOR {
+        for what in LOOKED_FOR.into_iter().chain(resolving::looked_for()) {
             seen.add(what, 0);
         }
         small(campaigns, seed, &mut seen)?;
@@ -93,9 +94,15 @@ mod run {
             return Err(format!("never met, so the run says too little: {}", never.join("; ")));
         }
         for (name, campaign) in extremes::ALL.iter().take(extremes) {
-            compare(&campaign(), seed, AT_LIMITS, &mut Seen::default())
+            let mut seen = Seen::default();
+            compare(&campaign(), seed, AT_LIMITS, &mut seen)
                 .map_err(|difference| format!("{name}: {difference}"))?;
-            println!("at the limits, {name}: no difference");
+            let found = seen.times("answer: resolver, not none");
+            let asked: usize = resolving::looked_for().map(|what| seen.times(what)).sum();
+            println!(
+                "at the limits, {name}: no difference; resolver: {found} times somebody by the \
+                 Rust, {asked} answers by the library"
+            );
         }
         Ok(())
     }

@@ -1,0 +1,188 @@
+//! Whatever words are lent to the resolver, it answers as 01 says that it does, or refuses.
+#![cfg(feature = "resolver")]
+
+use std::collections::BTreeMap;
+
+use chronicle_host::generate::Random;
+use chronicle_host::lists::any_nations;
+use chronicle_host::model::{answer, nations_told};
+use chronicle_host::pack::{Date, Tag};
+use chronicle_host::rows::{entry_words, nation_words, tag_word, Nation, Question};
+use chronicle_host::trial::{asked, asked_each};
+use chronicle_host::{Chronicle, Refusal};
+
+const TAGS: [Tag; 4] = [*b"ENG", *b"GBR", *b"---", *b"zz9"];
+const DATES: [Date; 5] = [10101, 14440228, 14440301, 14441231, 99991231];
+
+/// No tags, no dates, and numbers that a sum may run over with.
+const NEITHER: [u32; 6] = [0x01_45_4e_47, 0x45_4e_5f, 14440229, 1 << 31, !0 - 1, !0];
+
+/// Any word, more often one that could stand in a row.
+fn word(random: &mut Random) -> u32 {
+    match random.below(8) {
+        0 => random.next() as u32,
+        1 => random.pick(&NEITHER),
+        2 | 3 => random.below(6) as u32,
+        4 | 5 => random.pick(&DATES),
+        _ => tag_word(random.pick(&TAGS)),
+    }
+}
+
+fn words(random: &mut Random, most: usize) -> Vec<u32> {
+    let length = random.below(most);
+    (0..length).map(|_| word(random)).collect()
+}
+
+/// A question that is mostly a good one.
+fn question(random: &mut Random) -> Question {
+    let mut one_of = |good: &[u32]| match random.below(16) {
+        0 => word(random),
+        _ => random.pick(good),
+    };
+    let tag = one_of(&TAGS.map(tag_word));
+    let [date, day] = [one_of(&DATES), one_of(&DATES)];
+    match random.below(4) {
+        0 => Question::Resolve { tag, date },
+        1 => Question::Initial { tag },
+        2 => Question::ResolveAt { day, tag, date },
+        _ => Question::InitialAt { day, tag },
+    }
+}
+
+/// A tag is what a nation may begin with.
+fn is_tag(word: u32) -> bool {
+    nations_told(&[word, word, word, 0, 0], &[]).is_some()
+}
+
+/// A date is what an entry may have.
+fn is_date(word: u32) -> bool {
+    let tag = tag_word(TAGS[0]);
+    nations_told(&[tag, tag, tag, 0, 1], &[word, 1, 0]).is_some()
+}
+
+fn is_good(question: Question) -> bool {
+    match question {
+        Question::Resolve { tag, date } => is_tag(tag) && is_date(date),
+        Question::Initial { tag } => is_tag(tag),
+        Question::ResolveAt { day, tag, date } => is_tag(tag) && is_date(date) && is_date(day),
+        Question::InitialAt { day, tag } => is_tag(tag) && is_date(day),
+    }
+}
+
+fn one_expected(told: Option<&[Nation]>, question: Question) -> Result<Vec<u32>, Refusal> {
+    let nations = told.ok_or(Refusal::NotWellShaped)?;
+    if !is_good(question) {
+        return Err(Refusal::BadQuestion);
+    }
+    Ok(answer(nations, question).map_or(vec![], |found| found.words().to_vec()))
+}
+
+fn each_expected(told: Option<&[Nation]>, questions: &[u32]) -> Result<Vec<u32>, Refusal> {
+    let nations = told.ok_or(Refusal::NotWellShaped)?;
+    let (rows, rest) = questions.as_chunks();
+    if !rest.is_empty() {
+        return Err(Refusal::BadQuestion);
+    }
+    let mut words = Vec::new();
+    for &[tag, date] in rows {
+        let found = one_expected(Some(nations), Question::Resolve { tag, date })?;
+        words.extend(if found.is_empty() { vec![0; 2] } else { found });
+    }
+    Ok(words)
+}
+
+/// 0 where nothing is written, 1 where something is, or the refusal's number.
+type Outcomes = BTreeMap<u8, usize>;
+
+/// Answers that find no room are refused, and nothing else by 10.
+fn lent(
+    expected: &Result<Vec<u32>, Refusal>,
+    length: usize,
+    outcomes: &mut Outcomes,
+) -> Result<Vec<u32>, Refusal> {
+    let outcome = match expected {
+        Ok(words) if words.len() > length => Err(Refusal::NoRoom),
+        other => other.clone(),
+    };
+    let number =
+        outcome.as_ref().map_or_else(|refusal| refusal.number(), |w| (!w.is_empty()).into());
+    *outcomes.entry(number).or_insert(0) += 1;
+    outcome
+}
+
+fn tried(random: &mut Random, nations: &[u32], entries: &[u32], outcomes: &mut [Outcomes; 2]) {
+    let rows = Chronicle { nations, entries };
+    let told = nations_told(nations, entries);
+    let told = told.as_deref();
+    for _ in 0..4 {
+        let question = question(random);
+        let length = random.below(5);
+        let expected = lent(&one_expected(told, question), length, &mut outcomes[0]);
+        let outcome = asked(rows, question, length, expected.as_deref().map_err(|&r| r));
+        assert_eq!(outcome, Ok(()), "{rows:?}");
+    }
+    let mut questions: Vec<u32> = Vec::new();
+    for _ in 0..random.below(5) {
+        if let Question::Resolve { tag, date } = question(random) {
+            questions.extend([tag, date]);
+        }
+    }
+    if random.below(8) == 0 {
+        questions.push(word(random));
+    }
+    let length = random.below(10);
+    let expected = lent(&each_expected(told, &questions), length, &mut outcomes[1]);
+    let outcome = asked_each(rows, &questions, length, expected.as_deref().map_err(|&r| r));
+    assert_eq!(outcome, Ok(()), "{rows:?}");
+}
+
+#[test]
+fn any_words() {
+    let mut random = Random::new(11);
+    let mut outcomes = [Outcomes::new(), Outcomes::new()];
+    for _ in 0..20_000 {
+        let [nations, entries] = [words(&mut random, 40), words(&mut random, 40)];
+        tried(&mut random, &nations, &entries, &mut outcomes);
+    }
+    assert!(outcomes.iter().all(|outcomes| outcomes[&11] > 10_000), "{outcomes:?}");
+}
+
+/// One word another, one more or one less; or a row less, or two rows exchanged.
+fn alter(random: &mut Random, words: &mut Vec<u32>, width: usize) {
+    let rows = words.len() / width;
+    match random.below(6) {
+        0 => words.push(word(random)),
+        1 => drop(words.pop()),
+        2 if rows > 0 => drop(words.drain(..width)),
+        3 if rows > 0 => {
+            let [one, other] = [random.below(rows), random.below(rows)];
+            (0..width).for_each(|at| words.swap(one * width + at, other * width + at));
+        }
+        _ if rows > 0 => {
+            let place = random.below(words.len());
+            words[place] = word(random);
+        }
+        _ => {}
+    }
+}
+
+#[test]
+fn nearly_a_chronicle() {
+    let mut random = Random::new(12);
+    let mut outcomes = [Outcomes::new(), Outcomes::new()];
+    for _ in 0..50_000 {
+        let list = any_nations(&mut random, &TAGS, &DATES);
+        let [mut nations, mut entries] = [nation_words(&list), entry_words(&list)];
+        match random.below(3) {
+            0 => alter(&mut random, &mut nations, 5),
+            1 => alter(&mut random, &mut entries, 3),
+            _ => {}
+        }
+        tried(&mut random, &nations, &entries, &mut outcomes);
+    }
+    for outcomes in outcomes {
+        let numbers: Vec<u8> = outcomes.keys().copied().collect();
+        assert_eq!(numbers, [0, 1, 10, 11, 12], "{outcomes:?}");
+        assert!(outcomes.values().all(|&times| times > 1_000), "{outcomes:?}");
+    }
+}
