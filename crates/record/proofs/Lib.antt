@@ -1,15 +1,5 @@
-pub mod Computes
-pub mod FlagLaws
-pub mod RowLaws
 pub mod RunLaws
-pub mod CampaignLaws
-pub mod FirstLaws
-pub mod SizeLaws
-pub mod TagLaws
+pub mod StepLaws
 pub mod RepeatLaws
-pub mod HeadLaws
-pub mod AcceptLaws
 pub mod OpenedLaws
 pub mod ToldLaws
-pub mod SoundLaws
-pub mod BoundLaws

@@ -12,16 +12,16 @@ use Rattle.lists.specs.Lists.{anyOf, allOf, twice}
 use Rattle.lists.proofs.BoolLaws.{cases, clash, and-left, and-right}
 use Rattle.bitset.specs.Bitset.{isMarked, marking}
 use Rattle.bitset.proofs.BitsetLaws.{marked-after}
-use Rattle.record.specs.Tags.{isTag}
-use Rattle.record.proofs.TagLaws.{Bytes, tag-bytes}
-use Rattle.record.specs.declared.head.Head.{Head}
-use Rattle.record.specs.Bytes.{tagAt, idAt}
-use Rattle.record.specs.Head.{headOf, countriesAt, provincesAt}
-use Rattle.record.specs.Rows.{rowsAt, countryAt, provinceAt, PackedCountry, PackedProvince}
-use Rattle.record.specs.Campaign.{countryRows, provinceRows}
-use Rattle.record.specs.Refusal.{firstOf, firstIn, countryNumber, fieldsNumber, tagTwice, idTwiceOrAbove}
-use Rattle.record.proofs.RowLaws.{rows-more, map-rows}
-use Rattle.record.proofs.FirstLaws.{first-zero}
+use Rattle.format.specs.Tags.{isTag}
+use Rattle.format.proofs.TagLaws.{Bytes, tag-bytes}
+use Rattle.format.specs.declared.head.Head.{Head}
+use Rattle.format.specs.Bytes.{tagAt, idAt}
+use Rattle.format.specs.Head.{headOf, countriesAt, provincesAt}
+use Rattle.format.specs.Rows.{rowsAt, countryAt, provinceAt, PackedCountry, PackedProvince}
+use Rattle.format.specs.Campaign.{countryRows, provinceRows}
+use Rattle.format.specs.Refusal.{firstOf, firstIn, countryNumber, fieldsNumber, tagTwice, idTwiceOrAbove}
+use Rattle.format.proofs.RowLaws.{rows-more, map-rows}
+use Rattle.format.proofs.FirstLaws.{first-zero}
 
 -- a number of the list is marked, or stands twice in it
 unfoldable pub repeats : (ℕ → Bool) → List ℕ → Bool

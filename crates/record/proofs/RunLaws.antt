@@ -10,11 +10,11 @@ use borrow.Author.Tests.{ltb-true, leb-true, lt-ltb, le-leb, lt-leb, not-true, n
 use lib.Dec.{leb, ltb}
 use lib.ListN.{length, take, drop}
 use Rattle.record.specs.declared.runs.Run.{Run}
-use Rattle.record.specs.Bytes.{byteAt}
-use Rattle.record.specs.Rows.{stringsFrom}
+use Rattle.format.specs.Bytes.{byteAt}
+use Rattle.format.specs.Rows.{stringsFrom}
 use Rattle.record.specs.Cursors.{runRows}
 use Rattle.record.specs.Runs.{hasRow, wholeLeft, pastRun, firstRun, skipRun}
-use Rattle.record.proofs.RowLaws.{rows-end, rows-past, rows-more, rows-take, rows-drop, rows-drop-past, rows-length}
+use Rattle.format.proofs.RowLaws.{rows-end, rows-past, rows-more, rows-take, rows-drop, rows-drop-past, rows-length}
 
 -- ## The test of a run
 

@@ -1,19 +1,12 @@
--- What a caller of `open_record`, or of a date's `of_word`, knows in each of its arms.
-use mathlib.Core.Path.{_≡_, refl, sym, ap, subst, _∙_}
-use mathlib.Core.Bool.{Bool, true, false, cond}
-use mathlib.Core.Option.{Option, none, some}
+-- What a caller of `open_record` knows in each of its arms.
+use mathlib.Core.Path.{_≡_, sym, ap, subst, _∙_}
 use mathlib.Core.List.{List}
 use Prim.Native.Nat.{ℕ, _<_}
 use Rattle.record.specs.declared.opened.Record.{Record}
 use Rattle.record.specs.declared.opened.Opened.{Opened}
 use Rattle.record.specs.declared.opened.Opened.the-variants.{Accepted, Refused}
-use native.Mathlib.Omega.{arith}
-use Rattle.record.specs.declared.date.Eu4Date.{Eu4Date}
-use Rattle.record.specs.declared.date.Dated.{Dated}
-use Rattle.record.specs.declared.date.Dated.the-variants.{Date, NoDate}
-use Rattle.record.specs.Dates.{goodDate, datedDate, dateOfWord}
 use Rattle.record.specs.Opened.{openedNumber, Tells, Rows, RightlyOpened}
-use Rattle.record.specs.Refusal.{refusal}
+use Rattle.format.specs.Refusal.{refusal}
 
 module _ {xs : List ℕ} {r : Opened} (o : RightlyOpened xs r) where
   pub accepted-told : {k : Record} → r ≡ Accepted k → (refusal xs ≡ 0) × Tells xs k
@@ -21,20 +14,3 @@ module _ {xs : List ℕ} {r : Opened} (o : RightlyOpened xs r) where
 
   pub refused-told : {n : ℕ} → r ≡ Refused n → (0 < n) × (n ≡ refusal xs)
   refused-told e = (subst (Rows xs) e (o .rows), sym (ap openedNumber e) ∙ o .number)
-
--- A word that is a date's is a good date, and one that is none is not.
-pub date-told : (w : ℕ) {r : Dated} {d : Eu4Date} → datedDate r ≡ dateOfWord w → r ≡ Date d → (goodDate (record { 0 = w }) ≡ true) × (d ≡ record { 0 = w })
-unfolding dateOfWord
-date-told w {r} {d} e q = go (goodDate (record { 0 = w })) (sym (ap datedDate q) ∙ e)
-  where
-    go : (good : Bool) → some d ≡ cond good (some (record { 0 = w })) none → (good ≡ true) × (d ≡ record { 0 = w })
-    go true h = (refl, cc)
-    go false h = let z : _≡_ {A = ℕ} 0 1 = cc in absurd (omega arith)
-
-pub no-date-told : (w : ℕ) {r : Dated} → datedDate r ≡ dateOfWord w → r ≡ NoDate → goodDate (record { 0 = w }) ≡ false
-unfolding dateOfWord
-no-date-told w e q = go (goodDate (record { 0 = w })) (sym (ap datedDate q) ∙ e)
-  where
-    go : (good : Bool) → _≡_ {A = Option Eu4Date} none (cond good (some (record { 0 = w })) none) → good ≡ false
-    go true h = let z : _≡_ {A = ℕ} 0 1 = cc in absurd (omega arith)
-    go false h = refl

@@ -4,11 +4,11 @@
 use mathlib.Core.List.{List, [], _∷_}
 use Prim.Native.Nat.{ℕ}
 use lib.ListN.{take, drop}
-use Rattle.record.specs.declared.tag.CountryTag.{CountryTag}
-use Rattle.record.specs.declared.rows.Switch.{Switch}
-use Rattle.record.specs.declared.rows.OwnerEvent.{OwnerEvent}
-use Rattle.record.specs.declared.rows.WarEvent.{WarEvent}
-use Rattle.record.specs.declared.rows.Point.{Point}
+use Rattle.format.specs.declared.tag.CountryTag.{CountryTag}
+use Rattle.format.specs.declared.rows.Switch.{Switch}
+use Rattle.format.specs.declared.rows.OwnerEvent.{OwnerEvent}
+use Rattle.format.specs.declared.rows.WarEvent.{WarEvent}
+use Rattle.format.specs.declared.rows.Point.{Point}
 use Rattle.record.specs.declared.runs.Run.{Run}
 use Rattle.record.specs.declared.cursors.PreviousTags.{PreviousTags}
 use Rattle.record.specs.declared.cursors.NextPreviousTag as NextPreviousTag
@@ -34,9 +34,9 @@ use Rattle.record.specs.declared.ledger.NextLedger as NextLedger
 use Rattle.record.specs.declared.texts.Text.{Text}
 use Rattle.record.specs.declared.texts.Strings.{Strings}
 use Rattle.record.specs.declared.texts.NextString as NextString
-use Rattle.record.specs.Bytes.{le16, tagAt}
-use Rattle.record.specs.Rows.{rowsAt, countryAt, switchAt, provinceAt, ownerEventAt, warEventAt, ledgerAt, pointAt, stringsFrom}
-use Rattle.record.specs.Campaign.{Country, Province, Ledger, groupCountries, groupProvinces, groupWars, groupLedgers}
+use Rattle.format.specs.Bytes.{le16, tagAt}
+use Rattle.format.specs.Rows.{rowsAt, countryAt, switchAt, provinceAt, ownerEventAt, warEventAt, ledgerAt, pointAt, stringsFrom}
+use Rattle.format.specs.Campaign.{Country, Province, Ledger, groupCountries, groupProvinces, groupWars, groupLedgers}
 
 -- The rows that a run gives.
 abbrev pub runRows : {A : Type 0} → (ℕ → A) → ℕ → List ℕ → Run → List A

@@ -1,12 +1,4 @@
-pub mod Tags
-pub mod Dates
-pub mod Bytes
-pub mod Head
-pub mod Laid
+pub mod Inside
 pub mod Runs
-pub mod Rows
-pub mod Campaign
-pub mod Refusal
 pub mod Cursors
 pub mod Opened
-pub mod Sound

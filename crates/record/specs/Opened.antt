@@ -5,9 +5,9 @@ use Prim.Native.Nat.{ℕ, _<_}
 use Rattle.record.specs.declared.opened.Record.{Record}
 use Rattle.record.specs.declared.opened.Opened.{Opened}
 use Rattle.record.specs.declared.opened.Opened.the-variants.{Accepted, Refused}
-use Rattle.record.specs.Campaign.{campaignOf}
+use Rattle.format.specs.Campaign.{campaignOf}
 use Rattle.record.specs.Cursors.{countriesLeft, provincesLeft, warsLeft, ledgersLeft, stringsLeft}
-use Rattle.record.specs.Refusal.{refusal}
+use Rattle.format.specs.Refusal.{refusal}
 
 -- 01's number for each case of the answer.
 abbrev pub openedNumber : Opened → ℕ

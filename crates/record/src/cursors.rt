@@ -1,12 +1,12 @@
 // Cursors over the rows of a record, by value. Each walks its section in order; a row that owns others hands out a cursor over
 // them. A cursor made for one slice may be used on another: it then gives what stands there, and never reads past the end.
 use crate::bytes;
-use crate::rows::OwnerEvent;
-use crate::rows::ProvinceId;
-use crate::rows::Switch;
-use crate::rows::WarEvent;
 use crate::runs::Run;
-use crate::tag::CountryTag;
+use format::CountryTag;
+use format::OwnerEvent;
+use format::ProvinceId;
+use format::Switch;
+use format::WarEvent;
 ghost use mathlib.Core.Path.{_≡_};
 ghost use lib.ListN.{length};
 ghost use Rattle.record.specs.Cursors.{previousLeft, previousTold, switchesLeft, switchTold};
@@ -152,9 +152,9 @@ impl Countries {
         let switches = self.switches;
         let row = CountryRow {
             tag: bytes::tag_at(s, at),
-            human: bytes::bit0(flags),
-            was_player: bytes::bit1(flags),
-            has_switched_nation: bytes::bit2(flags),
+            human: format::bit0(flags),
+            was_player: format::bit1(flags),
+            has_switched_nation: format::bit2(flags),
             cities: bytes::i32_at(s, at + 4),
             previous: PreviousTags(previous.first(a)),
             switches: Switches(switches.first(b)),

@@ -1,32 +1,28 @@
 // Numbers 4, 5, 6 and 9: the first bad field in file order. `tags` and `months` are the tables of the tag bytes and of the months' days.
 use crate::bytes;
-use crate::date;
-use crate::date::Eu4Date;
-use crate::head;
-use crate::head::Head;
-use crate::tag;
+use crate::tables;
 use crate::years;
+use format::Head;
 ghost use mathlib.Core.Path.{_≡_};
-ghost use Prim.Native.Nat.{_+_, _*_, _<_, _≤_};
+ghost use Prim.Native.Nat.{_+_, _*_, _≤_};
 ghost use lib.ListN.{length};
-ghost use Rattle.record.specs.Bytes.{tagAt};
-ghost use Rattle.record.specs.Laid.{Laid, TagTable, MonthTable};
-ghost use Rattle.record.specs.Campaign.{countryRows, previousTags, switchRows, provinceRows, ownerEvents, warEvents, ledgerRows, points};
-ghost use Rattle.record.specs.Rows.{rowsAt, countryAt, ownerEventAt, warEventAt};
-ghost use Rattle.record.specs.Refusal.{firstIn, tagNumber, dateNumber, yearNumber, countryNumber};
-ghost use Rattle.record.specs.Refusal.{switchNumber, ownerEventNumber, warEventNumber, headNumber, fieldsNumber};
+ghost use Rattle.format.specs.Bytes.{tagAt};
+ghost use Rattle.format.specs.Laid.{Laid};
+ghost use Rattle.record.specs.Inside.{TagTable, MonthTable};
+ghost use Rattle.format.specs.Campaign.{countryRows, previousTags, switchRows, provinceRows, ownerEvents, warEvents, ledgerRows, points};
+ghost use Rattle.format.specs.Rows.{rowsAt, countryAt, ownerEventAt, warEventAt};
+ghost use Rattle.format.specs.Refusal.{firstIn, tagNumber, yearNumber, countryNumber};
+ghost use Rattle.format.specs.Refusal.{switchNumber, ownerEventNumber, warEventNumber, headNumber, fieldsNumber};
 
 fn tag_number(tags: &[bool; 256], s: &[u8], at: usize) -> u32
     requires { ⌜ (at + 3 ≤ length (now s)) × (TagTable (now tags)) ⌝ }
     ensures { λ r. ⌜ r ≡ tagNumber (tagAt (now (s .entry)) at) ⌝ }
 {
-    if tag::good_tag_at(tags, s, at) { 0 } else { 4 }
-}
-
-fn date_number(d: Eu4Date) -> u32
-    ensures { λ r. ⌜ r ≡ dateNumber d ⌝ }
-{
-    if d.good() { 0 } else { 5 }
+    if tables::good_tag_at(tags, s, at) {
+        0
+    } else {
+        4
+    }
 }
 
 // The tags at offset k of n rows.
@@ -52,10 +48,10 @@ fn country_number(tags: &[bool; 256], s: &[u8], at: usize) -> u32
     requires { ⌜ (at + 12 ≤ length (now s)) × (TagTable (now tags)) ⌝ }
     ensures { λ r. ⌜ r ≡ countryNumber (countryAt (now (s .entry)) at) ⌝ }
 {
-    if !tag::good_tag_at(tags, s, at) {
+    if !tables::good_tag_at(tags, s, at) {
         return 4;
     }
-    if bytes::country_flags_defined(bytes::byte(s, at + 3)) {
+    if format::country_flags_defined(bytes::byte(s, at + 3)) {
         0
     } else {
         6
@@ -84,7 +80,7 @@ fn dated_number(tags: &[bool; 256], months: &[u32; 100], s: &[u8], at: usize) ->
     requires { ⌜ (at + 7 ≤ length (now s)) × (TagTable (now tags)) × (MonthTable (now months)) ⌝ }
     ensures { λ r. ⌜ r ≡ ownerEventNumber (ownerEventAt (now (s .entry)) at) ⌝ }
 {
-    if !bytes::date_at(s, at).good_by(months) {
+    if !tables::good_by(bytes::date_at(s, at), months) {
         return 5;
     }
     tag_number(tags, s, at + 4)
@@ -112,10 +108,10 @@ fn war_event_number(tags: &[bool; 256], months: &[u32; 100], s: &[u8], at: usize
     requires { ⌜ (at + 8 ≤ length (now s)) × (TagTable (now tags)) × (MonthTable (now months)) ⌝ }
     ensures { λ r. ⌜ r ≡ warEventNumber (warEventAt (now (s .entry)) at) ⌝ }
 {
-    if !bytes::date_at(s, at).good_by(months) {
+    if !tables::good_by(bytes::date_at(s, at), months) {
         return 5;
     }
-    if 4 < bytes::byte(s, at + 4) {
+    if !format::kind_defined(bytes::byte(s, at + 4)) {
         return 6;
     }
     tag_number(tags, s, at + 5)
@@ -138,56 +134,40 @@ fn war_events_number(tags: &[bool; 256], months: &[u32; 100], s: &[u8], at: usiz
     0
 }
 
-// The head's flags and dates.
-fn head_number(h: Head) -> u32
-    requires { ⌜ h .flags < 256 ⌝ }
-    ensures { λ r. ⌜ r ≡ headNumber h ⌝ }
-{
-    let start = h.start;
-    let current = h.current;
-    if !bytes::head_flags_defined(h.flags) {
-        return 6;
-    }
-    if !start.good() {
-        return 5;
-    }
-    date_number(current)
-}
-
 // Each section in its place.
 fn countries_field(tags: &[bool; 256], s: &[u8], h: Head) -> u32
     requires { ⌜ (Laid (now s) h) × (TagTable (now tags)) ⌝ }
     ensures { λ r. ⌜ r ≡ firstIn countryNumber (countryRows (now (s .entry))) ⌝ }
 {
-    countries_number(tags, s, head::COUNTRIES_AT, h.countries as usize)
+    countries_number(tags, s, format::COUNTRIES_AT, h.countries as usize)
 }
 
 fn previous_field(tags: &[bool; 256], s: &[u8], h: Head) -> u32
     requires { ⌜ (Laid (now s) h) × (TagTable (now tags)) ⌝ }
     ensures { λ r. ⌜ r ≡ firstIn (λ t. tagNumber t) (previousTags (now (s .entry))) ⌝ }
 {
-    tags_number(tags, s, head::previous_at(h), 3, 0, h.previous as usize)
+    tags_number(tags, s, format::previous_at(h), 3, 0, h.previous as usize)
 }
 
 fn switches_field(tags: &[bool; 256], months: &[u32; 100], s: &[u8], h: Head) -> u32
     requires { ⌜ (Laid (now s) h) × (TagTable (now tags)) × (MonthTable (now months)) ⌝ }
     ensures { λ r. ⌜ r ≡ firstIn switchNumber (switchRows (now (s .entry))) ⌝ }
 {
-    dated_rows_number(tags, months, s, head::switches_at(h), h.switches as usize)
+    dated_rows_number(tags, months, s, format::switches_at(h), h.switches as usize)
 }
 
 fn provinces_field(tags: &[bool; 256], s: &[u8], h: Head) -> u32
     requires { ⌜ (Laid (now s) h) × (TagTable (now tags)) ⌝ }
     ensures { λ r. ⌜ r ≡ firstIn (λ r. tagNumber (r .owner)) (provinceRows (now (s .entry))) ⌝ }
 {
-    tags_number(tags, s, head::provinces_at(h), 7, 2, h.provinces as usize)
+    tags_number(tags, s, format::provinces_at(h), 7, 2, h.provinces as usize)
 }
 
 fn events_field(tags: &[bool; 256], months: &[u32; 100], s: &[u8], h: Head) -> u32
     requires { ⌜ (Laid (now s) h) × (TagTable (now tags)) × (MonthTable (now months)) ⌝ }
     ensures { λ r. ⌜ r ≡ firstIn ownerEventNumber (ownerEvents (now (s .entry))) ⌝ }
 {
-    dated_rows_number(tags, months, s, head::events_at(h), h.events as usize)
+    dated_rows_number(tags, months, s, format::events_at(h), h.events as usize)
 }
 
 fn wars_field(tags: &[bool; 256], months: &[u32; 100], s: &[u8], h: Head) -> u32
@@ -198,7 +178,7 @@ fn wars_field(tags: &[bool; 256], months: &[u32; 100], s: &[u8], h: Head) -> u32
         tags,
         months,
         s,
-        head::war_events_at(h),
+        format::war_events_at(h),
         h.war_events as usize,
     )
 }
@@ -207,14 +187,14 @@ fn ledgers_field(tags: &[bool; 256], s: &[u8], h: Head) -> u32
     requires { ⌜ (Laid (now s) h) × (TagTable (now tags)) ⌝ }
     ensures { λ r. ⌜ r ≡ firstIn (λ r. tagNumber (r .tag)) (ledgerRows (now (s .entry))) ⌝ }
 {
-    tags_number(tags, s, head::ledgers_at(h), 5, 0, h.ledgers as usize)
+    tags_number(tags, s, format::ledgers_at(h), 5, 0, h.ledgers as usize)
 }
 
 fn points_field(s: &[u8], h: Head) -> u32
     requires { ⌜ Laid (now s) h ⌝ }
     ensures { λ r. ⌜ r ≡ firstIn (λ p. yearNumber (p .year)) (points (now (s .entry))) ⌝ }
 {
-    years::points_number(s, head::points_at(h), h.points as usize)
+    years::points_number(s, format::points_at(h), h.points as usize)
 }
 
 // Each section's fields in the order of the file, behind a head that is not refused.
@@ -255,14 +235,14 @@ fn sections_number(tags: &[bool; 256], months: &[u32; 100], s: &[u8], h: Head) -
 
 // The head's fields, then each section's by tables that are made once.
 pub(crate) fn fields_number(s: &[u8], h: Head) -> u32
-    requires { ⌜ (Laid (now s) h) × (h .flags < 256) ⌝ }
+    requires { ⌜ Laid (now s) h ⌝ }
     ensures { λ r. ⌜ r ≡ fieldsNumber (now (s .entry)) ⌝ }
 {
-    let number = head_number(h);
+    let number = format::head_number(h);
     if number != 0 {
         return number;
     }
-    let tags = tag::tag_table();
-    let months = date::month_table();
+    let tags = tables::tag_table();
+    let months = tables::month_table();
     sections_number(&tags, &months, s, h)
 }

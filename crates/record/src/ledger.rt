@@ -1,8 +1,8 @@
 // Cursors over the ledger names and their points.
 use crate::bytes;
-use crate::rows::Point;
 use crate::runs::Run;
-use crate::tag::CountryTag;
+use format::CountryTag;
+use format::Point;
 ghost use mathlib.Core.Path.{_≡_};
 ghost use Rattle.record.specs.Cursors.{pointsLeft, pointTold, ledgersLeft, ledgerTold};
 

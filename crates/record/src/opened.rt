@@ -1,17 +1,16 @@
 // A record that passed its check, with a cursor over each section.
-use crate::bytes;
 use crate::cursors::Countries;
 use crate::cursors::Provinces;
 use crate::cursors::Wars;
-use crate::date::Eu4Date;
 use crate::head;
-use crate::head::Head;
 use crate::ledger::Ledgers;
 use crate::refusal;
 use crate::runs::Run;
 use crate::texts::Strings;
+use format::Eu4Date;
+use format::Head;
 ghost use mathlib.Core.Path.{_≡_};
-ghost use Rattle.record.specs.Laid.{recordAt};
+ghost use Rattle.record.specs.Inside.{recordAt};
 ghost use Rattle.record.specs.Opened.{RightlyOpened};
 
 pub struct Record {
@@ -36,15 +35,15 @@ fn countries_from(h: Head) -> Countries
 {
     Countries {
         rows: Run {
-            at: head::COUNTRIES_AT,
+            at: format::COUNTRIES_AT,
             left: h.countries as usize,
         },
         previous: Run {
-            at: head::previous_at(h),
+            at: format::previous_at(h),
             left: h.previous as usize,
         },
         switches: Run {
-            at: head::switches_at(h),
+            at: format::switches_at(h),
             left: h.switches as usize,
         },
     }
@@ -55,11 +54,11 @@ fn provinces_from(h: Head) -> Provinces
 {
     Provinces {
         rows: Run {
-            at: head::provinces_at(h),
+            at: format::provinces_at(h),
             left: h.provinces as usize,
         },
         events: Run {
-            at: head::events_at(h),
+            at: format::events_at(h),
             left: h.events as usize,
         },
     }
@@ -70,11 +69,11 @@ fn wars_from(h: Head) -> Wars
 {
     Wars {
         rows: Run {
-            at: head::wars_at(h),
+            at: format::wars_at(h),
             left: h.wars as usize,
         },
         events: Run {
-            at: head::war_events_at(h),
+            at: format::war_events_at(h),
             left: h.war_events as usize,
         },
     }
@@ -85,11 +84,11 @@ fn ledgers_from(h: Head) -> Ledgers
 {
     Ledgers {
         rows: Run {
-            at: head::ledgers_at(h),
+            at: format::ledgers_at(h),
             left: h.ledgers as usize,
         },
         points: Run {
-            at: head::points_at(h),
+            at: format::points_at(h),
             left: h.points as usize,
         },
     }
@@ -99,7 +98,7 @@ fn strings_from(h: Head) -> Strings
     ensures { λ r. ⌜ r ≡ recordAt h .strings ⌝ }
 {
     Strings(Run {
-        at: head::strings_at(h),
+        at: format::strings_at(h),
         left: h.strings as usize,
     })
 }
@@ -116,8 +115,8 @@ pub fn open_record(s: &[u8]) -> Opened
     let start = h.start;
     let current = h.current;
     Opened::Accepted(Record {
-        ironman: bytes::bit0(h.flags),
-        multiplayer: bytes::bit1(h.flags),
+        ironman: format::bit0(h.flags),
+        multiplayer: format::bit1(h.flags),
         start,
         current,
         countries: countries_from(h),

@@ -4,26 +4,17 @@ use crate::head;
 use crate::repeats;
 use crate::sizes;
 ghost use mathlib.Core.Path.{_≡_};
-ghost use Rattle.record.specs.Refusal.{opens, refusal};
-
-fn opens_record(s: &[u8]) -> bool
-    ensures { λ r. ⌜ r ≡ opens (now (s .entry)) ⌝ }
-{
-    if s.len() < 44 {
-        return false;
-    }
-    (s[0] == 65) & (s[1] == 84) & (s[2] == 76)
-}
+ghost use Rattle.format.specs.Refusal.{refusal};
 
 // The refusal number of a record by the order 1, 2, 3; then 4, 5, 6, 9; then 7, 8; 0 for a record that is accepted. Any bytes may be given.
 pub fn check(s: &[u8]) -> u32
     ensures { λ r. ⌜ r ≡ refusal (now (s .entry)) ⌝ }
 {
-    if !opens_record(s) {
+    if !format::opens_record(s) {
         return 1;
     }
     let h = head::read_head(s);
-    if h.version != 1 {
+    if !format::version_known(h) {
         return 2;
     }
     if !sizes::sizes_agree(s, h) {
@@ -36,7 +27,5 @@ pub fn check(s: &[u8]) -> u32
     if repeats::repeated(s, h) {
         return 7;
     }
-    let start = h.start;
-    let current = h.current;
-    if current.earlier(start) { 8 } else { 0 }
+    if format::ends_early(h) { 8 } else { 0 }
 }

@@ -1,28 +1,27 @@
 // Number 7: a country tag or a province id twice, or an id above P. Marks find a repeat in one pass: bits for the many tags,
 // and for the few ids a whole byte each, which is quicker.
 use crate::bytes;
-use crate::head;
-use crate::head::Head;
-use crate::tag::CountryTag;
+use format::CountryTag;
+use format::Head;
 ghost use mathlib.Core.Path.{_≡_};
 ghost use mathlib.Core.Bool.{true, _||_};
 ghost use Prim.Native.Nat.{_+_, _-_, _*_, _/_, _%_, _<_, _≤_};
 ghost use lib.Dec.{ltb};
 ghost use lib.ListN.{length};
 ghost use Rattle.lists.specs.Lists.{anyOf, allOf, twice};
-ghost use Rattle.record.specs.Tags.{isTag};
-ghost use Rattle.record.specs.Bytes.{tagAt, idAt};
-ghost use Rattle.record.specs.Rows.{rowsAt};
-ghost use Rattle.record.specs.Laid.{Laid};
-ghost use Rattle.record.specs.Campaign.{countryRows};
-ghost use Rattle.record.specs.Refusal.{firstIn, countryNumber, tagTwice, idTwiceOrAbove};
+ghost use Rattle.format.specs.Tags.{isTag};
+ghost use Rattle.format.specs.Bytes.{tagAt, idAt};
+ghost use Rattle.format.specs.Rows.{rowsAt};
+ghost use Rattle.format.specs.Laid.{Laid};
+ghost use Rattle.format.specs.Campaign.{countryRows};
+ghost use Rattle.format.specs.Refusal.{firstIn, countryNumber, tagTwice, idTwiceOrAbove};
 
 // A tag's place among all tags. The tag bytes lie from 45 to 122, so that each has 78 places.
 fn place(t: CountryTag) -> usize
     requires { ⌜ isTag t ≡ true ⌝ }
     ensures { λ r. ⌜ r ≡ (t .0 / 65536 - 45) * 6084 + (t .0 / 256 % 256 - 45) * 78 + (t .0 % 256 - 45) ⌝ }
 {
-    let w = t.0;
+    let w = t.word();
     let a = w / 65536 - 45;
     let b = w / 256 % 256 - 45;
     let c = w % 256 - 45;
@@ -82,6 +81,6 @@ pub(crate) fn repeated(s: &[u8], h: Head) -> bool
     requires { ⌜ (Laid (now s) h) × (firstIn countryNumber (countryRows (now s)) ≡ 0) ⌝ }
     ensures { λ r. ⌜ r ≡ tagTwice (now (s .entry)) || idTwiceOrAbove (now (s .entry)) ⌝ }
 {
-    tag_twice(s, head::COUNTRIES_AT, h.countries as usize)
-        | id_twice_or_above(s, head::provinces_at(h), h.provinces as usize)
+    tag_twice(s, format::COUNTRIES_AT, h.countries as usize)
+        | id_twice_or_above(s, format::provinces_at(h), h.provinces as usize)
 }

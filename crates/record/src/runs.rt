@@ -16,7 +16,7 @@ pub(crate) fn least(a: usize, b: usize) -> usize
     if a < b { a } else { b }
 }
 
-pub(crate) fn minus(a: usize, b: usize) -> usize
+pub(crate) fn difference(a: usize, b: usize) -> usize
     ensures { λ r. ⌜ r ≡ a - b ⌝ }
 {
     if b < a { a - b } else { 0 }
@@ -41,7 +41,7 @@ impl Run {
         requires { ⌜ 0 < width ⌝ }
         ensures { λ r. ⌜ r ≡ wholeLeft (length (now (s .entry))) width self ⌝ }
     {
-        least(self.left, minus(s.len(), self.at) / width)
+        least(self.left, difference(s.len(), self.at) / width)
     }
 
     // The run behind its first row.
@@ -51,7 +51,7 @@ impl Run {
     {
         Run {
             at: self.at + width,
-            left: minus(self.left, 1),
+            left: difference(self.left, 1),
         }
     }
 
@@ -71,7 +71,7 @@ impl Run {
         requires { ⌜ n < 65536 ⌝ }
         ensures { λ r. ⌜ r ≡ skipRun (length (now (s .entry))) width n self ⌝ }
     {
-        let left = minus(self.left, n);
+        let left = difference(self.left, n);
         if s.len() < self.at {
             return Run { at: s.len(), left };
         }

@@ -1,18 +1,17 @@
 // Number 3: limits, totals and length.
 use crate::bytes;
-use crate::head;
-use crate::head::Head;
+use format::Head;
 ghost use mathlib.Core.Path.{_≡_};
 ghost use Prim.Native.Nat.{_+_, _*_, _<_, _≤_};
 ghost use lib.Dec.{eqb};
 ghost use lib.ListN.{length};
 ghost use Rattle.lists.specs.Lists.{sumOf};
-ghost use Rattle.record.specs.Bytes.{le16};
-ghost use Rattle.record.specs.Head.{headOf};
-ghost use Rattle.record.specs.Laid.{Laid};
-ghost use Rattle.record.specs.Rows.{rowsAt, stringsEnd};
-ghost use Rattle.record.specs.Campaign.{countryRows, provinceRows, warRows, ledgerRows};
-ghost use Rattle.record.specs.Refusal.{totalsAgree, sizesAgree};
+ghost use Rattle.format.specs.Bytes.{le16};
+ghost use Rattle.format.specs.Head.{headOf};
+ghost use Rattle.format.specs.Laid.{Laid};
+ghost use Rattle.format.specs.Rows.{rowsAt, stringsEnd};
+ghost use Rattle.format.specs.Campaign.{countryRows, provinceRows, warRows, ledgerRows};
+ghost use Rattle.format.specs.Refusal.{totalsAgree, sizesAgree};
 
 // The sum of a 16-bit count at offset k of each of n rows.
 fn total(s: &[u8], at: usize, width: usize, k: usize, n: usize) -> usize
@@ -35,35 +34,35 @@ fn previous_total(s: &[u8], h: Head) -> usize
     requires { ⌜ Laid (now s) h ⌝ }
     ensures { λ r. ⌜ r ≡ sumOf (λ r. r .previous) (countryRows (now (s .entry))) ⌝ }
 {
-    total(s, head::COUNTRIES_AT, 12, 8, h.countries as usize)
+    total(s, format::COUNTRIES_AT, 12, 8, h.countries as usize)
 }
 
 fn switches_total(s: &[u8], h: Head) -> usize
     requires { ⌜ Laid (now s) h ⌝ }
     ensures { λ r. ⌜ r ≡ sumOf (λ r. r .switches) (countryRows (now (s .entry))) ⌝ }
 {
-    total(s, head::COUNTRIES_AT, 12, 10, h.countries as usize)
+    total(s, format::COUNTRIES_AT, 12, 10, h.countries as usize)
 }
 
 fn events_total(s: &[u8], h: Head) -> usize
     requires { ⌜ Laid (now s) h ⌝ }
     ensures { λ r. ⌜ r ≡ sumOf (λ r. r .events) (provinceRows (now (s .entry))) ⌝ }
 {
-    total(s, head::provinces_at(h), 7, 5, h.provinces as usize)
+    total(s, format::provinces_at(h), 7, 5, h.provinces as usize)
 }
 
 fn war_events_total(s: &[u8], h: Head) -> usize
     requires { ⌜ Laid (now s) h ⌝ }
     ensures { λ r. ⌜ r ≡ sumOf (λ n. n) (warRows (now (s .entry))) ⌝ }
 {
-    total(s, head::wars_at(h), 2, 0, h.wars as usize)
+    total(s, format::wars_at(h), 2, 0, h.wars as usize)
 }
 
 fn points_total(s: &[u8], h: Head) -> usize
     requires { ⌜ Laid (now s) h ⌝ }
     ensures { λ r. ⌜ r ≡ sumOf (λ r. r .points) (ledgerRows (now (s .entry))) ⌝ }
 {
-    total(s, head::ledgers_at(h), 5, 3, h.ledgers as usize)
+    total(s, format::ledgers_at(h), 5, 3, h.ledgers as usize)
 }
 
 // The rows that own others count as many as the head says.
@@ -104,10 +103,10 @@ pub(crate) fn sizes_agree(s: &[u8], h: Head) -> bool
     requires { ⌜ h ≡ headOf (now s) ⌝ }
     ensures { λ r. ⌜ r ≡ sizesAgree (now (s .entry)) ⌝ }
 {
-    if !head::within_limits(h) {
+    if !format::within_limits(h) {
         return false;
     }
-    let end = head::strings_at(h);
+    let end = format::strings_at(h);
     if s.len() < end {
         return false;
     }

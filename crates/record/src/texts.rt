@@ -49,7 +49,7 @@ impl Strings {
         }
         let rest = Strings(Run {
             at: at + 1 + len,
-            left: runs::minus(run.left, 1),
+            left: runs::difference(run.left, 1),
         });
         NextString::Row(Text { start: at + 1, len }, rest)
     }

@@ -3,15 +3,19 @@ use crate::bytes;
 ghost use mathlib.Core.Path.{_≡_};
 ghost use Prim.Native.Nat.{_+_, _*_, _≤_};
 ghost use lib.ListN.{length};
-ghost use Rattle.record.specs.Rows.{rowsAt, pointAt};
-ghost use Rattle.record.specs.Refusal.{firstIn, yearNumber};
+ghost use Rattle.format.specs.Rows.{rowsAt, pointAt};
+ghost use Rattle.format.specs.Refusal.{firstIn, yearNumber};
 
 // A point's year.
 fn point_number(s: &[u8], at: usize) -> u32
     requires { ⌜ at + 6 ≤ length (now s) ⌝ }
     ensures { λ r. ⌜ r ≡ yearNumber (pointAt (now (s .entry)) at .year) ⌝ }
 {
-    if bytes::u16_at(s, at) <= 9999 { 0 } else { 9 }
+    if format::year_allowed(bytes::u16_at(s, at)) {
+        0
+    } else {
+        9
+    }
 }
 
 // Four points at once, of which any bad one refuses with the same number.
@@ -19,10 +23,10 @@ fn four_points_number(s: &[u8], at: usize) -> u32
     requires { ⌜ at + 24 ≤ length (now s) ⌝ }
     ensures { λ r. ⌜ r ≡ firstIn (λ p. yearNumber (p .year)) (rowsAt (pointAt (now (s .entry))) 6 (now (s .entry)) at 4) ⌝ }
 {
-    let good = (bytes::u16_at(s, at) <= 9999)
-        & (bytes::u16_at(s, at + 6) <= 9999)
-        & (bytes::u16_at(s, at + 12) <= 9999)
-        & (bytes::u16_at(s, at + 18) <= 9999);
+    let good = format::year_allowed(bytes::u16_at(s, at))
+        & format::year_allowed(bytes::u16_at(s, at + 6))
+        & format::year_allowed(bytes::u16_at(s, at + 12))
+        & format::year_allowed(bytes::u16_at(s, at + 18));
     if good { 0 } else { 9 }
 }
 

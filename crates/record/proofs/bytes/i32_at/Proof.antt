@@ -9,7 +9,7 @@ use mir.Val.{SFits, toZ}
 use mir.Facts.{toZ-pos, toZ-ofZ}
 use borrow.Author.Tests.{lt-ltb, le-ltb}
 use borrow.Author.Needs.{needs}
-use Rattle.record.specs.Bytes.{signed32}
+use Rattle.format.specs.Bytes.{signed32}
 use Rattle.record.proofs.bytes.i32_at.Statement.{statement}
 use Rattle.record.proofs.bytes.i32_at.Tie as tie
 

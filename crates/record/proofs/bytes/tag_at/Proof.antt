@@ -1,51 +1,39 @@
--- Three bytes make the word.
-use Rattle.record.specs.Bytes.{tagAt}
+-- Three bytes make the tag.
+use Rattle.format.specs.Bytes.{tagAt}
 use borrow.Author.Needs.{needs}
 use Rattle.record.proofs.bytes.tag_at.Statement.{statement}
 use Rattle.record.proofs.bytes.tag_at.Tie as tie
 
-byte-requires : tie.Need-byte-requires
-byte-requires c κs = search needs
+shared-slice-read-read : tie.Need-shared-slice-read-read
+shared-slice-read-read c = search needs
 
-mul-t4 : tie.Need-mul-t4
-mul-t4 c = search needs
+add-read : tie.Need-add-read
+add-read c = search needs
 
-add-byte : tie.Need-add-byte
-add-byte c = search needs
+shared-slice-read-read-2 : tie.Need-shared-slice-read-read-2
+shared-slice-read-read-2 c = search needs
 
-byte-requires-2 : tie.Need-byte-requires-2
-byte-requires-2 c κs = search needs
+add-read-2 : tie.Need-add-read-2
+add-read-2 c = search needs
 
-mul-t7 : tie.Need-mul-t7
-mul-t7 c = search needs
+shared-slice-read-read-3 : tie.Need-shared-slice-read-read-3
+shared-slice-read-read-3 c = search needs
 
-add-t8 : tie.Need-add-t8
-add-t8 c = search needs
-
-add-byte-2 : tie.Need-add-byte-2
-add-byte-2 c = search needs
-
-byte-requires-3 : tie.Need-byte-requires-3
-byte-requires-3 c κs = search needs
-
-add-t11 : tie.Need-add-t11
-add-t11 c = search needs
+read-requires : tie.Need-read-requires
+read-requires c κs = tt
 
 returns : tie.Need-returns
 unfolding tagAt
-returns c = cc
+returns c = c .read .ensures
 
 pub tag-at-spec : {M : Type 1} → statement M
 tag-at-spec =
     tie.close
     (tie.spec
-    byte-requires
-    mul-t4
-    add-byte
-    byte-requires-2
-    mul-t7
-    add-t8
-    add-byte-2
-    byte-requires-3
-    add-t11
+    shared-slice-read-read
+    add-read
+    shared-slice-read-read-2
+    add-read-2
+    shared-slice-read-read-3
+    read-requires
     returns)

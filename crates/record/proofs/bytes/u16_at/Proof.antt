@@ -1,6 +1,6 @@
 -- Two bytes, low byte first.
 use native.Mathlib.Omega.{arith}
-use Rattle.record.specs.Bytes.{le16}
+use Rattle.format.specs.Bytes.{le16}
 use borrow.Author.Needs.{needs}
 use Rattle.record.proofs.bytes.u16_at.Statement.{statement}
 use Rattle.record.proofs.bytes.u16_at.Tie as tie

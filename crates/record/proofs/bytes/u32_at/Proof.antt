@@ -1,6 +1,6 @@
 -- Four bytes, low byte first.
 use native.Mathlib.Omega.{arith}
-use Rattle.record.specs.Bytes.{le32}
+use Rattle.format.specs.Bytes.{le32}
 use borrow.Author.Needs.{needs}
 use Rattle.record.proofs.bytes.u32_at.Statement.{statement}
 use Rattle.record.proofs.bytes.u32_at.Tie as tie

@@ -1,9 +1,9 @@
 -- The section that the head lays out, in its place.
 use mathlib.Core.Path.{refl, _∙_}
-use Rattle.record.proofs.HeadLaws.{section-told}
-use Rattle.record.specs.Rows.{countryAt}
-use Rattle.record.specs.Refusal.{firstIn, countryNumber}
-use Rattle.record.specs.Head.{countriesAt}
+use Rattle.format.proofs.HeadLaws.{section-told}
+use Rattle.format.specs.Rows.{countryAt}
+use Rattle.format.specs.Refusal.{firstIn, countryNumber}
+use Rattle.format.specs.Head.{countriesAt}
 use borrow.Author.Needs.{needs}
 use Rattle.record.proofs.fields.countries_field.Statement.{statement}
 use Rattle.record.proofs.fields.countries_field.Tie as tie

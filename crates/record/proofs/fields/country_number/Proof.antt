@@ -3,8 +3,8 @@ use mathlib.Core.Path.{sym, ap, _∙_}
 use borrow.Author.Tests.{not-true, not-false}
 use Prim.Native.Nat.{ℕ}
 use lib.Dec.{ltb}
-use Rattle.record.specs.Rows.{countryAt}
-use Rattle.record.specs.Refusal.{firstOf, countryNumber}
+use Rattle.format.specs.Rows.{countryAt}
+use Rattle.format.specs.Refusal.{firstOf, countryNumber}
 use borrow.Author.Needs.{needs}
 use Rattle.record.proofs.fields.country_number.Statement.{statement}
 use Rattle.record.proofs.fields.country_number.Tie as tie
@@ -23,7 +23,7 @@ byte-requires : tie.Need-byte-requires
 byte-requires c κs = search needs
 
 country-flags-defined-requires : tie.Need-country-flags-defined-requires
-country-flags-defined-requires c κs = search needs
+country-flags-defined-requires c κs = tt
 
 returns-2 : tie.Need-returns-2
 unfolding countryNumber countryAt firstOf

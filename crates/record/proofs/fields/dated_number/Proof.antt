@@ -1,10 +1,10 @@
 -- The date's number, and behind a good date that of the tag.
 use mathlib.Core.Path.{sym, ap, _∙_}
 use borrow.Author.Tests.{not-true, not-false}
-use Rattle.record.specs.Dates.{goodDate}
-use Rattle.record.specs.Rows.{ownerEventAt}
-use Rattle.record.specs.Refusal.{firstOf, ownerEventNumber}
-use Rattle.record.proofs.FirstLaws.{first-one}
+use Rattle.format.specs.Dates.{goodDate}
+use Rattle.format.specs.Rows.{ownerEventAt}
+use Rattle.format.specs.Refusal.{firstOf, ownerEventNumber}
+use Rattle.format.proofs.FirstLaws.{first-one}
 use borrow.Author.Needs.{needs}
 use Rattle.record.proofs.fields.dated_number.Statement.{statement}
 use Rattle.record.proofs.fields.dated_number.Tie as tie

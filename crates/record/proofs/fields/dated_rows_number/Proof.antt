@@ -3,9 +3,9 @@ use mathlib.Core.Path.{_≡_, sym, _∙_}
 use native.Mathlib.Omega.{arith}
 use Prim.Native.Nat.{_+_, _*_, _≤_}
 use lib.ListN.{length}
-use Rattle.record.proofs.FirstLaws.{first-rows-none, first-rows-pass, first-rows-stop}
-use Rattle.record.specs.Rows.{rowsAt, ownerEventAt}
-use Rattle.record.specs.Refusal.{firstIn, ownerEventNumber}
+use Rattle.format.proofs.FirstLaws.{first-rows-none, first-rows-pass, first-rows-stop}
+use Rattle.format.specs.Rows.{rowsAt, ownerEventAt}
+use Rattle.format.specs.Refusal.{firstIn, ownerEventNumber}
 use borrow.Author.Needs.{needs}
 use Rattle.record.proofs.fields.dated_rows_number.Statement.{statement}
 use Rattle.record.proofs.fields.dated_rows_number.Tie as tie

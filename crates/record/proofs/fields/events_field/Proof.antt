@@ -1,15 +1,15 @@
 -- The section that the head lays out, in its place.
 use mathlib.Core.Path.{_∙_}
-use Rattle.record.proofs.HeadLaws.{section-told}
-use Rattle.record.specs.Rows.{ownerEventAt}
-use Rattle.record.specs.Refusal.{firstIn, ownerEventNumber}
-use Rattle.record.specs.Head.{eventsAt}
+use Rattle.format.proofs.HeadLaws.{section-told}
+use Rattle.format.specs.Rows.{ownerEventAt}
+use Rattle.format.specs.Refusal.{firstIn, ownerEventNumber}
+use Rattle.format.specs.Head.{eventsAt}
 use borrow.Author.Needs.{needs}
 use Rattle.record.proofs.fields.events_field.Statement.{statement}
 use Rattle.record.proofs.fields.events_field.Tie as tie
 
 events-at-requires : tie.Need-events-at-requires
-events-at-requires c κs = search needs
+events-at-requires c κs = tt
 
 cast-dated-rows-number : tie.Need-cast-dated-rows-number
 cast-dated-rows-number c = search needs

@@ -1,31 +1,30 @@
 -- A head that refuses decides; else the sections do, by tables that hold their rules.
 use mathlib.Core.Path.{sym, ap, _∙_}
-use Rattle.record.specs.Refusal.{headNumber, fieldsNumber}
-use Rattle.record.proofs.FirstLaws.{first-stop}
-use borrow.Author.Needs.{needs}
+use Rattle.format.specs.Refusal.{headNumber, fieldsNumber}
+use Rattle.format.proofs.FirstLaws.{first-stop}
 use Rattle.record.proofs.fields.fields_number.Statement.{statement}
 use Rattle.record.proofs.fields.fields_number.Tie as tie
 
 head-number-requires : tie.Need-head-number-requires
-head-number-requires c κs = search needs
+head-number-requires c κs = tt
 
 returns : tie.Need-returns
 unfolding fieldsNumber
 returns c =
-    let head = c .before .head-number .ensures ∙ ap headNumber (c .before .before .before .pre .0 .head) in
+    let head = c .before .head-number .ensures ∙ ap headNumber (c .before .before .before .pre .head) in
     head ∙ sym (first-stop _ _ (λ e. c .if1 .taken (head ∙ e)))
 
 tag-table-requires : tie.Need-tag-table-requires
-tag-table-requires c κs = search needs
+tag-table-requires c κs = tt
 
 month-table-requires : tie.Need-month-table-requires
-month-table-requires c κs = search needs
+month-table-requires c κs = tt
 
 sections-number-requires : tie.Need-sections-number-requires
 sections-number-requires c κs =
     let known = c .before .before .before .before in
     let start = known .before .before .before in
-    (start .pre .0, sym (known .before .head-number .ensures) ∙ known .if1 .left, c .before .before .before .tag-table .ensures, c .before .before .month-table .ensures)
+    (start .pre, sym (known .before .head-number .ensures) ∙ known .if1 .left, c .before .before .before .tag-table .ensures, c .before .before .month-table .ensures)
 
 returns-2 : tie.Need-returns-2
 returns-2 c = c .sections-number .ensures

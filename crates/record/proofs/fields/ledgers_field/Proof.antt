@@ -1,20 +1,20 @@
 -- The section that the head lays out, in its place.
 use mathlib.Core.Path.{ap, _∙_}
 use Prim.Native.Nat.{ℕ, _+_}
-use Rattle.record.proofs.HeadLaws.{section-told}
-use Rattle.record.proofs.FirstLaws.{first-rows-same}
-use Rattle.record.specs.Rows.{ledgerAt}
-use Rattle.record.specs.Refusal.{firstIn, tagNumber}
-use Rattle.record.specs.Head.{ledgersAt}
+use Rattle.format.proofs.HeadLaws.{section-told}
+use Rattle.format.proofs.FirstLaws.{first-rows-same}
+use Rattle.format.specs.Rows.{ledgerAt}
+use Rattle.format.specs.Refusal.{firstIn, tagNumber}
+use Rattle.format.specs.Head.{ledgersAt}
 use native.Mathlib.Nat.{add-zero}
-use Rattle.record.specs.Bytes.{tagAt}
-use Rattle.record.specs.Rows.{PackedLedger}
+use Rattle.format.specs.Bytes.{tagAt}
+use Rattle.format.specs.Rows.{PackedLedger}
 use borrow.Author.Needs.{needs}
 use Rattle.record.proofs.fields.ledgers_field.Statement.{statement}
 use Rattle.record.proofs.fields.ledgers_field.Tie as tie
 
 ledgers-at-requires : tie.Need-ledgers-at-requires
-ledgers-at-requires c κs = search needs
+ledgers-at-requires c κs = tt
 
 cast-tags-number : tie.Need-cast-tags-number
 cast-tags-number c = search needs

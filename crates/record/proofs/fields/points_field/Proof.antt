@@ -1,16 +1,16 @@
 -- The section that the head lays out, in its place.
 use mathlib.Core.Path.{_∙_}
-use Rattle.record.proofs.HeadLaws.{section-told}
-use Rattle.record.specs.Rows.{pointAt}
-use Rattle.record.specs.Refusal.{firstIn, yearNumber}
-use Rattle.record.specs.Head.{pointsAt}
-use Rattle.record.specs.declared.rows.Point.{Point}
+use Rattle.format.proofs.HeadLaws.{section-told}
+use Rattle.format.specs.Rows.{pointAt}
+use Rattle.format.specs.Refusal.{firstIn, yearNumber}
+use Rattle.format.specs.Head.{pointsAt}
+use Rattle.format.specs.declared.rows.Point.{Point}
 use borrow.Author.Needs.{needs}
 use Rattle.record.proofs.fields.points_field.Statement.{statement}
 use Rattle.record.proofs.fields.points_field.Tie as tie
 
 points-at-requires : tie.Need-points-at-requires
-points-at-requires c κs = search needs
+points-at-requires c κs = tt
 
 cast-points-number : tie.Need-cast-points-number
 cast-points-number c = search needs

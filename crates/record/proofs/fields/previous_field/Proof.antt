@@ -1,18 +1,18 @@
 -- The section that the head lays out, in its place.
 use mathlib.Core.Path.{ap, _∙_}
 use Prim.Native.Nat.{ℕ, _+_}
-use Rattle.record.proofs.HeadLaws.{section-told}
-use Rattle.record.proofs.FirstLaws.{first-rows-same}
-use Rattle.record.specs.Refusal.{firstIn, tagNumber}
-use Rattle.record.specs.Head.{previousAt}
+use Rattle.format.proofs.HeadLaws.{section-told}
+use Rattle.format.proofs.FirstLaws.{first-rows-same}
+use Rattle.format.specs.Refusal.{firstIn, tagNumber}
+use Rattle.format.specs.Head.{previousAt}
 use native.Mathlib.Nat.{add-zero}
-use Rattle.record.specs.Bytes.{tagAt}
+use Rattle.format.specs.Bytes.{tagAt}
 use borrow.Author.Needs.{needs}
 use Rattle.record.proofs.fields.previous_field.Statement.{statement}
 use Rattle.record.proofs.fields.previous_field.Tie as tie
 
 previous-at-requires : tie.Need-previous-at-requires
-previous-at-requires c κs = search needs
+previous-at-requires c κs = tt
 
 cast-tags-number : tie.Need-cast-tags-number
 cast-tags-number c = search needs

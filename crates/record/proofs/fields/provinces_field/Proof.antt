@@ -1,19 +1,19 @@
 -- The section that the head lays out, in its place.
 use mathlib.Core.Path.{refl, _∙_}
 use Prim.Native.Nat.{ℕ, _+_}
-use Rattle.record.proofs.HeadLaws.{section-told}
-use Rattle.record.proofs.FirstLaws.{first-rows-same}
-use Rattle.record.specs.Rows.{provinceAt}
-use Rattle.record.specs.Refusal.{firstIn, tagNumber}
-use Rattle.record.specs.Head.{provincesAt}
-use Rattle.record.specs.Bytes.{tagAt}
-use Rattle.record.specs.Rows.{PackedProvince}
+use Rattle.format.proofs.HeadLaws.{section-told}
+use Rattle.format.proofs.FirstLaws.{first-rows-same}
+use Rattle.format.specs.Rows.{provinceAt}
+use Rattle.format.specs.Refusal.{firstIn, tagNumber}
+use Rattle.format.specs.Head.{provincesAt}
+use Rattle.format.specs.Bytes.{tagAt}
+use Rattle.format.specs.Rows.{PackedProvince}
 use borrow.Author.Needs.{needs}
 use Rattle.record.proofs.fields.provinces_field.Statement.{statement}
 use Rattle.record.proofs.fields.provinces_field.Tie as tie
 
 provinces-at-requires : tie.Need-provinces-at-requires
-provinces-at-requires c κs = search needs
+provinces-at-requires c κs = tt
 
 cast-tags-number : tie.Need-cast-tags-number
 cast-tags-number c = search needs

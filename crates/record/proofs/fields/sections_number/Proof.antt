@@ -1,7 +1,7 @@
 -- The first section that refuses decides: those before it, and the head, pass.
 use mathlib.Core.Path.{sym, ap, _∙_}
-use Rattle.record.specs.Refusal.{headNumber, fieldsNumber}
-use Rattle.record.proofs.FirstLaws.{first-pass, first-stop, first-one}
+use Rattle.format.specs.Refusal.{headNumber, fieldsNumber}
+use Rattle.format.proofs.FirstLaws.{first-pass, first-stop, first-one}
 use borrow.Author.Needs.{needs}
 use Rattle.record.proofs.fields.sections_number.Statement.{statement}
 use Rattle.record.proofs.fields.sections_number.Tie as tie

@@ -1,18 +1,18 @@
 -- The section that the head lays out, in its place.
 use mathlib.Core.Path.{refl, _∙_}
 use Prim.Native.Nat.{ℕ}
-use Rattle.record.proofs.HeadLaws.{section-told}
-use Rattle.record.proofs.FirstLaws.{first-rows-same}
-use Rattle.record.specs.Rows.{switchAt}
-use Rattle.record.specs.Refusal.{firstIn, switchNumber, ownerEventNumber}
-use Rattle.record.specs.Head.{switchesAt}
-use Rattle.record.specs.Rows.{ownerEventAt}
+use Rattle.format.proofs.HeadLaws.{section-told}
+use Rattle.format.proofs.FirstLaws.{first-rows-same}
+use Rattle.format.specs.Rows.{switchAt}
+use Rattle.format.specs.Refusal.{firstIn, switchNumber, ownerEventNumber}
+use Rattle.format.specs.Head.{switchesAt}
+use Rattle.format.specs.Rows.{ownerEventAt}
 use borrow.Author.Needs.{needs}
 use Rattle.record.proofs.fields.switches_field.Statement.{statement}
 use Rattle.record.proofs.fields.switches_field.Tie as tie
 
 switches-at-requires : tie.Need-switches-at-requires
-switches-at-requires c κs = search needs
+switches-at-requires c κs = tt
 
 cast-dated-rows-number : tie.Need-cast-dated-rows-number
 cast-dated-rows-number c = search needs

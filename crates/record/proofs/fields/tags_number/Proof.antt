@@ -3,11 +3,11 @@ use mathlib.Core.Path.{_≡_, sym, _∙_}
 use native.Mathlib.Omega.{arith}
 use Prim.Native.Nat.{ℕ, _+_, _*_, _≤_}
 use lib.ListN.{length}
-use Rattle.record.proofs.FirstLaws.{first-rows-none, first-rows-pass, first-rows-stop}
-use Rattle.record.proofs.RowLaws.{one-row}
-use Rattle.record.specs.Rows.{rowsAt}
-use Rattle.record.specs.Refusal.{firstIn, tagNumber}
-use Rattle.record.specs.Bytes.{tagAt}
+use Rattle.format.proofs.FirstLaws.{first-rows-none, first-rows-pass, first-rows-stop}
+use Rattle.format.proofs.RowLaws.{one-row}
+use Rattle.format.specs.Rows.{rowsAt}
+use Rattle.format.specs.Refusal.{firstIn, tagNumber}
+use Rattle.format.specs.Bytes.{tagAt}
 use borrow.Author.Needs.{needs}
 use Rattle.record.proofs.fields.tags_number.Statement.{statement}
 use Rattle.record.proofs.fields.tags_number.Tie as tie

@@ -1,12 +1,12 @@
 -- The date's number, behind a good date that of the kind, and behind a good kind that of the tag.
 use mathlib.Core.Path.{sym, ap, _∙_}
-use borrow.Author.Tests.{not-true, not-false, lt-leb, le-leb}
+use borrow.Author.Tests.{not-true, not-false}
 use Prim.Native.Nat.{ℕ}
 use lib.Dec.{leb}
-use Rattle.record.specs.Dates.{goodDate}
-use Rattle.record.specs.Rows.{warEventAt}
-use Rattle.record.specs.Refusal.{firstOf, warEventNumber}
-use Rattle.record.proofs.FirstLaws.{first-one}
+use Rattle.format.specs.Dates.{goodDate}
+use Rattle.format.specs.Rows.{warEventAt}
+use Rattle.format.specs.Refusal.{firstOf, warEventNumber}
+use Rattle.format.proofs.FirstLaws.{first-one}
 use borrow.Author.Needs.{needs}
 use Rattle.record.proofs.fields.war_event_number.Statement.{statement}
 use Rattle.record.proofs.fields.war_event_number.Tie as tie
@@ -28,13 +28,17 @@ add-byte c = search needs
 byte-requires : tie.Need-byte-requires
 byte-requires c κs = search needs
 
+kind-defined-requires : tie.Need-kind-defined-requires
+kind-defined-requires c κs = tt
+
 returns-2 : tie.Need-returns-2
 unfolding warEventNumber warEventAt firstOf
 returns-2 c =
-    let dated = c .before .before .before in
+    let kind = c .before in
+    let dated = kind .before .before .before in
     simp (
-      sym (ap goodDate (dated .before .date-at .ensures)) ∙ sym (dated .good-by .ensures) ∙ not-false _ (c .before .before .if1 .left),
-      sym (ap (λ (k : ℕ). leb k 4) (c .before .byte .ensures .same)) ∙ lt-leb _ _ (c .if2 .taken),
+      sym (ap goodDate (dated .before .date-at .ensures)) ∙ sym (dated .good-by .ensures) ∙ not-false _ (kind .before .before .if1 .left),
+      sym (ap (λ (k : ℕ). leb k 4) (kind .before .byte .ensures .same)) ∙ sym (kind .kind-defined .ensures) ∙ not-true _ (c .if2 .taken),
     )
 
 add-tag-number : tie.Need-add-tag-number
@@ -46,11 +50,12 @@ tag-number-requires c κs = search needs
 returns-3 : tie.Need-returns-3
 unfolding warEventNumber warEventAt firstOf
 returns-3 c =
-    let dated = c .before .before .before .before in
+    let kind = c .before .before in
+    let dated = kind .before .before .before in
     c .tag-number .ensures
     ∙ sym (simp (
-      sym (ap goodDate (dated .before .date-at .ensures)) ∙ sym (dated .good-by .ensures) ∙ not-false _ (c .before .before .before .if1 .left),
-      sym (ap (λ (k : ℕ). leb k 4) (c .before .before .byte .ensures .same)) ∙ le-leb _ _ (c .before .if2 .left),
+      sym (ap goodDate (dated .before .date-at .ensures)) ∙ sym (dated .good-by .ensures) ∙ not-false _ (kind .before .before .if1 .left),
+      sym (ap (λ (k : ℕ). leb k 4) (kind .before .byte .ensures .same)) ∙ sym (kind .kind-defined .ensures) ∙ not-false _ (c .before .if2 .left),
     ) (first-one _))
 
 pub war-event-number-spec : {M : Type 1} → statement M
@@ -62,6 +67,7 @@ war-event-number-spec =
     returns
     add-byte
     byte-requires
+    kind-defined-requires
     returns-2
     add-tag-number
     tag-number-requires

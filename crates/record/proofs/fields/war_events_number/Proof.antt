@@ -3,9 +3,9 @@ use mathlib.Core.Path.{_≡_, sym, _∙_}
 use native.Mathlib.Omega.{arith}
 use Prim.Native.Nat.{_+_, _*_, _≤_}
 use lib.ListN.{length}
-use Rattle.record.proofs.FirstLaws.{first-rows-none, first-rows-pass, first-rows-stop}
-use Rattle.record.specs.Rows.{rowsAt, warEventAt}
-use Rattle.record.specs.Refusal.{firstIn, warEventNumber}
+use Rattle.format.proofs.FirstLaws.{first-rows-none, first-rows-pass, first-rows-stop}
+use Rattle.format.specs.Rows.{rowsAt, warEventAt}
+use Rattle.format.specs.Refusal.{firstIn, warEventNumber}
 use borrow.Author.Needs.{needs}
 use Rattle.record.proofs.fields.war_events_number.Statement.{statement}
 use Rattle.record.proofs.fields.war_events_number.Tie as tie

@@ -1,15 +1,15 @@
 -- The section that the head lays out, in its place.
 use mathlib.Core.Path.{_∙_}
-use Rattle.record.proofs.HeadLaws.{section-told}
-use Rattle.record.specs.Rows.{warEventAt}
-use Rattle.record.specs.Refusal.{firstIn, warEventNumber}
-use Rattle.record.specs.Head.{warEventsAt}
+use Rattle.format.proofs.HeadLaws.{section-told}
+use Rattle.format.specs.Rows.{warEventAt}
+use Rattle.format.specs.Refusal.{firstIn, warEventNumber}
+use Rattle.format.specs.Head.{warEventsAt}
 use borrow.Author.Needs.{needs}
 use Rattle.record.proofs.fields.wars_field.Statement.{statement}
 use Rattle.record.proofs.fields.wars_field.Tie as tie
 
 war-events-at-requires : tie.Need-war-events-at-requires
-war-events-at-requires c κs = search needs
+war-events-at-requires c κs = tt
 
 cast-war-events-number : tie.Need-cast-war-events-number
 cast-war-events-number c = search needs

@@ -1,5 +1,5 @@
 -- Each part is where the head puts it.
-use Rattle.record.specs.Laid.{recordAt}
+use Rattle.record.specs.Inside.{recordAt}
 use borrow.Author.Needs.{needs}
 use Rattle.record.proofs.opened.countries_from.Statement.{statement}
 use Rattle.record.proofs.opened.countries_from.Tie as tie
@@ -8,20 +8,20 @@ cast-t2 : tie.Need-cast-t2
 cast-t2 c = search needs
 
 previous-at-requires : tie.Need-previous-at-requires
-previous-at-requires c κs = search needs
+previous-at-requires c κs = tt
 
 cast-t5 : tie.Need-cast-t5
 cast-t5 c = search needs
 
 switches-at-requires : tie.Need-switches-at-requires
-switches-at-requires c κs = search needs
+switches-at-requires c κs = tt
 
 cast-t8 : tie.Need-cast-t8
 cast-t8 c = search needs
 
 returns : tie.Need-returns
 unfolding recordAt
-returns c = cc
+returns c = rw (c .before .before .before .previous-at .ensures, c .before .switches-at .ensures)
 
 pub countries-from-spec : {M : Type 1} → statement M
 countries-from-spec =

@@ -1,21 +1,22 @@
 -- The checks in order: each that passed gives 0, and the first that refuses gives its number. What one check shows, the next may require.
-use mathlib.Core.Path.{sym, ap, ap₂, _∙_}
-use native.Mathlib.Omega.{arith}
+use mathlib.Core.Path.{sym, ap, _∙_}
+use mathlib.Core.Bool.{Bool}
 use borrow.Author.Tests.{not-true, not-false}
-use borrow.Author.Tests.{eq-eqb, ne-eqb}
-use Rattle.record.proofs.FirstLaws.{first-stop}
-use Rattle.record.specs.Refusal.{firstOf, fieldsNumber, repeatsNumber, orderNumber, refusal}
+use lib.Dec.{eqb}
+use Rattle.format.proofs.FirstLaws.{first-stop}
+use Rattle.format.specs.Refusal.{firstOf, fieldsNumber, repeatsNumber, orderNumber, refusal}
 use mathlib.Core.List.{[], _∷_}
-use Rattle.record.specs.Head.{headOf}
-use Rattle.record.specs.Dates.{earlier}
-use Rattle.record.proofs.SizeLaws.{opens-long, laid}
+use Rattle.format.specs.declared.head.Head.{Head}
+use Rattle.format.specs.Laid.{Laid}
+use Rattle.format.specs.Dates.{earlier}
+use Rattle.format.proofs.SizeLaws.{opens-long, laid}
 use Rattle.record.proofs.RepeatLaws.{fields-countries}
 use borrow.Author.Needs.{needs}
 use Rattle.record.proofs.refusal.check.Statement.{statement}
 use Rattle.record.proofs.refusal.check.Tie as tie
 
 opens-record-requires : tie.Need-opens-record-requires
-opens-record-requires c κs = search needs
+opens-record-requires c κs = tt
 
 returns : tie.Need-returns
 unfolding refusal firstOf
@@ -24,12 +25,24 @@ returns c = simp (sym (c .before .opens-record .ensures) ∙ not-true _ (c .if1 
 read-head-requires : tie.Need-read-head-requires
 read-head-requires c κs = opens-long _ (sym (c .before .opens-record .ensures) ∙ not-false _ (c .if1 .left))
 
+abbrev versioned : Head → Bool
+versioned h = eqb (h .version) 1
+
+abbrev turned : Head → Bool
+turned h = earlier (h .current) (h .start)
+
+version-known-requires : tie.Need-version-known-requires
+version-known-requires c κs = tt
+
 returns-2 : tie.Need-returns-2
 unfolding refusal firstOf
 returns-2 c =
+    let read = c .before .before in
+    let head = read .read-head in
+    let kept = read .before in
     simp (
-      sym (c .before .before .before .before .opens-record .ensures) ∙ not-false _ (c .before .before .before .if1 .left),
-      ne-eqb _ _ (λ e. c .if2 .taken (ap (λ k. k .version) (c .before .before .read-head .ensures) ∙ e)),
+      sym (kept .before .opens-record .ensures) ∙ not-false _ (kept .if1 .left),
+      sym (ap versioned (head .ensures)) ∙ sym (c .before .version-known .ensures) ∙ not-true _ (c .if2 .taken),
     )
 
 sizes-agree-requires : tie.Need-sizes-agree-requires
@@ -38,71 +51,102 @@ sizes-agree-requires c κs = search needs
 returns-3 : tie.Need-returns-3
 unfolding refusal firstOf
 returns-3 c =
+    let known = c .before .before in
+    let read = known .before .before in
+    let head = read .read-head in
+    let kept = read .before in
     simp (
-      sym (c .before .before .before .before .before .before .opens-record .ensures) ∙ not-false _ (c .before .before .before .before .before .if1 .left),
-      eq-eqb _ _ (sym (ap (λ k. k .version) (c .before .before .before .before .read-head .ensures)) ∙ c .before .before .if2 .left),
+      sym (kept .before .opens-record .ensures) ∙ not-false _ (kept .if1 .left),
+      sym (ap versioned (head .ensures)) ∙ sym (known .before .version-known .ensures) ∙ not-false _ (known .if2 .left),
       sym (c .before .sizes-agree .ensures) ∙ not-true _ (c .if3 .taken),
     )
 
+-- what agreeing sizes show
+laid-out : (c : tie.Else3) → Laid (c .before .before .before .before .before .before .before .before .args .s .now) (c .before .before .before .before .read-head .result)
+laid-out c = laid _ _ (c .before .before .before .before .read-head .ensures) (sym (c .before .sizes-agree .ensures) ∙ not-false _ (c .if3 .left))
+
 fields-number-requires : tie.Need-fields-number-requires
-unfolding headOf
-fields-number-requires c κs = (
-  laid (c .before .before .before .before .before .before .before .before .args .s .now) _ (c .before .before .before .before .read-head .ensures) (sym (c .before .sizes-agree .ensures) ∙ not-false _ (c .if3 .left)),
-  omega (arith, ap (λ k. k .flags) (c .before .before .before .before .read-head .ensures), c .before .before .before .before .before .before .before .shared-slice-known .given 5),
-)
+fields-number-requires c κs = laid-out c
 
 returns-4 : tie.Need-returns-4
 unfolding refusal firstOf
 returns-4 c =
+    let sized = c .before .before in
+    let known = sized .before .before in
+    let read = known .before .before in
+    let head = read .read-head in
+    let kept = read .before in
+    let xs = kept .before .before .before .args .s .now in
     simp (
-      sym (c .before .before .before .before .before .before .before .before .opens-record .ensures) ∙ not-false _ (c .before .before .before .before .before .before .before .if1 .left),
-      eq-eqb _ _ (sym (ap (λ k. k .version) (c .before .before .before .before .before .before .read-head .ensures)) ∙ c .before .before .before .before .if2 .left),
-      sym (c .before .before .before .sizes-agree .ensures) ∙ not-false _ (c .before .before .if3 .left),
+      sym (kept .before .opens-record .ensures) ∙ not-false _ (kept .if1 .left),
+      sym (ap versioned (head .ensures)) ∙ sym (known .before .version-known .ensures) ∙ not-false _ (known .if2 .left),
+      sym (sized .before .sizes-agree .ensures) ∙ not-false _ (sized .if3 .left),
     )
-    (c .before .fields-number .ensures ∙ sym (first-stop (fieldsNumber (c .before .before .before .before .before .before .before .before .before .before .args .s .now)) (repeatsNumber (c .before .before .before .before .before .before .before .before .before .before .args .s .now) ∷ orderNumber (c .before .before .before .before .before .before .before .before .before .before .args .s .now) ∷ []) (λ e. c .if4 .taken (c .before .fields-number .ensures ∙ e))))
+    (c .before .fields-number .ensures
+    ∙ sym (first-stop (fieldsNumber xs) (repeatsNumber xs ∷ orderNumber xs ∷ []) (λ e. c .if4 .taken (c .before .fields-number .ensures ∙ e))))
 
 repeated-requires : tie.Need-repeated-requires
 repeated-requires c κs = (
-  laid (c .before .before .before .before .before .before .before .before .before .before .args .s .now) _ (c .before .before .before .before .before .before .read-head .ensures) (sym (c .before .before .before .sizes-agree .ensures) ∙ not-false _ (c .before .before .if3 .left)),
+  laid-out (c .before .before),
   fields-countries (c .before .before .before .before .before .before .before .before .before .before .args .s .now) (sym (c .before .fields-number .ensures) ∙ c .if4 .left),
 )
 
 returns-5 : tie.Need-returns-5
 unfolding refusal firstOf
 returns-5 c =
+    let good = c .before .before in
+    let sized = good .before .before in
+    let known = sized .before .before in
+    let read = known .before .before in
+    let head = read .read-head in
+    let kept = read .before in
     simp (
-      sym (c .before .before .before .before .before .before .before .before .before .before .opens-record .ensures) ∙ not-false _ (c .before .before .before .before .before .before .before .before .before .if1 .left),
-      eq-eqb _ _ (sym (ap (λ k. k .version) (c .before .before .before .before .before .before .before .before .read-head .ensures)) ∙ c .before .before .before .before .before .before .if2 .left),
-      sym (c .before .before .before .before .before .sizes-agree .ensures) ∙ not-false _ (c .before .before .before .before .if3 .left),
-      sym (c .before .before .before .fields-number .ensures) ∙ c .before .before .if4 .left,
+      sym (kept .before .opens-record .ensures) ∙ not-false _ (kept .if1 .left),
+      sym (ap versioned (head .ensures)) ∙ sym (known .before .version-known .ensures) ∙ not-false _ (known .if2 .left),
+      sym (sized .before .sizes-agree .ensures) ∙ not-false _ (sized .if3 .left),
+      sym (good .before .fields-number .ensures) ∙ good .if4 .left,
       sym (c .before .repeated .ensures) ∙ c .if5 .taken,
     )
 
-earlier-requires : tie.Need-earlier-requires
-earlier-requires c κs = search needs
+ends-early-requires : tie.Need-ends-early-requires
+ends-early-requires c κs = tt
 
 returns-6 : tie.Need-returns-6
 unfolding refusal firstOf
 returns-6 c =
+    let once = c .before .before in
+    let good = once .before .before in
+    let sized = good .before .before in
+    let known = sized .before .before in
+    let read = known .before .before in
+    let head = read .read-head in
+    let kept = read .before in
     simp (
-      sym (c .before .before .before .before .before .before .before .before .before .before .before .before .before .before .opens-record .ensures) ∙ not-false _ (c .before .before .before .before .before .before .before .before .before .before .before .before .before .if1 .left),
-      eq-eqb _ _ (sym (ap (λ k. k .version) (c .before .before .before .before .before .before .before .before .before .before .before .before .read-head .ensures)) ∙ c .before .before .before .before .before .before .before .before .before .before .if2 .left),
-      sym (c .before .before .before .before .before .before .before .before .before .sizes-agree .ensures) ∙ not-false _ (c .before .before .before .before .before .before .before .before .if3 .left),
-      sym (c .before .before .before .before .before .before .before .fields-number .ensures) ∙ c .before .before .before .before .before .before .if4 .left,
-      sym (c .before .before .before .before .before .repeated .ensures) ∙ c .before .before .before .before .if5 .left,
-      sym (ap₂ earlier (ap (λ k. k .current) (c .before .before .before .before .before .before .before .before .before .before .before .before .read-head .ensures)) (ap (λ k. k .start) (c .before .before .before .before .before .before .before .before .before .before .before .before .read-head .ensures))) ∙ sym (c .before .earlier .ensures) ∙ c .if6 .taken,
+      sym (kept .before .opens-record .ensures) ∙ not-false _ (kept .if1 .left),
+      sym (ap versioned (head .ensures)) ∙ sym (known .before .version-known .ensures) ∙ not-false _ (known .if2 .left),
+      sym (sized .before .sizes-agree .ensures) ∙ not-false _ (sized .if3 .left),
+      sym (good .before .fields-number .ensures) ∙ good .if4 .left,
+      sym (once .before .repeated .ensures) ∙ once .if5 .left,
+      sym (ap turned (head .ensures)) ∙ sym (c .before .ends-early .ensures) ∙ c .if6 .taken,
     )
 
 returns-7 : tie.Need-returns-7
 unfolding refusal firstOf
 returns-7 c =
+    let once = c .before .before in
+    let good = once .before .before in
+    let sized = good .before .before in
+    let known = sized .before .before in
+    let read = known .before .before in
+    let head = read .read-head in
+    let kept = read .before in
     simp (
-      sym (c .before .before .before .before .before .before .before .before .before .before .before .before .before .before .opens-record .ensures) ∙ not-false _ (c .before .before .before .before .before .before .before .before .before .before .before .before .before .if1 .left),
-      eq-eqb _ _ (sym (ap (λ k. k .version) (c .before .before .before .before .before .before .before .before .before .before .before .before .read-head .ensures)) ∙ c .before .before .before .before .before .before .before .before .before .before .if2 .left),
-      sym (c .before .before .before .before .before .before .before .before .before .sizes-agree .ensures) ∙ not-false _ (c .before .before .before .before .before .before .before .before .if3 .left),
-      sym (c .before .before .before .before .before .before .before .fields-number .ensures) ∙ c .before .before .before .before .before .before .if4 .left,
-      sym (c .before .before .before .before .before .repeated .ensures) ∙ c .before .before .before .before .if5 .left,
-      sym (ap₂ earlier (ap (λ k. k .current) (c .before .before .before .before .before .before .before .before .before .before .before .before .read-head .ensures)) (ap (λ k. k .start) (c .before .before .before .before .before .before .before .before .before .before .before .before .read-head .ensures))) ∙ sym (c .before .earlier .ensures) ∙ c .if6 .left,
+      sym (kept .before .opens-record .ensures) ∙ not-false _ (kept .if1 .left),
+      sym (ap versioned (head .ensures)) ∙ sym (known .before .version-known .ensures) ∙ not-false _ (known .if2 .left),
+      sym (sized .before .sizes-agree .ensures) ∙ not-false _ (sized .if3 .left),
+      sym (good .before .fields-number .ensures) ∙ good .if4 .left,
+      sym (once .before .repeated .ensures) ∙ once .if5 .left,
+      sym (ap turned (head .ensures)) ∙ sym (c .before .ends-early .ensures) ∙ c .if6 .left,
     )
 
 pub check-spec : {M : Type 1} → statement M
@@ -112,6 +156,7 @@ check-spec =
     opens-record-requires
     returns
     read-head-requires
+    version-known-requires
     returns-2
     sizes-agree-requires
     returns-3
@@ -119,6 +164,6 @@ check-spec =
     returns-4
     repeated-requires
     returns-5
-    earlier-requires
+    ends-early-requires
     returns-6
     returns-7)

@@ -9,9 +9,9 @@ use lib.ListN.{length, set, replicate, length-set}
 use Rattle.lists.specs.Lists.{anyOf, twice}
 use Rattle.lists.proofs.BoolLaws.{or-true}
 use Rattle.lists.proofs.TableLaws.{blank}
-use Rattle.record.specs.Bytes.{idAt}
-use Rattle.record.specs.Rows.{rowsAt}
-use Rattle.record.proofs.RowLaws.{rows-none}
+use Rattle.format.specs.Bytes.{idAt}
+use Rattle.format.specs.Rows.{rowsAt}
+use Rattle.format.proofs.RowLaws.{rows-none}
 use Rattle.record.proofs.RepeatLaws.{repeats, repeats-start, repeats-nil, idSeen, rows-hit, id-marked, rows-above, rows-not-above}
 use borrow.Author.Needs.{needs}
 use Rattle.record.proofs.repeats.id_twice_or_above.Statement.{statement}

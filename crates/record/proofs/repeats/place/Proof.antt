@@ -1,18 +1,21 @@
 -- The three bytes of a good tag are at least 45, so that no difference falls below 0.
 use native.Mathlib.Omega.{arith}
-use Rattle.record.proofs.TagLaws.{tag-bytes}
+use Rattle.format.proofs.TagLaws.{tag-bytes}
 use borrow.Author.Needs.{needs}
 use Rattle.record.proofs.repeats.place.Statement.{statement}
 use Rattle.record.proofs.repeats.place.Tie as tie
 
+word-requires : tie.Need-word-requires
+word-requires c κs = tt
+
 sub-a : tie.Need-sub-a
-sub-a c = omega (arith, tag-bytes (c .args .t) (c .pre) .first)
+sub-a c = omega (arith, tag-bytes (c .before .args .t) (c .before .pre) .first, c .word .ensures)
 
 sub-b : tie.Need-sub-b
-sub-b c = omega (arith, tag-bytes (c .args .t) (c .pre) .second)
+sub-b c = omega (arith, tag-bytes (c .before .args .t) (c .before .pre) .second, c .word .ensures)
 
 sub-c : tie.Need-sub-c
-sub-c c = omega (arith, tag-bytes (c .args .t) (c .pre) .third)
+sub-c c = omega (arith, tag-bytes (c .before .args .t) (c .before .pre) .third, c .word .ensures)
 
 mul-result : tie.Need-mul-result
 mul-result c = search needs
@@ -30,12 +33,13 @@ cast-result : tie.Need-cast-result
 cast-result c = search needs
 
 returns : tie.Need-returns
-returns c = search needs
+returns c = rw (c .word .ensures)
 
 pub place-spec : {M : Type 1} → statement M
 place-spec =
     tie.close
     (tie.spec
+    word-requires
     sub-a
     sub-b
     sub-c

@@ -2,10 +2,10 @@
 use mathlib.Core.Path.{ap, ap₂, _∙_}
 use native.Mathlib.Omega.{arith}
 use Rattle.record.proofs.RepeatLaws.{countries-good, tag-twice-told, id-twice-told}
-use Rattle.record.proofs.HeadLaws.{limits-of}
+use Rattle.format.proofs.HeadLaws.{limits-of}
 use mathlib.Core.Bool.{_||_}
-use Rattle.record.specs.Refusal.{firstIn, countryNumber}
-use Rattle.record.specs.Rows.{rowsAt, countryAt}
+use Rattle.format.specs.Refusal.{firstIn, countryNumber}
+use Rattle.format.specs.Rows.{rowsAt, countryAt}
 use borrow.Author.Needs.{needs}
 use Rattle.record.proofs.repeats.repeated.Statement.{statement}
 use Rattle.record.proofs.repeats.repeated.Tie as tie
@@ -22,7 +22,7 @@ tag-twice-requires c κs =
     (omega arith, countries-good (g .s .now) 44 (g .h .countries) (rows ∙ s0 .pre .1))
 
 provinces-at-requires : tie.Need-provinces-at-requires
-provinces-at-requires c κs = search needs
+provinces-at-requires c κs = tt
 
 cast-id-twice-or-above : tie.Need-cast-id-twice-or-above
 cast-id-twice-or-above c = search needs

@@ -7,10 +7,10 @@ use lib.ListN.{length, replicate}
 use Rattle.lists.specs.Lists.{allOf, twice}
 use Rattle.bitset.specs.Bitset.{isMarked, marking}
 use Rattle.bitset.proofs.BitsetLaws.{length-marking, none-marked}
-use Rattle.record.specs.Tags.{isTag}
-use Rattle.record.specs.Bytes.{tagAt}
-use Rattle.record.specs.Rows.{rowsAt}
-use Rattle.record.proofs.RowLaws.{rows-none}
+use Rattle.format.specs.Tags.{isTag}
+use Rattle.format.specs.Bytes.{tagAt}
+use Rattle.format.specs.Rows.{rowsAt}
+use Rattle.format.proofs.RowLaws.{rows-none}
 use Rattle.record.proofs.RepeatLaws.{repeats, repeats-start, repeats-nil, placeOf, tagWord, tagSeen, rows-good, rows-hit, tag-marked}
 use borrow.Author.Needs.{needs}
 use Rattle.record.proofs.repeats.tag_twice.Statement.{statement}

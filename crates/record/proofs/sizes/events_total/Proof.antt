@@ -2,19 +2,19 @@
 use mathlib.Core.Path.{refl, sym, _∙_}
 use native.Mathlib.Omega.{arith}
 use Prim.Native.Nat.{ℕ, _+_}
-use Rattle.record.proofs.HeadLaws.{section-told}
-use Rattle.record.proofs.HeadLaws.{limits-of}
-use Rattle.record.proofs.SizeLaws.{sum-rows-same}
-use Rattle.record.specs.Bytes.{le16}
-use Rattle.record.specs.Head.{provincesAt}
+use Rattle.format.proofs.HeadLaws.{section-told}
+use Rattle.format.proofs.HeadLaws.{limits-of}
+use Rattle.format.proofs.SizeLaws.{sum-rows-same}
+use Rattle.format.specs.Bytes.{le16}
+use Rattle.format.specs.Head.{provincesAt}
 use Rattle.lists.specs.Lists.{sumOf}
-use Rattle.record.specs.Rows.{PackedProvince, provinceAt}
+use Rattle.format.specs.Rows.{PackedProvince, provinceAt}
 use borrow.Author.Needs.{needs}
 use Rattle.record.proofs.sizes.events_total.Statement.{statement}
 use Rattle.record.proofs.sizes.events_total.Tie as tie
 
 provinces-at-requires : tie.Need-provinces-at-requires
-provinces-at-requires c κs = search needs
+provinces-at-requires c κs = tt
 
 cast-total : tie.Need-cast-total
 cast-total c = search needs

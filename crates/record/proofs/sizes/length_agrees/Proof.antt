@@ -4,10 +4,10 @@ use native.Mathlib.Omega.{arith}
 use borrow.Author.Tests.{ne-eqb}
 use lib.Dec.{eqb}
 use Prim.Native.Nat.{ℕ, _+_, _-_, _≤_}
-use Rattle.record.specs.Bytes.{byteAt}
+use Rattle.format.specs.Bytes.{byteAt}
 use lib.ListN.{length}
-use Rattle.record.proofs.SizeLaws.{strings-end-none, strings-end-more, strings-end-past}
-use Rattle.record.specs.Rows.{stringsEnd}
+use Rattle.format.proofs.SizeLaws.{strings-end-none, strings-end-more, strings-end-past}
+use Rattle.format.specs.Rows.{stringsEnd}
 use borrow.Author.Needs.{needs}
 use Rattle.record.proofs.sizes.length_agrees.Statement.{statement}
 use Rattle.record.proofs.sizes.length_agrees.Tie as tie

@@ -2,19 +2,19 @@
 use mathlib.Core.Path.{refl, sym, _∙_}
 use native.Mathlib.Omega.{arith}
 use Prim.Native.Nat.{ℕ, _+_}
-use Rattle.record.proofs.HeadLaws.{section-told}
-use Rattle.record.proofs.HeadLaws.{limits-of}
-use Rattle.record.proofs.SizeLaws.{sum-rows-same}
-use Rattle.record.specs.Bytes.{le16}
-use Rattle.record.specs.Head.{ledgersAt}
+use Rattle.format.proofs.HeadLaws.{section-told}
+use Rattle.format.proofs.HeadLaws.{limits-of}
+use Rattle.format.proofs.SizeLaws.{sum-rows-same}
+use Rattle.format.specs.Bytes.{le16}
+use Rattle.format.specs.Head.{ledgersAt}
 use Rattle.lists.specs.Lists.{sumOf}
-use Rattle.record.specs.Rows.{PackedLedger, ledgerAt}
+use Rattle.format.specs.Rows.{PackedLedger, ledgerAt}
 use borrow.Author.Needs.{needs}
 use Rattle.record.proofs.sizes.points_total.Statement.{statement}
 use Rattle.record.proofs.sizes.points_total.Tie as tie
 
 ledgers-at-requires : tie.Need-ledgers-at-requires
-ledgers-at-requires c κs = search needs
+ledgers-at-requires c κs = tt
 
 cast-total : tie.Need-cast-total
 cast-total c = search needs

@@ -2,9 +2,9 @@
 use mathlib.Core.Path.{sym, ap, _∙_}
 use native.Mathlib.Omega.{arith}
 use borrow.Author.Tests.{not-true, not-false}
-use Rattle.record.proofs.SizeLaws.{length-short, sizes-short, sizes-told}
-use Rattle.record.specs.Head.{headOf, withinLimits, stringsAt}
-use Rattle.record.specs.Refusal.{sizesAgree}
+use Rattle.format.proofs.SizeLaws.{length-short, sizes-short, sizes-told}
+use Rattle.format.specs.Head.{headOf, withinLimits, stringsAt}
+use Rattle.format.specs.Refusal.{sizesAgree}
 use Prim.Native.Nat.{_<_}
 use lib.ListN.{length}
 use borrow.Author.Needs.{needs}
@@ -12,14 +12,14 @@ use Rattle.record.proofs.sizes.sizes_agree.Statement.{statement}
 use Rattle.record.proofs.sizes.sizes_agree.Tie as tie
 
 within-limits-requires : tie.Need-within-limits-requires
-within-limits-requires c κs = search needs
+within-limits-requires c κs = tt
 
 returns : tie.Need-returns
 unfolding sizesAgree
 returns c = simp (sym (ap withinLimits (c .before .before .before .pre)) ∙ sym (c .before .within-limits .ensures) ∙ not-true _ (c .if1 .taken))
 
 strings-at-requires : tie.Need-strings-at-requires
-strings-at-requires c κs = search needs
+strings-at-requires c κs = tt
 
 returns-2 : tie.Need-returns-2
 returns-2 c =

@@ -2,13 +2,13 @@
 use mathlib.Core.Path.{refl, sym, _∙_}
 use native.Mathlib.Omega.{arith}
 use Prim.Native.Nat.{ℕ, _+_}
-use Rattle.record.proofs.HeadLaws.{section-told}
-use Rattle.record.proofs.HeadLaws.{limits-of}
-use Rattle.record.proofs.SizeLaws.{sum-rows-same}
-use Rattle.record.specs.Bytes.{le16}
-use Rattle.record.specs.Head.{countriesAt}
+use Rattle.format.proofs.HeadLaws.{section-told}
+use Rattle.format.proofs.HeadLaws.{limits-of}
+use Rattle.format.proofs.SizeLaws.{sum-rows-same}
+use Rattle.format.specs.Bytes.{le16}
+use Rattle.format.specs.Head.{countriesAt}
 use Rattle.lists.specs.Lists.{sumOf}
-use Rattle.record.specs.Rows.{PackedCountry, countryAt}
+use Rattle.format.specs.Rows.{PackedCountry, countryAt}
 use borrow.Author.Needs.{needs}
 use Rattle.record.proofs.sizes.switches_total.Statement.{statement}
 use Rattle.record.proofs.sizes.switches_total.Tie as tie

@@ -3,11 +3,11 @@ use mathlib.Core.Path.{_≡_}
 use native.Mathlib.Omega.{arith}
 use Prim.Native.Nat.{ℕ, _+_, _*_, _≤_}
 use lib.ListN.{length}
-use Rattle.record.proofs.SizeLaws.{sum-rows-none, sum-rows-more}
-use Rattle.record.proofs.RowLaws.{one-row}
+use Rattle.format.proofs.SizeLaws.{sum-rows-none, sum-rows-more}
+use Rattle.format.proofs.RowLaws.{one-row}
 use Rattle.lists.specs.Lists.{sumOf}
-use Rattle.record.specs.Rows.{rowsAt}
-use Rattle.record.specs.Bytes.{le16}
+use Rattle.format.specs.Rows.{rowsAt}
+use Rattle.format.specs.Bytes.{le16}
 use borrow.Author.Needs.{needs}
 use Rattle.record.proofs.sizes.total.Statement.{statement}
 use Rattle.record.proofs.sizes.total.Tie as tie

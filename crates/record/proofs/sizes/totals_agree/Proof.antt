@@ -1,5 +1,5 @@
 -- Five totals, each told of the head's own section.
-use Rattle.record.proofs.SizeLaws.{totals-told}
+use Rattle.format.proofs.SizeLaws.{totals-told}
 use borrow.Author.Needs.{needs}
 use Rattle.record.proofs.sizes.totals_agree.Statement.{statement}
 use Rattle.record.proofs.sizes.totals_agree.Tie as tie

@@ -2,11 +2,11 @@
 use mathlib.Core.Path.{sym, ap, _∙_}
 use native.Mathlib.Omega.{arith}
 use Prim.Native.Nat.{ℕ, _+_}
-use Rattle.record.proofs.HeadLaws.{section-told}
-use Rattle.record.proofs.HeadLaws.{limits-of}
-use Rattle.record.proofs.SizeLaws.{sum-rows-same}
-use Rattle.record.specs.Bytes.{le16}
-use Rattle.record.specs.Head.{warsAt}
+use Rattle.format.proofs.HeadLaws.{section-told}
+use Rattle.format.proofs.HeadLaws.{limits-of}
+use Rattle.format.proofs.SizeLaws.{sum-rows-same}
+use Rattle.format.specs.Bytes.{le16}
+use Rattle.format.specs.Head.{warsAt}
 use Rattle.lists.specs.Lists.{sumOf}
 use native.Mathlib.Nat.{add-zero}
 use borrow.Author.Needs.{needs}
@@ -14,7 +14,7 @@ use Rattle.record.proofs.sizes.war_events_total.Statement.{statement}
 use Rattle.record.proofs.sizes.war_events_total.Tie as tie
 
 wars-at-requires : tie.Need-wars-at-requires
-wars-at-requires c κs = search needs
+wars-at-requires c κs = tt
 
 cast-total : tie.Need-cast-total
 cast-total c = search needs

@@ -6,11 +6,11 @@ use Prim.Native.Nat.{ℕ, _+_, _-_, _<_, _≤_}
 use native.Mathlib.Omega.{arith}
 use lib.Dec.{leb}
 use lib.ListN.{length}
-use Rattle.record.specs.declared.rows.Point.{Point}
-use Rattle.record.specs.Bytes.{le16}
-use Rattle.record.specs.Rows.{rowsAt, pointAt}
-use Rattle.record.specs.Refusal.{firstOf, firstIn, yearNumber}
-use Rattle.record.proofs.RowLaws.{rows-none, rows-more}
+use Rattle.format.specs.declared.rows.Point.{Point}
+use Rattle.format.specs.Bytes.{le16}
+use Rattle.format.specs.Rows.{rowsAt, pointAt}
+use Rattle.format.specs.Refusal.{firstOf, firstIn, yearNumber}
+use Rattle.format.proofs.RowLaws.{rows-none, rows-more}
 use borrow.Author.Needs.{needs}
 use Rattle.record.proofs.years.four_points_number.Statement.{statement}
 use Rattle.record.proofs.years.four_points_number.Tie as tie
@@ -38,8 +38,8 @@ module _ (xs : List ℕ) (at : ℕ) where
       (row-then (at + 18) (at + 24) 1 (omega arith) (omega arith) (omega arith)
       ∙ ap (pointAt xs (at + 18) ∷_) (rows-none (pointAt xs) 6 xs (at + 24)))))
 
-  four-told : (w x y z : ℕ) → at + 24 ≤ length xs → w ≡ le16 xs at → x ≡ le16 xs (at + 6) → y ≡ le16 xs (at + 12) → z ≡ le16 xs (at + 18)
-      → (good : Bool) → leb w 9999 && leb x 9999 && leb y 9999 && leb z 9999 ≡ good
+  four-told : (w x y z : Bool) → at + 24 ≤ length xs → w ≡ leb (le16 xs at) 9999 → x ≡ leb (le16 xs (at + 6)) 9999 → y ≡ leb (le16 xs (at + 12)) 9999
+      → z ≡ leb (le16 xs (at + 18)) 9999 → (good : Bool) → w && x && y && z ≡ good
       → firstIn (λ (p : Point). yearNumber (p .year)) (rowsAt (pointAt xs) 6 xs at 4) ≡ cond good 0 9
   unfolding firstIn pointAt
   four-told w x y z h ew ex ey ez good e =
@@ -50,11 +50,17 @@ module _ (xs : List ℕ) (at : ℕ) where
 u16-at-requires : tie.Need-u16-at-requires
 u16-at-requires c κs = search needs
 
+year-allowed-requires : tie.Need-year-allowed-requires
+year-allowed-requires c κs = tt
+
 add-u16-at : tie.Need-add-u16-at
 add-u16-at c = search needs
 
 u16-at-requires-2 : tie.Need-u16-at-requires-2
 u16-at-requires-2 c κs = search needs
+
+year-allowed-requires-2 : tie.Need-year-allowed-requires-2
+year-allowed-requires-2 c κs = tt
 
 add-u16-at-2 : tie.Need-add-u16-at-2
 add-u16-at-2 c = search needs
@@ -62,32 +68,59 @@ add-u16-at-2 c = search needs
 u16-at-requires-3 : tie.Need-u16-at-requires-3
 u16-at-requires-3 c κs = search needs
 
+year-allowed-requires-3 : tie.Need-year-allowed-requires-3
+year-allowed-requires-3 c κs = tt
+
 add-u16-at-3 : tie.Need-add-u16-at-3
 add-u16-at-3 c = search needs
 
 u16-at-requires-4 : tie.Need-u16-at-requires-4
 u16-at-requires-4 c κs = search needs
 
+year-allowed-requires-4 : tie.Need-year-allowed-requires-4
+year-allowed-requires-4 c κs = tt
+
+abbrev allowed : ℕ → Bool
+allowed y = leb y 9999
+
 returns : tie.Need-returns
 returns c =
-    sym (four-told _ _ _ _ _ _ (c .before .before .before .before .before .before .pre) (c .before .before .before .before .u16-at .ensures .same)
-    (c .before .before .before .u16-at2 .ensures .same) (c .before .before .u16-at3 .ensures .same) (c .before .u16-at4 .ensures .same) true (c .if1 .taken))
+    let fourth = c .before in
+    let third = fourth .before .before in
+    let second = third .before .before in
+    let first = second .before .before in
+    sym (four-told _ _ _ _ _ _ (first .before .before .before .pre)
+    (first .year-allowed .ensures ∙ ap allowed (first .before .u16-at .ensures .same))
+    (second .year-allowed2 .ensures ∙ ap allowed (second .before .u16-at2 .ensures .same))
+    (third .year-allowed3 .ensures ∙ ap allowed (third .before .u16-at3 .ensures .same))
+    (fourth .year-allowed4 .ensures ∙ ap allowed (fourth .before .u16-at4 .ensures .same)) true (c .if1 .taken))
 
 returns-2 : tie.Need-returns-2
 returns-2 c =
-    sym (four-told _ _ _ _ _ _ (c .before .before .before .before .before .before .pre) (c .before .before .before .before .u16-at .ensures .same)
-    (c .before .before .before .u16-at2 .ensures .same) (c .before .before .u16-at3 .ensures .same) (c .before .u16-at4 .ensures .same) false (c .if1 .left))
+    let fourth = c .before in
+    let third = fourth .before .before in
+    let second = third .before .before in
+    let first = second .before .before in
+    sym (four-told _ _ _ _ _ _ (first .before .before .before .pre)
+    (first .year-allowed .ensures ∙ ap allowed (first .before .u16-at .ensures .same))
+    (second .year-allowed2 .ensures ∙ ap allowed (second .before .u16-at2 .ensures .same))
+    (third .year-allowed3 .ensures ∙ ap allowed (third .before .u16-at3 .ensures .same))
+    (fourth .year-allowed4 .ensures ∙ ap allowed (fourth .before .u16-at4 .ensures .same)) false (c .if1 .left))
 
 pub four-points-number-spec : {M : Type 1} → statement M
 four-points-number-spec =
     tie.close
     (tie.spec
     u16-at-requires
+    year-allowed-requires
     add-u16-at
     u16-at-requires-2
+    year-allowed-requires-2
     add-u16-at-2
     u16-at-requires-3
+    year-allowed-requires-3
     add-u16-at-3
     u16-at-requires-4
+    year-allowed-requires-4
     returns
     returns-2)

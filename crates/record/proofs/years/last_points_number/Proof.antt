@@ -3,10 +3,10 @@ use mathlib.Core.Path.{_≡_, sym, _∙_}
 use native.Mathlib.Omega.{arith}
 use Prim.Native.Nat.{_+_, _*_, _≤_}
 use lib.ListN.{length}
-use Rattle.record.proofs.FirstLaws.{first-rows-none, first-rows-pass, first-rows-stop}
-use Rattle.record.specs.Rows.{rowsAt, pointAt}
-use Rattle.record.specs.Refusal.{firstIn, yearNumber}
-use Rattle.record.specs.declared.rows.Point.{Point}
+use Rattle.format.proofs.FirstLaws.{first-rows-none, first-rows-pass, first-rows-stop}
+use Rattle.format.specs.Rows.{rowsAt, pointAt}
+use Rattle.format.specs.Refusal.{firstIn, yearNumber}
+use Rattle.format.specs.declared.rows.Point.{Point}
 use borrow.Author.Needs.{needs}
 use Rattle.record.proofs.years.last_points_number.Statement.{statement}
 use Rattle.record.proofs.years.last_points_number.Tie as tie

@@ -1,9 +1,9 @@
 -- `Countries::len` meets its contract: a country with what it owns is one row of its section. Assumes nothing.
 use mathlib.Core.Path.{sym, _∙_}
 use native.Mathlib.Omega.{arith}
-use Rattle.record.specs.Rows.{countryAt}
+use Rattle.format.specs.Rows.{countryAt}
 use Rattle.record.proofs.RunLaws.{run-length}
-use Rattle.record.proofs.CampaignLaws.{countries-length}
+use Rattle.format.proofs.CampaignLaws.{countries-length}
 use borrow.Author.Needs.{needs}
 use Rattle.record.proofs.cursors.Countries.len.Statement.{statement}
 use Rattle.record.proofs.cursors.Countries.len.Tie as tie

@@ -1,9 +1,9 @@
 -- `Provinces::len` meets its contract: a province with what it owns is one row of its section. Assumes nothing.
 use mathlib.Core.Path.{sym, _∙_}
 use native.Mathlib.Omega.{arith}
-use Rattle.record.specs.Rows.{provinceAt}
+use Rattle.format.specs.Rows.{provinceAt}
 use Rattle.record.proofs.RunLaws.{run-length}
-use Rattle.record.proofs.CampaignLaws.{provinces-length}
+use Rattle.format.proofs.CampaignLaws.{provinces-length}
 use borrow.Author.Needs.{needs}
 use Rattle.record.proofs.cursors.Provinces.len.Statement.{statement}
 use Rattle.record.proofs.cursors.Provinces.len.Tie as tie

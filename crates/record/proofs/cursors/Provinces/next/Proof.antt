@@ -3,14 +3,15 @@
 use native.Mathlib.Omega.{arith}
 use borrow.Author.Needs.{needs}
 use lib.ListN.{length}
-use Rattle.record.specs.Rows.{provinceAt, ownerEventAt}
-use Rattle.record.specs.Campaign.{groupProvinces}
-use Rattle.record.proofs.RunLaws.{Whole, whole, run-end, run-more, run-take, run-drop}
+use Rattle.format.specs.Rows.{provinceAt}
+use Rattle.format.specs.Campaign.{groupProvinces}
+use Rattle.record.proofs.RunLaws.{Whole, whole, run-end}
+use Rattle.record.proofs.StepLaws.{province-step}
 use Rattle.record.proofs.cursors.Provinces.next.Statement.{statement}
 use Rattle.record.proofs.cursors.Provinces.next.Tie as tie
 
 has-requires : tie.Need-has-requires
-has-requires c κs = search needs
+has-requires c κs = tt
 
 returns : tie.Need-returns
 unfolding groupProvinces
@@ -39,7 +40,7 @@ tag-at-requires : tie.Need-tag-at-requires
 tag-at-requires c κs = omega (arith, row-whole (c .before .before .before))
 
 first-requires : tie.Need-first-requires
-first-requires c κs = search needs
+first-requires c κs = tt
 
 past-requires : tie.Need-past-requires
 past-requires c κs = omega (arith, row-whole (c .before .before .before .before .before))
@@ -48,23 +49,13 @@ skip-requires : tie.Need-skip-requires
 skip-requires c κs = search needs
 
 returns-2 : tie.Need-returns-2
-unfolding groupProvinces provinceAt
 returns-2 c =
     let found = c .before .before .before .before .before .before .before in
-    let xs = found .before .before .before .before .args .s .now in
-    rw (
-      run-more (provinceAt xs) _ xs _ (found .before .has .ensures) (found .if1 .left),
-      run-take (ownerEventAt xs),
-      run-drop (ownerEventAt xs) 7 _ _ _ (omega arith),
-    )
-    (rw (
-      c .before .before .before .before .id-at .ensures,
-      c .before .before .before .tag-at .ensures,
-      c .before .before .first .ensures,
-      c .before .past .ensures,
-      c .skip .ensures,
-      c .before .before .before .before .before .before .u16-at .ensures .same,
-    ))
+    let start = found .before .before .before .before in
+    province-step (start .args .s .now) (start .args .self) (found .before .has .ensures) (found .if1 .left)
+    (c .before .before .before .before .before .before .u16-at .ensures .same)
+    (c .before .before .before .before .id-at .ensures) (c .before .before .before .tag-at .ensures)
+    (c .before .before .first .ensures) (c .before .past .ensures) (c .skip .ensures)
 
 pub next-spec : {M : Type 1} → statement M
 next-spec =

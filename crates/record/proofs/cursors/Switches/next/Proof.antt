@@ -1,15 +1,14 @@
 -- `Switches::next` meets its contract. Where the test finds no row, nothing is left. Where it finds one, the row stands whole, so each read is
 -- inside; what was left is that row before what the run behind it has left. Assumes nothing.
 use native.Mathlib.Omega.{arith}
-use borrow.Author.Needs.{needs}
 use lib.ListN.{length}
-use Rattle.record.specs.Rows.{switchAt}
+use Rattle.format.specs.Rows.{switchAt}
 use Rattle.record.proofs.RunLaws.{Whole, whole, run-end, run-more}
 use Rattle.record.proofs.cursors.Switches.next.Statement.{statement}
 use Rattle.record.proofs.cursors.Switches.next.Tie as tie
 
 has-requires : tie.Need-has-requires
-has-requires c κs = search needs
+has-requires c κs = tt
 
 returns : tie.Need-returns
 returns c = run-end (switchAt _) _ _ _ (c .before .has .ensures) (c .if1 .taken)

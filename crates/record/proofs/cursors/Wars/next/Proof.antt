@@ -3,15 +3,15 @@
 use native.Mathlib.Omega.{arith}
 use borrow.Author.Needs.{needs}
 use lib.ListN.{length}
-use Rattle.record.specs.Bytes.{le16}
-use Rattle.record.specs.Rows.{warEventAt}
-use Rattle.record.specs.Campaign.{groupWars}
-use Rattle.record.proofs.RunLaws.{Whole, whole, run-end, run-more, run-take, run-drop}
+use Rattle.format.specs.Bytes.{le16}
+use Rattle.format.specs.Campaign.{groupWars}
+use Rattle.record.proofs.RunLaws.{Whole, whole, run-end}
+use Rattle.record.proofs.StepLaws.{war-step}
 use Rattle.record.proofs.cursors.Wars.next.Statement.{statement}
 use Rattle.record.proofs.cursors.Wars.next.Tie as tie
 
 has-requires : tie.Need-has-requires
-has-requires c κs = search needs
+has-requires c κs = tt
 
 returns : tie.Need-returns
 unfolding groupWars
@@ -34,24 +34,15 @@ skip-requires : tie.Need-skip-requires
 skip-requires c κs = search needs
 
 first-requires : tie.Need-first-requires
-first-requires c κs = search needs
+first-requires c κs = tt
 
 returns-2 : tie.Need-returns-2
-unfolding groupWars
 returns-2 c =
     let found = c .before .before .before .before .before in
-    let xs = found .before .before .before .before .args .s .now in
-    rw (
-      run-more (le16 xs) _ xs _ (found .before .has .ensures) (found .if1 .left),
-      run-take (warEventAt xs),
-      run-drop (warEventAt xs) 8 _ _ _ (omega arith),
-    )
-    (rw (
-      c .before .before .past .ensures,
-      c .before .skip .ensures,
-      c .first .ensures,
-      c .before .before .before .before .u16-at .ensures .same,
-    ))
+    let start = found .before .before .before .before in
+    war-step (start .args .s .now) (start .args .self) (found .before .has .ensures) (found .if1 .left)
+    (c .before .before .before .before .u16-at .ensures .same)
+    (c .first .ensures) (c .before .before .past .ensures) (c .before .skip .ensures)
 
 pub next-spec : {M : Type 1} → statement M
 next-spec =

@@ -1,4 +1,4 @@
--- `Run::past` meets its contract: it is `pastRun` with the difference that `minus` ensures. The row stands whole, so the sum fits.
+-- `Run::past` meets its contract: it is `pastRun` with the difference that `difference` ensures. The row stands whole, so the sum fits.
 -- Assumes nothing.
 use borrow.Author.Needs.{needs}
 use Rattle.record.proofs.runs.Run.past.Statement.{statement}
@@ -7,11 +7,11 @@ use Rattle.record.proofs.runs.Run.past.Tie as tie
 add-t4 : tie.Need-add-t4
 add-t4 c = search needs
 
-minus-requires : tie.Need-minus-requires
-minus-requires c κs = search needs
+difference-requires : tie.Need-difference-requires
+difference-requires c κs = tt
 
 returns : tie.Need-returns
-returns c = cc
+returns c = rw (c .difference .ensures)
 
 pub past-spec : {M : Type 1} → statement M
-past-spec = tie.close (tie.spec add-t4 minus-requires returns)
+past-spec = tie.close (tie.spec add-t4 difference-requires returns)

@@ -9,11 +9,11 @@ use Rattle.record.proofs.RunLaws.{skip-inside, skip-past}
 use Rattle.record.proofs.runs.Run.skip.Statement.{statement}
 use Rattle.record.proofs.runs.Run.skip.Tie as tie
 
-minus-requires : tie.Need-minus-requires
-minus-requires c κs = search needs
+difference-requires : tie.Need-difference-requires
+difference-requires c κs = tt
 
 returns : tie.Need-returns
-returns c = rw (c .before .before .minus .ensures) (sym (skip-past _ _ _ _ (omega arith)))
+returns c = rw (c .before .before .difference .ensures) (sym (skip-past _ _ _ _ (omega arith)))
 
 sub-if2 : tie.Need-sub-if2
 sub-if2 c = search needs
@@ -26,7 +26,7 @@ mul-if2 c =
     omega (arith, mul-le-mul narrow few)
 
 returns-2 : tie.Need-returns-2
-returns-2 c = rw (c .before .before .before .before .minus .ensures) (sym (skip-past _ _ _ _ (omega arith)))
+returns-2 c = rw (c .before .before .before .before .difference .ensures) (sym (skip-past _ _ _ _ (omega arith)))
 
 mul-t6 : tie.Need-mul-t6
 mul-t6 c = search needs
@@ -35,13 +35,13 @@ add-t9 : tie.Need-add-t9
 add-t9 c = search needs
 
 returns-3 : tie.Need-returns-3
-returns-3 c = rw (c .before .before .before .before .before .minus .ensures) (sym (skip-inside _ _ _ _ (omega arith)))
+returns-3 c = rw (c .before .before .before .before .before .difference .ensures) (sym (skip-inside _ _ _ _ (omega arith)))
 
 pub skip-spec : {M : Type 1} → statement M
 skip-spec =
     tie.close
     (tie.spec
-    minus-requires
+    difference-requires
     returns
     sub-if2
     mul-if2

@@ -8,7 +8,7 @@ use Rattle.record.proofs.texts.Strings.next.Statement.{statement}
 use Rattle.record.proofs.texts.Strings.next.Tie as tie
 
 has-requires : tie.Need-has-requires
-has-requires c κs = search needs
+has-requires c κs = tt
 
 returns : tie.Need-returns
 returns c = strings-end _ _ _ (λ p. omega (arith, no-whole _ _ _ (c .before .has .ensures) (c .if1 .taken) p))
@@ -38,8 +38,8 @@ add-t10 c = omega (arith, length-whole (c .before .before))
 add-t11 : tie.Need-add-t11
 add-t11 c = omega (arith, length-whole (c .before .before))
 
-minus-requires : tie.Need-minus-requires
-minus-requires c κs = search needs
+difference-requires : tie.Need-difference-requires
+difference-requires c κs = tt
 
 add-t10-2 : tie.Need-add-t10-2
 add-t10-2 c = omega (arith, length-whole (c .before .before .before))
@@ -47,7 +47,7 @@ add-t10-2 c = omega (arith, length-whole (c .before .before .before))
 returns-3 : tie.Need-returns-3
 returns-3 c =
     let w = length-whole (c .before .before .before) in
-    rw (c .before .before .byte .ensures .same, c .minus .ensures) (strings-more _ _ _ (w .some) (omega arith))
+    rw (c .before .before .byte .ensures .same, c .difference .ensures) (strings-more _ _ _ (w .some) (omega arith))
 
 pub next-spec : {M : Type 1} → statement M
 next-spec =
@@ -62,6 +62,6 @@ next-spec =
     returns-2
     add-t10
     add-t11
-    minus-requires
+    difference-requires
     add-t10-2
     returns-3)

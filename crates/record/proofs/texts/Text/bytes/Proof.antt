@@ -31,7 +31,7 @@ sub-least : tie.Need-sub-least
 sub-least c = search needs
 
 least-requires : tie.Need-least-requires
-least-requires c κs = search needs
+least-requires c κs = tt
 
 add-end : tie.Need-add-end
 add-end c = search needs

@@ -1,0 +1,13 @@
+pub mod Computes
+pub mod FormatCases
+pub mod FlagLaws
+pub mod RowLaws
+pub mod CampaignLaws
+pub mod FirstLaws
+pub mod SizeLaws
+pub mod TagLaws
+pub mod HeadLaws
+pub mod AcceptLaws
+pub mod DateLaws
+pub mod SoundLaws
+pub mod BoundLaws

@@ -1,0 +1,9 @@
+pub mod Tags
+pub mod Dates
+pub mod Bytes
+pub mod Head
+pub mod Rows
+pub mod Campaign
+pub mod Refusal
+pub mod Laid
+pub mod Sound
