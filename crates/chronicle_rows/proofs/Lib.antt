@@ -1,3 +1,3 @@
 pub mod RowAtLaws
-pub mod ShapeLaws
+pub mod LentShapeLaws
 pub mod NumberedLaws

@@ -18,7 +18,7 @@ use Rattle.rules.specs.Chronicle.{Entry}
 use Rattle.rules.specs.NationRows.{NationRow, entryOf, nationWidth, entryWidth, nationRowsIn, entryRowsIn, nationAt, nationsIn, tagsShaped, entryShaped, withoutGap, wellShaped}
 use Rattle.chronicle_rows.specs.RowAt.{nationRowAt, entryRowAt, nationNumbered}
 use Rattle.chronicle_rows.proofs.RowAtLaws.{nations-next, entries-next}
-use Rattle.chronicle_rows.proofs.ShapeLaws.{gap-beyond}
+use Rattle.chronicle_rows.proofs.LentShapeLaws.{gap-beyond}
 
 -- ## Numbers for rows
 
@@ -67,13 +67,13 @@ module _ (ws es : List ℕ) (shaped : wellShaped ws es ≡ true) where
   unfolding wellShaped
   no-gap = and-right (whole && allOf tagsShaped (nationRowsIn ws) && allOf entryShaped (entryRowsIn es)) _ shaped
 
-  entries-good : allOf entryShaped (entryRowsIn es) ≡ true
+  entries-shaped : allOf entryShaped (entryRowsIn es) ≡ true
   unfolding wellShaped
-  entries-good = and-right (whole && allOf tagsShaped (nationRowsIn ws)) _ (and-left (whole && allOf tagsShaped (nationRowsIn ws) && allOf entryShaped (entryRowsIn es)) _ shaped)
+  entries-shaped = and-right (whole && allOf tagsShaped (nationRowsIn ws)) _ (and-left (whole && allOf tagsShaped (nationRowsIn ws) && allOf entryShaped (entryRowsIn es)) _ shaped)
 
-  nations-good : allOf tagsShaped (nationRowsIn ws) ≡ true
+  nations-tagged : allOf tagsShaped (nationRowsIn ws) ≡ true
   unfolding wellShaped
-  nations-good = and-right whole _ (and-left (whole && allOf tagsShaped (nationRowsIn ws)) _ (and-left (whole && allOf tagsShaped (nationRowsIn ws) && allOf entryShaped (entryRowsIn es)) _ shaped))
+  nations-tagged = and-right whole _ (and-left (whole && allOf tagsShaped (nationRowsIn ws)) _ (and-left (whole && allOf tagsShaped (nationRowsIn ws) && allOf entryShaped (entryRowsIn es)) _ shaped))
 
   -- A nation's entries lie inside the entry rows.
   pub nation-inside : (i : ℕ) → i < length (nationRowsIn ws) → nationRowAt ws i .first + nationRowAt ws i .count ≤ length (entryRowsIn es)
@@ -83,11 +83,11 @@ module _ (ws es : List ℕ) (shaped : wellShaped ws es ≡ true) where
   -- Each nation row has three tags, and each entry row a good date, kind and target.
   pub nation-tags : (i : ℕ) → i < length (nationRowsIn ws) → tagsShaped (nationRowAt ws i) ≡ true
   unfolding nationRowAt
-  nation-tags i h = all-getD-of tagsShaped (nationRowsIn ws) i _ nations-good h
+  nation-tags i h = all-getD-of tagsShaped (nationRowsIn ws) i _ nations-tagged h
 
   pub entry-good : (i : ℕ) → i < length (entryRowsIn es) → entryShaped (entryRowAt es i) ≡ true
   unfolding entryRowAt
-  entry-good i h = all-getD-of entryShaped (entryRowsIn es) i _ entries-good h
+  entry-good i h = all-getD-of entryShaped (entryRowsIn es) i _ entries-shaped h
 
   -- The entries that a nation's row points at, by their numbers.
   pub nation-entries : (i : ℕ) → i < length (nationRowsIn ws) → nationAt (entryRowsIn es) (nationRowAt ws i) ≡ nationNumbered ws es i

@@ -8,8 +8,8 @@ use lib.ListN.{length, getD, drop, List·getD-eq-default, length-map}
 use lib.Seq.{drop-cons}
 use Rattle.lists.specs.Lists.{rowsIn, wholeRows}
 use Rattle.lists.proofs.ListLaws.{row-at}
-use Rattle.record.specs.declared.tag.CountryTag.{CountryTag}
-use Rattle.record.specs.declared.date.Eu4Date.{Eu4Date}
+use Rattle.format.specs.declared.tag.CountryTag.{CountryTag}
+use Rattle.format.specs.declared.date.Eu4Date.{Eu4Date}
 use Rattle.rules.specs.Chronicle.{switch, annexed}
 use Rattle.rules.specs.NationRows.{kindOf, nationWidth, nationRowOf, entryWidth, entryRowOf, nationRowsIn, entryRowsIn}
 use Rattle.chronicle_rows.specs.RowAt.{nationRowAt, entryRowAt}
@@ -59,17 +59,17 @@ pub nation-row : (a b c : CountryTag) (x y z first count : ℕ) → a .0 ≡ x �
 nation-row a b c x y z first count p q r = rw (← p, ← q, ← r)
 
 module _ (ws : List ℕ) where
-  pub nation-rows-count : length ws / 5 ≡ length (nationRowsIn ws)
+  pub nation-rows-count : length ws / nationWidth ≡ length (nationRowsIn ws)
   unfolding nationRowsIn
   nation-rows-count = rows-count nationWidth nationRowOf ws
 
   module _ (i : ℕ) where
-    pub nation-past : length ws / 5 ≤ i → nationRowOf [] ≡ nationRowAt ws i
+    pub nation-past : length ws / nationWidth ≤ i → nationRowOf [] ≡ nationRowAt ws i
     unfolding nationRowAt nationRowsIn
     nation-past h = row-past nationWidth nationRowOf ws i h
 
-    pub nation-words : i < length ws / 5
-        → nationRowOf (getD ws (5 * i) 0 ∷ getD ws (5 * i + 1) 0 ∷ getD ws (5 * i + 2) 0 ∷ getD ws (5 * i + 3) 0 ∷ getD ws (5 * i + 4) 0 ∷ []) ≡ nationRowAt ws i
+    pub nation-words : i < length ws / nationWidth
+        → nationRowOf (getD ws (nationWidth * i) 0 ∷ getD ws (nationWidth * i + 1) 0 ∷ getD ws (nationWidth * i + 2) 0 ∷ getD ws (nationWidth * i + 3) 0 ∷ getD ws (nationWidth * i + 4) 0 ∷ []) ≡ nationRowAt ws i
     unfolding nationRowAt nationRowsIn
     nation-words h =
         let w = word-here nationWidth nationRowOf ws i in
@@ -97,16 +97,16 @@ kind-annexed (suc zero) target h l = absurd (l refl)
 kind-annexed (suc (suc k)) target h l = refl
 
 module _ (es : List ℕ) where
-  pub entry-rows-count : length es / 3 ≡ length (entryRowsIn es)
+  pub entry-rows-count : length es / entryWidth ≡ length (entryRowsIn es)
   unfolding entryRowsIn
   entry-rows-count = rows-count entryWidth entryRowOf es
 
   module _ (i : ℕ) where
-    pub entry-past : length es / 3 ≤ i → entryRowOf [] ≡ entryRowAt es i
+    pub entry-past : length es / entryWidth ≤ i → entryRowOf [] ≡ entryRowAt es i
     unfolding entryRowAt entryRowsIn
     entry-past h = row-past entryWidth entryRowOf es i h
 
-    pub entry-words : i < length es / 3 → entryRowOf (getD es (3 * i) 0 ∷ getD es (3 * i + 1) 0 ∷ getD es (3 * i + 2) 0 ∷ []) ≡ entryRowAt es i
+    pub entry-words : i < length es / entryWidth → entryRowOf (getD es (entryWidth * i) 0 ∷ getD es (entryWidth * i + 1) 0 ∷ getD es (entryWidth * i + 2) 0 ∷ []) ≡ entryRowAt es i
     unfolding entryRowAt entryRowsIn
     entry-words h =
         let w = word-here entryWidth entryRowOf es i in

@@ -9,9 +9,9 @@ ghost use Rattle.chronicle_rows.specs.Cases.{nationTold, kindTold, entry
 ghost use Rattle.chronicle_rows.specs.RowAt.{nationRowAt, entryRowAt, entryAt};
 
 // How many words a nation row has, and an entry row.
-const NATION_WIDTH: usize = 5;
+pub const NATION_WIDTH: usize = 5;
 
-const ENTRY_WIDTH: usize = 3;
+pub const ENTRY_WIDTH: usize = 3;
 
 // A nation row: three tags, the number of its first entry row, and how many it has.
 pub struct Nation {

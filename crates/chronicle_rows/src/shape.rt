@@ -9,8 +9,8 @@ use record::Eu4Date;
 ghost use mathlib.Core.Path.{_≡_};
 ghost use mathlib.Core.Bool.{_&&_};
 ghost use Rattle.lists.specs.Lists.{allOf};
-ghost use Rattle.record.specs.Tags.{isTag};
-ghost use Rattle.record.specs.Dates.{goodDate};
+ghost use Rattle.format.specs.Tags.{isTag};
+ghost use Rattle.format.specs.Dates.{goodDate};
 ghost use Rattle.rules.specs.NationRows.{nationRowsIn, entryRowsIn, tagsShaped, kindShaped, entryShaped, withoutGap, wellShaped};
 ghost use Rattle.chronicle_rows.specs.Cases.{nationTold, rowTold};
 

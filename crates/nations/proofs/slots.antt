@@ -3,7 +3,7 @@ pub mod ChainLaws
 pub mod WalkLaws
 pub mod TurningLaws
 pub mod CellLaws
-pub mod PassLaws
+pub mod SlotPassLaws
 pub mod LivesLaws
 pub mod StartingLaws
 pub mod SettledLaws

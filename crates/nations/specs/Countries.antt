@@ -9,14 +9,15 @@ use lib.Dec.{eqb, leb, ltb}
 use lib.ListN.{length, getElem?, take, drop}
 use Rattle.lists.specs.Lists.{allOf, firstOr, lastOr}
 use Rattle.sorting.specs.Sort.{sortBy}
-use Rattle.record.specs.declared.tag.CountryTag.{CountryTag}
-use Rattle.record.specs.declared.rows.Switch.{Switch}
-use Rattle.record.specs.Campaign.{Country}
+use Rattle.format.specs.declared.tag.CountryTag.{CountryTag}
+use Rattle.format.specs.declared.rows.Switch.{Switch}
+use Rattle.format.specs.Campaign.{Country}
 use Rattle.rules.specs.Lent.{written}
 use Rattle.rules.specs.Nations.{initialOf, mapsTo}
 pub use Rattle.nations.specs.Keys.{settlingKey}
 use Rattle.nations.specs.Keys.{rowKey}
-use Rattle.nations.specs.Lookup.{noRow, lastWithin}
+use Rattle.nations.specs.Layout.{keyRows, keyDates, keyTags, noRow}
+use Rattle.nations.specs.Lookup.{lastWithin}
 
 -- ## Rows
 
@@ -57,7 +58,7 @@ rowKeys ws = sortBy leb (wordKeys 0 ws)
 
 -- The row that the keys of initials have for a tag: the last one with it.
 abbrev pub initialRow : List ℕ → CountryTag → ℕ
-initialRow keys t = lastWithin (t .0 * 2048) (t .0 * 2048 + 2048) keys
+initialRow keys t = lastWithin (t .0 * keyRows) (t .0 * keyRows + keyRows) keys
 
 -- The key of a switch of the country in a row, by the tag that was left.
 abbrev pub switchKey : ℕ → Switch → ℕ
@@ -76,11 +77,11 @@ switchKeys ks = sortBy leb (switchKeysFrom 0 ks)
 
 -- A switch's from and date have room in its key.
 abbrev pub smallSwitch : Switch → Bool
-smallSwitch x = ltb (x .from .0) 16777216 && ltb (x .date .0) 134217728
+smallSwitch x = ltb (x .from .0) keyTags && ltb (x .date .0) keyDates
 
 -- Countries of an accepted record: their rows have room in a key, and so have their switches.
 pub record Keyed (ks : List Country) : Type 0 where
-  pub few : length ks ≤ 2048
+  pub few : length ks ≤ keyRows
   pub switches : allOf (λ k. allOf smallSwitch (k .switches)) ks ≡ true
 
 -- ## What the functions leave
@@ -93,13 +94,13 @@ pub record Tabled (ks : List Country) (count : ℕ) (tags₀ tags₁ initials₀
 
 -- The row of the country with a tag, by keys: of any countries whose tags the keys are.
 pub record RowFound (keys : List ℕ) (t : CountryTag) (row : ℕ) : Type 0 where
-  pub found : (ks : List Country) → length ks ≤ 2048 → keys ≡ rowKeys (tagWords ks) → row ≡ rowOf ks t
+  pub found : (ks : List Country) → length ks ≤ keyRows → keys ≡ rowKeys (tagWords ks) → row ≡ rowOf ks t
 
 -- The row of the country that an initial maps to, by keys: of any countries whose initials the keys are.
 pub record RowMapped (keys : List ℕ) (t : CountryTag) (row : ℕ) : Type 0 where
   pub key : row ≡ initialRow keys t
-  pub holder : (ks : List Country) → length ks ≤ 2048 → keys ≡ rowKeys (initialWords ks) → mapsTo ks t ≡ tagAtRow ks row
-  pub inside : (ks : List Country) → length ks ≤ 2048 → keys ≡ rowKeys (initialWords ks) → (row ≡ noRow → ⊥) → row < length ks
+  pub holder : (ks : List Country) → length ks ≤ keyRows → keys ≡ rowKeys (initialWords ks) → mapsTo ks t ≡ tagAtRow ks row
+  pub inside : (ks : List Country) → length ks ≤ keyRows → keys ≡ rowKeys (initialWords ks) → (row ≡ noRow → ⊥) → row < length ks
 
 -- So many cells in the front of a slice.
 pub record Filled (cells : List ℕ) (count : ℕ) (before after : List ℕ) : Type 0 where

@@ -7,25 +7,15 @@ use lib.Dec.{leb}
 use Rattle.lists.specs.Lists.{joinOf, lastOr}
 use lib.ListN.{length}
 use Rattle.sorting.specs.Steps.{mergeBy}
-use Rattle.record.specs.declared.tag.CountryTag.{CountryTag}
-use Rattle.record.specs.declared.date.Eu4Date.{Eu4Date}
+use Rattle.format.specs.declared.tag.CountryTag.{CountryTag}
+use Rattle.format.specs.declared.date.Eu4Date.{Eu4Date}
 use Rattle.nations.specs.declared.lives.NextLife as NextLife
-use Rattle.nations.specs.declared.entries.EntryKind as EntryKind
-use Rattle.rules.specs.Chronicle.{Kind, switch, appeared, annexed, Entry}
+use Rattle.rules.specs.Chronicle.{Entry}
 use Rattle.rules.specs.Lent.{written}
 use Rattle.rules.specs.Nations.{targets}
 use Rattle.rules.specs.NationRows.{entryRow, entryRowWords}
 use Rattle.nations.specs.Turning.{byDate}
 use Rattle.nations.specs.Switches.{dateIn, switchIn}
-
--- What the code's entry tells.
-abbrev pub kindOf : EntryKind.EntryKind → Kind
-kindOf (EntryKind.the-variants.Switch t) = switch t
-kindOf EntryKind.the-variants.Appeared = appeared
-kindOf EntryKind.the-variants.Annexed = annexed
-
-abbrev pub entryOf : Eu4Date → EntryKind.EntryKind → Entry
-entryOf date kind = record { date = date; kind = kindOf kind }
 
 -- The entries of a run of keys, merged with others: at a tie the switch comes first.
 abbrev pub mergedEntries : List ℕ → List ℕ → List Entry → List Entry

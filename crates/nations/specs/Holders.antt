@@ -8,16 +8,17 @@ use lib.Dec.{leb, eqb}
 use lib.ListN.{length, getD, set, take}
 use Rattle.lists.specs.Lists.{countOf, numbersFrom, twice}
 use Rattle.sorting.specs.Sort.{sortBy}
-use Rattle.record.specs.declared.tag.CountryTag.{CountryTag}
-use Rattle.record.specs.declared.date.Eu4Date.{Eu4Date}
-use Rattle.record.specs.Campaign.{Campaign, Country, campaignOf}
+use Rattle.format.specs.declared.tag.CountryTag.{CountryTag}
+use Rattle.format.specs.declared.date.Eu4Date.{Eu4Date}
+use Rattle.format.specs.Campaign.{Campaign, Country, campaignOf}
 use Rattle.rules.specs.Chronicle.{Change}
 use Rattle.rules.specs.Lent.{written}
 use Rattle.rules.specs.Changes.{changesOf}
 use Rattle.rules.specs.Nations.{matches, startHolders, allSwitches, settles, holdersOf}
-use Rattle.owner_changes.specs.ChangeSteps.{entered, keysFrom}
+use Rattle.owner_changes.specs.ChangeSteps.{entered, mostChanges, perId, changeKeysFrom}
+use Rattle.nations.specs.Layout.{wordSpan, half, cellRows, nobodyCell}
 use Rattle.nations.specs.Countries.{tagWords, initialWords, rowKeys, switchKeys, Keyed}
-use Rattle.nations.specs.Turning.{highs, lows, keyDate, placeOf, RowTurn, rowTurnsOf, Rowed}
+use Rattle.nations.specs.Turning.{highHalves, lowHalves, keyDate, rowAmong, RowTurn, rowTurnsOf, Rowed}
 
 -- ## Tables
 
@@ -49,16 +50,16 @@ slotCounts rows n = map (λ r. countOf (λ x. eqb x r) rows) (numbersFrom 0 n)
 
 -- Nobody has no word, and no row.
 abbrev pub slotCell : List ℕ → Option CountryTag → ℕ
-slotCell tags none = 65535
-slotCell tags (some t) = t .0 * 65536 + placeOf tags t
+slotCell tags none = nobodyCell
+slotCell tags (some t) = t .0 * cellRows + rowAmong tags t
 
 -- The cell of the country in a row, by the words of tags.
 abbrev pub rowCell : List ℕ → ℕ → ℕ
-rowCell tags row = getD tags row 0 * 65536 + row
+rowCell tags row = getD tags row 0 * cellRows + row
 
 -- The word in a cell.
 abbrev pub cellWord : ℕ → ℕ
-cellWord cell = cell / 65536 % 4294967296
+cellWord cell = cell / cellRows % wordSpan
 
 -- The cell of whom a change settles to.
 unfoldable pub holderCell : List Country → Change → ℕ
@@ -74,7 +75,7 @@ pub record Step : Type 0 where
 
 -- By its key and its cell: the key ends in the number of the cell.
 abbrev pub stepAt : List ℕ → ℕ → Step
-stepAt cells key = record { date = keyDate key; slot = key / 65536 % 65536; cell = getD cells (key % 65536) 0 }
+stepAt cells key = record { date = keyDate key; slot = key / perId % perId; cell = getD cells (key % perId) 0 }
 
 abbrev pub stepsOf : List ℕ → List ℕ → List Step
 stepsOf cells keys = map (stepAt cells) keys
@@ -83,7 +84,7 @@ stepsOf cells keys = map (stepAt cells) keys
 unfoldable pub turnsAlong : List ℕ → List Step → List RowTurn
 turnsAlong slots [] = []
 turnsAlong slots (x ∷ xs) =
-    record { date = x .date; old = getD slots (x .slot) 65535 % 65536; new = x .cell % 65536 }
+    record { date = x .date; old = getD slots (x .slot) nobodyCell % cellRows; new = x .cell % cellRows }
     ∷ turnsAlong (set slots (x .slot) (x .cell)) xs
 
 unfoldable pub cellsAlong : List Step → List ℕ → List ℕ
@@ -92,11 +93,11 @@ cellsAlong (x ∷ xs) slots = cellsAlong xs (set slots (x .slot) (x .cell))
 
 -- The two rows of a turn in one cell.
 abbrev pub turnCell : RowTurn → ℕ
-turnCell x = x .old * 65536 + x .new
+turnCell x = x .old * half + x .new
 
 -- A cell is put into a slot; the answer is the one that was there, or nobody's.
 pub record Replaced (slots : List ℕ) (slot cell r : ℕ) (after : List ℕ) : Type 0 where
-  pub old : r ≡ getD slots slot 65535
+  pub old : r ≡ getD slots slot nobodyCell
   pub cells : after ≡ set slots slot cell
 
 -- The turns of the steps, and the cells of the slots after them.
@@ -108,9 +109,9 @@ pub record Passed (keys cells slots₀ slots₁ turns₁ : List ℕ) : Type 0 wh
 
 -- Room for every change, a cell for each slot, and one for each country.
 pub record HoldingRoom (c : Campaign) (keys₀ cells₀ slots₀ started₀ turns₀ : List ℕ) : Type 0 where
-  pub keys : 60000 ≤ length keys₀
-  pub cells : 60000 ≤ length cells₀
-  pub turns : 60000 ≤ length turns₀
+  pub keys : mostChanges ≤ length keys₀
+  pub cells : mostChanges ≤ length cells₀
+  pub turns : mostChanges ≤ length turns₀
   pub slots : length slots₀ ≡ suc (length (c .provinces))
   pub started : length started₀ ≡ length (c .countries)
 
@@ -130,19 +131,19 @@ pub record Began (c : Campaign) (slots₁ started₁ : List ℕ) : Type 0 where
 -- The keys of so many changes in order, and the cell of each change at its number.
 pub record Stepped (xs : List ℕ) (n : ℕ) (keys cells : List ℕ) : Type 0 where
   pub counted : n ≡ length (entered xs)
-  pub sorted : take n keys ≡ sortBy leb (keysFrom 0 (entered xs))
+  pub sorted : take n keys ≡ sortBy leb (changeKeysFrom 0 (entered xs))
   pub filled : take n cells ≡ map (holderCell (campaignOf xs .countries)) (entered xs)
 
 -- The keys of all changes in order, the row of the old and of the new holder of each, the cell of each slot after the last change, and how
 -- many slots each country holds at the start.
 pub record Held (xs : List ℕ) (n : ℕ) (keys slots₁ started₁ turns : List ℕ) : Type 0 where
   pub counted : n ≡ length (changesOf (campaignOf xs))
-  pub sorted : take n keys ≡ sortBy leb (keysFrom 0 (entered xs))
-  pub rowed : Rowed (take n keys) (highs (take n turns)) (lows (take n turns)) (rowTurnsOf (campaignOf xs))
+  pub sorted : take n keys ≡ sortBy leb (changeKeysFrom 0 (entered xs))
+  pub rowed : Rowed (take n keys) (highHalves (take n turns)) (lowHalves (take n turns)) (rowTurnsOf (campaignOf xs))
   pub slots : slots₁ ≡ slotCells (campaignOf xs) (holdersOf (campaignOf xs))
   pub started : started₁ ≡ startedOf (campaignOf xs)
 
 -- The holder of each slot and the slots held by each of so many countries, by the cells of the slots, in the fronts of two slices.
 pub record SlotsPut (slots : List ℕ) (n : ℕ) (holders₀ holders₁ held₀ held₁ : List ℕ) : Type 0 where
   pub holders : holders₁ ≡ written (map cellWord slots) holders₀
-  pub held : held₁ ≡ written (slotCounts (lows slots) n) held₀
+  pub held : held₁ ≡ written (slotCounts (lowHalves slots) n) held₀

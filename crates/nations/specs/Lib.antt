@@ -1,3 +1,4 @@
+pub mod Layout
 pub mod Turning
 pub mod Keys
 pub mod Lookup

@@ -8,17 +8,20 @@ use lib.Dec.{leb, ltb, eqb}
 use lib.ListN.{length, getD, take, drop}
 use Rattle.lists.specs.Lists.{All, joinOf, twice}
 use Rattle.sorting.specs.Sort.{sortBy}
-use Rattle.record.specs.declared.date.Eu4Date.{Eu4Date}
-use Rattle.record.specs.Sound.{Sound}
-use Rattle.record.specs.Campaign.{Campaign}
+use Rattle.format.specs.declared.date.Eu4Date.{Eu4Date}
+use Rattle.format.specs.Sound.{Sound}
+use Rattle.format.specs.Campaign.{Campaign}
 use Rattle.nations.specs.declared.lives.Lives.{Lives}
 use Rattle.nations.specs.declared.listing.Listed.{Listed}
 use Rattle.rules.specs.Chronicle.{Entry, Nation}
 use Rattle.rules.specs.Lent.{written}
 use Rattle.rules.specs.NationRows.{nationRowWords, nationRowsFrom, nationWords, entryWords}
+use Rattle.owner_changes.specs.ChangeSteps.{mostChanges}
+use Rattle.nations.specs.Layout.{mostSwitches, mostSlots, keyRows, keyNumbers, rowKeySpan, half, noChange}
+use Rattle.nations.specs.Keys.{wordIn}
 use Rattle.nations.specs.Lookup.{rowIn, lastWithin}
 use Rattle.nations.specs.Countries.{tagWords, initialWords, rowKeys, Keyed}
-use Rattle.nations.specs.Turning.{highs, lows, Lived, livedLeft, firstLives, Chained, Linked, Rowed, rowTurnsOf}
+use Rattle.nations.specs.Turning.{highHalves, lowHalves, Lived, livedLeft, firstLives, Chained, Linked, Rowed, rowTurnsOf}
 use Rattle.nations.specs.Holders.{startedOf}
 use Rattle.nations.specs.Switches.{runStart, runKeys, targetWords}
 use Rattle.nations.specs.Entries.{mergedEntries, latestTag}
@@ -48,12 +51,12 @@ cellsFrom tags initials runs targets firsts started keys turns start =
       initials = initials;
       runs = runs;
       targets = targets;
-      losses = highs firsts;
-      gains = lows firsts;
+      losses = highHalves firsts;
+      gains = lowHalves firsts;
       started = started;
       keys = keys;
-      olds = highs turns;
-      news = lows turns;
+      olds = highHalves turns;
+      news = lowHalves turns;
       start = start;
     }
 
@@ -89,23 +92,23 @@ abbrev pub runOf : List ℕ → ℕ → List ℕ
 runOf runs row = take (runStart (suc row) runs - runStart row runs) (drop (runStart row runs) runs)
 
 -- The row's entries.
-abbrev pub entriesAt : Cells → ℕ → List Entry
-entriesAt w row = mergedEntries (w .targets) (runOf (w .runs) row) (livedOf w row .entries)
+abbrev pub rowEntries : Cells → ℕ → List Entry
+rowEntries w row = mergedEntries (w .targets) (runOf (w .runs) row) (livedOf w row .entries)
 
 -- Of a key of an initial: it is the last one with that initial, and the walk holds a slot now or gains one later.
 abbrev pub isListed : List ℕ → ℕ → Lives → Bool
 isListed initials key walk =
-    eqb (lastWithin (key / 2048 * 2048) (key / 2048 * 2048 + 2048) initials) (rowIn key)
-    && (ltb 0 (walk .held) || ltb (walk .gain) 65535)
+    eqb (lastWithin (wordIn key * keyRows) (wordIn key * keyRows + keyRows) initials) (rowIn key)
+    && (ltb 0 (walk .held) || ltb (walk .gain) noChange)
 
 -- The nation of a key.
 abbrev pub nationOfKey : Cells → ℕ → Nation
 nationOfKey w key =
     record {
-      initial = record { 0 = key / 2048 };
-      latest = latestTag (w .targets) (runOf (w .runs) (rowIn key)) (record { 0 = key / 2048 });
+      initial = record { 0 = wordIn key };
+      latest = latestTag (w .targets) (runOf (w .runs) (rowIn key)) (record { 0 = wordIn key });
       stored = record { 0 = getD (w .tags) (rowIn key) 0 };
-      entries = entriesAt w (rowIn key);
+      entries = rowEntries w (rowIn key);
     }
 
 -- It, if it is listed.
@@ -127,14 +130,14 @@ pub record Readable (w : Cells) : Type 0 where
   pub chained : Chained (w .keys) (w .olds) (w .news)
   pub runs : sortBy leb (w .runs) ≡ w .runs
   pub initials : sortBy leb (w .initials) ≡ w .initials
-  pub few : length (w .initials) ≤ 2048
-  pub fewRuns : length (w .runs) ≤ 32768
+  pub few : length (w .initials) ≤ keyRows
+  pub fewRuns : length (w .runs) ≤ keyNumbers
   pub tagRows : All (λ key. rowIn key < length (w .tags)) (w .initials)
   pub startRows : All (λ key. rowIn key < length (w .started)) (w .initials)
   pub lossRows : All (λ key. rowIn key < length (w .losses)) (w .initials)
   pub gainRows : All (λ key. rowIn key < length (w .gains)) (w .initials)
-  pub words : All (λ key. key < 8796093022208) (w .initials)
-  pub started : All (λ n. n ≤ 65536) (w .started)
+  pub words : All (λ key. key < rowKeySpan) (w .initials)
+  pub started : All (λ n. n ≤ half) (w .started)
 
 -- ## What the functions leave
 
@@ -168,16 +171,16 @@ pub record CampaignCells (c : Campaign) (w : Cells) : Type 0 where
   pub tags : w .tags ≡ tagWords (c .countries)
   pub initials : w .initials ≡ rowKeys (initialWords (c .countries))
   pub runs : w .runs ≡ runKeys (c .countries)
-  pub fewRuns : length (w .runs) ≤ 20000
+  pub fewRuns : length (w .runs) ≤ mostSwitches
   pub targets : w .targets ≡ targetWords (c .countries)
   pub start : w .start ≡ c .start
   pub started : w .started ≡ startedOf c
   pub oldRows : List ℕ
   pub newRows : List ℕ
   pub rowed : Rowed (w .keys) oldRows newRows (rowTurnsOf c)
-  pub few : length (w .keys) ≤ 60000
+  pub few : length (w .keys) ≤ mostChanges
   pub losses : Linked oldRows (w .olds) (w .losses)
   pub gains : Linked newRows (w .news) (w .gains)
   pub lossRows : length (c .countries) ≤ length (w .losses)
   pub gainRows : length (c .countries) ≤ length (w .gains)
-  pub slots : length (c .provinces) ≤ 8000
+  pub slots : length (c .provinces) < mostSlots

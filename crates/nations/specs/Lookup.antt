@@ -9,10 +9,7 @@ use lib.ListN.{length, take}
 use Rattle.lists.specs.Lists.{keep, firstOr, lastOr}
 use Rattle.sorting.specs.Sort.{sortBy}
 pub use Rattle.nations.specs.Keys.{rowIn}
-
--- No row: there is no country.
-abbrev pub noRow : ℕ
-noRow = 65535
+pub use Rattle.nations.specs.Layout.{noRow}
 
 -- The key stands from one number on and below another.
 abbrev pub inRange : ℕ → ℕ → ℕ → Bool

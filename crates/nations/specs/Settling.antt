@@ -6,12 +6,13 @@ use mathlib.Core.Option.{Option, none, some}
 use Prim.Native.Nat.{ℕ, _+_, _<_}
 use lib.ListN.{length}
 use Rattle.lists.specs.Lists.{twice}
-use Rattle.record.specs.declared.tag.CountryTag.{CountryTag}
-use Rattle.record.specs.declared.date.Eu4Date.{Eu4Date}
-use Rattle.record.specs.Campaign.{Country}
+use Rattle.format.specs.declared.tag.CountryTag.{CountryTag}
+use Rattle.format.specs.declared.date.Eu4Date.{Eu4Date}
+use Rattle.format.specs.Campaign.{Country}
 use Rattle.rules.specs.Chronicle.{Change}
 use Rattle.rules.specs.Nations.{allSwitches, settles}
-use Rattle.nations.specs.Lookup.{noRow, firstWithin}
+use Rattle.nations.specs.Layout.{keyDates, noRow}
+use Rattle.nations.specs.Lookup.{firstWithin}
 use Rattle.nations.specs.Countries.{tagAtRow, tagWords, rowOf, settlingKey, rowKeys, switchKeys, Keyed}
 
 -- The tag that is there, else the given one.
@@ -31,13 +32,13 @@ pub record Settled (ks : List Country) (x : Change) (row : ℕ) : Type 0 where
 
 -- The row of the first switch from a tag not dated before a date, by keys: of any countries whose switches the keys are.
 pub record RowSettled (keys : List ℕ) (to : CountryTag) (date : Eu4Date) (row : ℕ) : Type 0 where
-  pub settled : (ks : List Country) (x : Change) → Keyed ks → keys ≡ switchKeys ks → x .to ≡ to → x .date ≡ date → date .0 < 134217728
+  pub settled : (ks : List Country) (x : Change) → Keyed ks → keys ≡ switchKeys ks → x .to ≡ to → x .date ≡ date → date .0 < keyDates
       → Settled ks x row
 
 -- The row of the country that holds the slot after a change, by the keys of the tags and of the switches; the holder is the country in that
 -- row, or where there is none the change's `to`.
 pub record RowHolds (tags switches : List ℕ) (to : CountryTag) (date : Eu4Date) (row : ℕ) : Type 0 where
   pub holds : (ks : List Country) (x : Change) → Keyed ks → twice (tagWords ks) ≡ false → tags ≡ rowKeys (tagWords ks) → switches ≡ switchKeys ks
-      → x .to ≡ to → x .date ≡ date → date .0 < 134217728 → row ≡ rowOf ks (settles (allSwitches ks) x)
+      → x .to ≡ to → x .date ≡ date → date .0 < keyDates → row ≡ rowOf ks (settles (allSwitches ks) x)
   pub holder : (ks : List Country) (x : Change) → Keyed ks → twice (tagWords ks) ≡ false → tags ≡ rowKeys (tagWords ks) → switches ≡ switchKeys ks
-      → x .to ≡ to → x .date ≡ date → date .0 < 134217728 → settles (allSwitches ks) x ≡ orTag (x .to) (tagAtRow ks row)
+      → x .to ≡ to → x .date ≡ date → date .0 < keyDates → settles (allSwitches ks) x ≡ orTag (x .to) (tagAtRow ks row)

@@ -6,13 +6,14 @@ use Prim.Native.Nat.{ℕ, suc, _≤_}
 use lib.Dec.{ltb}
 use lib.ListN.{length, set}
 use Rattle.lists.specs.Lists.{keep, allOf, firstOr, numbersFrom, twice}
-use Rattle.record.specs.declared.tag.CountryTag.{CountryTag}
-use Rattle.record.specs.declared.rows.ProvinceId.{ProvinceId}
-use Rattle.record.specs.Tags.{NONE}
-use Rattle.record.specs.Campaign.{Campaign, Province}
+use Rattle.format.specs.declared.tag.CountryTag.{CountryTag}
+use Rattle.format.specs.declared.rows.ProvinceId.{ProvinceId}
+use Rattle.format.specs.Tags.{NONE}
+use Rattle.format.specs.Campaign.{Campaign, Province}
 use Rattle.rules.specs.Lent.{written}
-use Rattle.record.specs.Rows.{sameId}
+use Rattle.format.specs.Rows.{sameId}
 use Rattle.rules.specs.Nations.{startHolders}
+use Rattle.nations.specs.Layout.{keyRows}
 use Rattle.nations.specs.Countries.{tagAtRow, initialWords, rowKeys, initialRow}
 
 -- The owner of the province with an id, `---` if there is none.
@@ -36,5 +37,5 @@ pub record Slotted (slots : ℕ) (ps : List Province) : Type 0 where
 -- The slots' rows in front of a slice; with the keys of a campaign's initials these are its start holders.
 pub record Started (keys : List ℕ) (ps : List Province) (slots : ℕ) (before after : List ℕ) : Type 0 where
   pub cells : after ≡ written (slotRows keys ps slots) before
-  pub holders : (c : Campaign) → c .provinces ≡ ps → slots ≡ suc (length ps) → length (c .countries) ≤ 2048
+  pub holders : (c : Campaign) → c .provinces ≡ ps → slots ≡ suc (length ps) → length (c .countries) ≤ keyRows
       → keys ≡ rowKeys (initialWords (c .countries)) → map (tagAtRow (c .countries)) (slotRows keys ps slots) ≡ startHolders c

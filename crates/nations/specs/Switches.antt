@@ -5,16 +5,17 @@ use lib.Dec.{leb, ltb}
 use lib.ListN.{length, getD}
 use Rattle.lists.specs.Lists.{countOf, joinOf}
 use Rattle.sorting.specs.Sort.{sortBy}
-use Rattle.record.specs.declared.tag.CountryTag.{CountryTag}
-use Rattle.record.specs.declared.rows.Switch.{Switch}
-use Rattle.record.specs.Campaign.{Country}
+use Rattle.format.specs.declared.tag.CountryTag.{CountryTag}
+use Rattle.format.specs.declared.rows.Switch.{Switch}
+use Rattle.format.specs.Campaign.{Country}
 use Rattle.nations.specs.declared.switches.SwitchOrder.{SwitchOrder}
 use Rattle.nations.specs.declared.switches.SwitchOrder.the-variants.{ByFrom, ByRow}
 use Rattle.rules.specs.Chronicle.{switch, Entry}
 use Rattle.rules.specs.Nations.{lastTarget, switchChain}
 use Rattle.rules.specs.NationRows.{targetWord}
 pub use Rattle.nations.specs.Keys.{runKey, dateIn}
-use Rattle.nations.specs.Keys.{settlingKey, numberIn, rowSpan}
+use Rattle.nations.specs.Keys.{settlingKey, numberIn}
+use Rattle.nations.specs.Layout.{keyNumbers, keyTags, wordSpan, rowSpan}
 
 -- ## The switches of all countries
 
@@ -46,8 +47,8 @@ keyBy ByRow x = runKey (x .row) (x .made .date .0) (x .number)
 
 -- What is asked of a switch, beside its row, so that its key has room.
 abbrev pub KeyFits : SwitchOrder → PlacedSwitch → Type 0
-KeyFits ByFrom x = x .made .from .0 < 16777216
-KeyFits ByRow x = x .number < 32768
+KeyFits ByFrom x = x .made .from .0 < keyTags
+KeyFits ByRow x = x .number < keyNumbers
 
 -- The keys of all switches by row, country by country, rows and switches counted from numbers on.
 unfoldable pub runsFrom : ℕ → ℕ → List Country → List ℕ
@@ -77,7 +78,7 @@ targetWords ks = joinOf ownTargets ks
 
 -- A switch's target by its key and the words of all targets.
 abbrev pub targetIn : List ℕ → ℕ → ℕ
-targetIn words key = getD words (numberIn key) 0 % 4294967296
+targetIn words key = getD words (numberIn key) 0 % wordSpan
 
 -- The entry of a switch, by its key and the words of all targets.
 abbrev pub switchIn : List ℕ → ℕ → Entry

@@ -7,21 +7,23 @@ use mathlib.Core.Option.{Option, none, some}
 use Prim.Native.Nat.{ℕ, suc, _+_, _-_, _/_, _%_, _≤_, _<_}
 use lib.Dec.{ltb, eqb}
 use lib.ListN.{length, getD, set}
-use Rattle.record.specs.declared.tag.CountryTag.{CountryTag}
-use Rattle.record.specs.declared.date.Eu4Date.{Eu4Date}
-use Rattle.record.specs.Dates.{notAfter}
-use Rattle.record.specs.Campaign.{Campaign}
+use Rattle.format.specs.declared.tag.CountryTag.{CountryTag}
+use Rattle.format.specs.declared.date.Eu4Date.{Eu4Date}
+use Rattle.format.specs.Dates.{notAfter}
+use Rattle.format.specs.Campaign.{Campaign}
 use Rattle.nations.specs.declared.lives.Lives.{Lives}
 use Rattle.nations.specs.declared.lives.LivesCount.{LivesCount}
 use Rattle.nations.specs.declared.lives.Turned as Turned
 use Rattle.nations.specs.declared.lives.NextLife as NextLife
 use Rattle.rules.specs.Chronicle.{Kind, appeared, annexed, Entry}
 use Rattle.rules.specs.Nations.{Turn, turnsOf, turnEntries, turnCount}
+use Rattle.owner_changes.specs.ChangeSteps.{perDate}
+use Rattle.nations.specs.Layout.{half, noChange, noRow}
 use Rattle.nations.specs.Countries.{tagWords}
 
--- The number of the first place that holds x, counted from k; 65535 if none does.
+-- The number of the first place that holds x, counted from k; `noChange` if none does.
 unfoldable pub firstAt : ℕ → ℕ → List ℕ → ℕ
-firstAt x k [] = 65535
+firstAt x k [] = noChange
 firstAt x k (y ∷ ys) = cond (eqb y x) k (firstAt x (suc k) ys)
 
 -- The order of entries.
@@ -30,17 +32,17 @@ byDate a b = notAfter (a .date) (b .date)
 
 -- A change's key begins with its date: behind it stand 32 bits (ChangeSteps changeKey).
 abbrev pub keyDate : ℕ → Eu4Date
-keyDate key = record { 0 = key / 4294967296 }
+keyDate key = record { 0 = key / perDate }
 
 -- ## Two numbers in a cell
 
--- A cell of 32 bits holds two numbers of 16 bits. Of a change these are the row of the old holder and that of the new one, and later the
+-- Of a change these are the row of the old holder and that of the new one, and later the
 -- links to the next loss and to the next gain; of a row its first loss and its first gain.
-abbrev pub highs : List ℕ → List ℕ
-highs cells = map (λ x. x / 65536) cells
+abbrev pub highHalves : List ℕ → List ℕ
+highHalves cells = map (λ x. x / half) cells
 
-abbrev pub lows : List ℕ → List ℕ
-lows cells = map (λ x. x % 65536) cells
+abbrev pub lowHalves : List ℕ → List ℕ
+lowHalves cells = map (λ x. x % half) cells
 
 -- ## Turns by rows
 
@@ -48,14 +50,14 @@ lows cells = map (λ x. x % 65536) cells
 abbrev pub rowTag : Campaign → ℕ → CountryTag
 rowTag c r = record { 0 = getD (tagWords (c .countries)) r 0 }
 
--- The row of a tag among such words; 65535 for a tag of no country.
-abbrev pub placeOf : List ℕ → CountryTag → ℕ
-placeOf tags t = firstAt (t .0) 0 tags
+-- The row of a tag among such words; no row for a tag of no country.
+abbrev pub rowAmong : List ℕ → CountryTag → ℕ
+rowAmong tags t = firstAt (t .0) 0 tags
 
 -- The row of a holder; nobody has none.
 abbrev pub holderRow : List ℕ → Option CountryTag → ℕ
-holderRow tags none = 65535
-holderRow tags (some t) = placeOf tags t
+holderRow tags none = noRow
+holderRow tags (some t) = rowAmong tags t
 
 -- A turn with rows in place of tags.
 pub record RowTurn : Type 0 where
@@ -64,7 +66,7 @@ pub record RowTurn : Type 0 where
   pub new : ℕ
 
 abbrev pub rowTurn : List ℕ → Turn → RowTurn
-rowTurn tags x = record { date = x .date; old = holderRow tags (x .old); new = placeOf tags (x .new) }
+rowTurn tags x = record { date = x .date; old = holderRow tags (x .old); new = rowAmong tags (x .new) }
 
 -- The campaign's turns.
 unfoldable pub rowTurnsOf : Campaign → List RowTurn
@@ -95,15 +97,15 @@ rowLived start r (x ∷ xs) n =
 
 -- ## Chains
 
--- For each place, numbered from k on, the next one that holds the same number, 65535 if there is none. A number that is not below m is
+-- For each place, numbered from k on, the next one that holds the same number, `noChange` if there is none. A number that is not below m is
 -- no row's, and has none.
 unfoldable pub linksFrom : ℕ → ℕ → List ℕ → List ℕ
 linksFrom m k [] = []
-linksFrom m k (x ∷ xs) = cond (ltb x m) (firstAt x (suc k) xs) 65535 ∷ linksFrom m (suc k) xs
+linksFrom m k (x ∷ xs) = cond (ltb x m) (firstAt x (suc k) xs) noChange ∷ linksFrom m (suc k) xs
 
 -- No row has a change yet.
 pub record Fresh (heads : List ℕ) : Type 0 where
-  pub none : (r : ℕ) → r < length heads → getD heads r 0 ≡ 65535
+  pub none : (r : ℕ) → r < length heads → getD heads r 0 ≡ noChange
 
 -- Each change has become the link to the next change of its row, and each row's head is its first change.
 pub record Linked (rows links heads : List ℕ) : Type 0 where
@@ -112,24 +114,24 @@ pub record Linked (rows links heads : List ℕ) : Type 0 where
 
 -- Both chains of the changes in cells, with the first changes of each row in cells.
 pub record TurnsLinked (turns links firsts : List ℕ) : Type 0 where
-  pub losses : Linked (highs turns) (highs links) (highs firsts)
-  pub gains : Linked (lows turns) (lows links) (lows firsts)
+  pub losses : Linked (highHalves turns) (highHalves links) (highHalves firsts)
+  pub gains : Linked (lowHalves turns) (lowHalves links) (lowHalves firsts)
 
 -- A change becomes its row's first; the answer is the one that was first. A number that is no row's is let be.
 pub record Pushed (heads : List ℕ) (row k r : ℕ) (after : List ℕ) : Type 0 where
-  pub next : r ≡ cond (ltb row (length heads)) (getD heads row 0) 65535
+  pub next : r ≡ cond (ltb row (length heads)) (getD heads row 0) noChange
   pub cells : after ≡ set heads row k
 
 -- So it is with the first losses, and the first gains stay; and the other way round.
 pub record LossPushed (firsts : List ℕ) (row k r : ℕ) (after : List ℕ) : Type 0 where
-  pub loss : Pushed (highs firsts) row k r (highs after)
-  pub gain : lows after ≡ lows firsts
-  pub small : r < 65536
+  pub loss : Pushed (highHalves firsts) row k r (highHalves after)
+  pub gain : lowHalves after ≡ lowHalves firsts
+  pub small : r < half
 
 pub record GainPushed (firsts : List ℕ) (row k r : ℕ) (after : List ℕ) : Type 0 where
-  pub gain : Pushed (lows firsts) row k r (lows after)
-  pub loss : highs after ≡ highs firsts
-  pub small : r < 65536
+  pub gain : Pushed (lowHalves firsts) row k r (lowHalves after)
+  pub loss : highHalves after ≡ highHalves firsts
+  pub small : r < half
 
 -- ## A walk over two chains
 
@@ -174,19 +176,19 @@ lifeTold start keys olds news (NextLife.the-variants.End held) = record { entrie
 
 -- What a walk asks of the changes: a key and two links for each, and that links rise.
 pub record Chained (keys olds news : List ℕ) : Type 0 where
-  pub few : length keys ≤ 65535
+  pub few : length keys ≤ noChange
   pub allOlds : length olds ≡ length keys
   pub allNews : length news ≡ length keys
   pub oldsRise : (k : ℕ) → k < length keys → k < getD olds k 0
   pub newsRise : (k : ℕ) → k < length keys → k < getD news k 0
 
--- The slots that a walk stands at are few: 65536 to begin with, and one more for each gain behind it.
+-- The slots that a walk stands at are few: a half to begin with, and one more for each gain behind it.
 abbrev pub Light : Lives → Type 0
-Light c = c .held ≤ c .gain + 65536
+Light c = c .held ≤ c .gain + half
 
 -- How many links it may still follow.
 abbrev pub ahead : Lives → ℕ
-ahead c = (65536 - c .lose) + (65536 - c .gain)
+ahead c = (half - c .lose) + (half - c .gain)
 
 -- It went on from one place to another.
 pub record Onward (from to : Lives) : Type 0 where

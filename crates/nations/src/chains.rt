@@ -1,17 +1,15 @@
 // Chains of changes: for each country row the changes at which it loses a slot, and those at which it gains one, in rising order.
-// A chain is a first change and at each change a link to the next; 65535 ends it. The numbers of both chains share a cell.
+// A chain is a first change and at each change a link to the next; NO_CHANGE ends it. The numbers of both chains share a cell.
+use crate::layout::HALF;
+use crate::layout::NO_CHANGE;
 ghost use Prim.Native.Nat.{_≤_, _<_};
 ghost use lib.ListN.{length};
-ghost use Rattle.nations.specs.Turning.{highs, lows, Fresh, TurnsLinked, LossPushed, GainPushed};
-
-// A cell holds the number of losses times this, and below it the number of gains.
-pub(crate) const HALF: u32 = 65536;
-
-const NO_CHANGE: u32 = 65535;
+ghost use Rattle.nations.specs.Layout.{half, noChange};
+ghost use Rattle.nations.specs.Turning.{highHalves, lowHalves, Fresh, TurnsLinked, LossPushed, GainPushed};
 
 // Puts change k before the losses of a row, and returns the one that was first there.
 fn push_loss(firsts: &mut [u32], row: usize, k: u32) -> u32
-    requires { ⌜ k < 65536 ⌝ }
+    requires { ⌜ k < half ⌝ }
     ensures { λ r. ⌜ LossPushed (now (firsts .entry)) row k r (now (firsts .exit)) ⌝ }
 {
     if firsts.len() <= row {
@@ -24,7 +22,7 @@ fn push_loss(firsts: &mut [u32], row: usize, k: u32) -> u32
 
 // Puts change k before the gains of a row, and returns the one that was first there.
 fn push_gain(firsts: &mut [u32], row: usize, k: u32) -> u32
-    requires { ⌜ k < 65536 ⌝ }
+    requires { ⌜ k < half ⌝ }
     ensures { λ r. ⌜ GainPushed (now (firsts .entry)) row k r (now (firsts .exit)) ⌝ }
 {
     if firsts.len() <= row {
@@ -38,8 +36,8 @@ fn push_gain(firsts: &mut [u32], row: usize, k: u32) -> u32
 // Turns the old and the new row of each change into the links to their next changes, and leaves each row's first ones in `firsts`. A
 // number that is no row's begins no chain. From the last change to the first: so each cell is read as rows before it holds links.
 pub(crate) fn link(turns: &mut [u32], firsts: &mut [u32])
-    requires { ⌜ length (now turns) ≤ 65535 ⌝ }
-    requires { ⌜ Fresh (highs (now firsts)) × Fresh (lows (now firsts)) ⌝ }
+    requires { ⌜ length (now turns) ≤ noChange ⌝ }
+    requires { ⌜ Fresh (highHalves (now firsts)) × Fresh (lowHalves (now firsts)) ⌝ }
     ensures { λ _. ⌜ TurnsLinked (now (turns .entry)) (now (turns .exit)) (now (firsts .exit)) ⌝ }
 {
     let mut k = turns.len();

@@ -1,6 +1,6 @@
 // Tables of the countries: words in row order, and keys in order by which a country's row is found.
-use crate::keys::ROWS;
 use crate::keys::row_key;
+use crate::layout::KEY_ROWS;
 use crate::lookup;
 use crate::switches::SwitchOrder;
 use crate::switches::first_tag;
@@ -15,12 +15,13 @@ ghost use lib.ListN.{length, take};
 ghost use Rattle.record.specs.Cursors.{countryOf, countriesLeft};
 ghost use Rattle.rules.specs.Lent.{written};
 ghost use Rattle.rules.specs.Nations.{initialOf};
+ghost use Rattle.nations.specs.Layout.{keyRows};
 ghost use Rattle.nations.specs.Countries.{Keyed, Tabled, Filled};
 ghost use Rattle.nations.specs.Countries.{rowKeys, switchKeys, switchKeysFrom, RowFound, RowMapped};
 ghost use Rattle.nations.specs.Lookup.{FirstSorted};
 
 // A country's initial: its first switch's from, else its first previous tag, else its tag.
-fn initial(s: &[u8], row: CountryRow) -> CountryTag
+fn initial_of(s: &[u8], row: CountryRow) -> CountryTag
     ensures { λ r. ⌜ r ≡ initialOf (countryOf (now (s .entry)) row) ⌝ }
 {
     first_tag(s, row.switches, row.previous, row.tag)
@@ -42,7 +43,7 @@ pub(crate) fn country_words(
         match left.next(s) {
             NextCountry::Row(row, rest) => {
                 let tag = row.tag;
-                let first = initial(s, row);
+                let first = initial_of(s, row);
                 tags[n] = tag.word();
                 initials[n] = first.word();
                 n += 1;
@@ -55,12 +56,12 @@ pub(crate) fn country_words(
 
 // Writes the keys of the first n words, in order: each word with its row below it. The scratch is to have room for n keys.
 pub(crate) fn row_keys(words: &[u32], n: usize, keys: &mut [u64], scratch: &mut [u64])
-    requires { ⌜ (n ≤ 2048) × (n ≤ length (now words)) × (n ≤ length (now keys)) ⌝ }
+    requires { ⌜ (n ≤ keyRows) × (n ≤ length (now words)) × (n ≤ length (now keys)) ⌝ }
     ensures { λ _. ⌜ now (keys .exit) ≡ written (rowKeys (take n (now (words .entry)))) (now (keys .entry)) ⌝ }
 {
     let mut i = 0;
     while i < n {
-        keys[i] = row_key(words[i], i as u64);
+        keys[i] = row_key(CountryTag::kept(words[i]), i as u64);
         i += 1;
     }
     sorting::sort_keys(&mut keys[0..n], scratch);
@@ -84,8 +85,8 @@ pub(crate) fn row_of(keys: &[u64], n: usize, tag: CountryTag) -> u16
     requires { ⌜ FirstSorted n (now keys) ⌝ }
     ensures { λ r. ⌜ RowFound (take n (now (keys .entry))) tag r ⌝ }
 {
-    let low = tag.word() as u64 * ROWS;
-    lookup::first_within(keys, n, low, low + ROWS)
+    let low = tag.word() as u64 * KEY_ROWS;
+    lookup::first_within(keys, n, low, low + KEY_ROWS)
 }
 
 // The last row of a country with an initial, by the keys of n initials, or NO_ROW: the country that the initial maps to.
@@ -93,6 +94,6 @@ pub(crate) fn mapped_row(keys: &[u64], n: usize, tag: CountryTag) -> u16
     requires { ⌜ FirstSorted n (now keys) ⌝ }
     ensures { λ r. ⌜ RowMapped (take n (now (keys .entry))) tag r ⌝ }
 {
-    let low = tag.word() as u64 * ROWS;
-    lookup::last_within(keys, n, low, low + ROWS)
+    let low = tag.word() as u64 * KEY_ROWS;
+    lookup::last_within(keys, n, low, low + KEY_ROWS)
 }

@@ -1,42 +1,36 @@
 // The entries of one country: its switches by date, merged with its Annexed and Appeared.
-use crate::keys;
-use crate::keys::WORDS;
+use crate::layout::KEY_DATES;
+use crate::layout::KEY_NUMBERS;
+use crate::layout::WORD_SPAN;
 use crate::lives::Lives;
 use crate::lives::NextLife;
+use chronicle_rows::ENTRY_WIDTH;
+use chronicle_rows::Kind;
 use record::CountryTag;
 use record::Eu4Date;
 ghost use mathlib.Core.Path.{_≡_};
 ghost use mathlib.Core.List.{_++_};
 ghost use Prim.Native.Nat.{_*_, _≤_};
 ghost use lib.ListN.{length, drop};
-ghost use Rattle.rules.specs.NationRows.{kindWord, targetWord, entryRow, entryRowWords};
-ghost use Rattle.nations.specs.Turning.{highs, lows, lifeKind, livedLeft, Chained, Light};
+ghost use Rattle.rules.specs.NationRows.{entryWidth, kindWord, targetWord, entryRow, entryRowWords};
+ghost use Rattle.chronicle_rows.specs.Cases.{kindTold};
+ghost use Rattle.nations.specs.Turning.{highHalves, lowHalves, lifeKind, livedLeft, Chained, Light};
 ghost use Rattle.nations.specs.Switches.{dateIn, targetIn};
-ghost use Rattle.nations.specs.Entries.{kindOf, entryOf, latestTag, switchFirst, mergedEntries, EntriesWritten};
-
-// The words of an entry row.
-pub(crate) const ENTRY_WIDTH: usize = 3;
-
-// What an entry tells. Only a switch has a target.
-enum EntryKind {
-    Switch(CountryTag),
-    Appeared,
-    Annexed,
-}
+ghost use Rattle.nations.specs.Entries.{latestTag, switchFirst, mergedEntries, EntriesWritten};
 
 // The date of a switch, by its key.
 fn switch_date(key: u64) -> Eu4Date
     ensures { λ r. ⌜ r .0 ≡ dateIn key ⌝ }
 {
-    Eu4Date::kept((key / keys::NUMBERS % keys::DATES) as u32)
+    Eu4Date::kept((key / KEY_NUMBERS % KEY_DATES) as u32)
 }
 
 // A switch's target, by its key.
 fn switch_target(targets: &[u64], key: u64) -> CountryTag
     ensures { λ r. ⌜ r .0 ≡ targetIn (now (targets .entry)) key ⌝ }
 {
-    let cell = owner_changes::cell(targets, (key % keys::NUMBERS) as usize);
-    CountryTag::kept((cell % WORDS) as u32)
+    let cell = owner_changes::cell(targets, (key % KEY_NUMBERS) as usize);
+    CountryTag::kept((cell % WORD_SPAN) as u32)
 }
 
 // Latest: the target of the last of the switches, or the initial where there is none.
@@ -64,42 +58,38 @@ fn switch_first(run: &[u64], i: usize, life: NextLife) -> bool
 }
 
 // What a life tells: at the last loss the country is annexed, else it appears.
-fn life_kind(falls: bool) -> EntryKind
-    ensures { λ r. ⌜ kindOf r ≡ lifeKind falls ⌝ }
+fn life_kind(falls: bool) -> Kind
+    ensures { λ r. ⌜ kindTold r ≡ lifeKind falls ⌝ }
 {
-    if falls {
-        EntryKind::Annexed
-    } else {
-        EntryKind::Appeared
-    }
+    if falls { Kind::Annexed } else { Kind::Appeared }
 }
 
 // The word of an entry row that tells its kind.
-fn kind_word(kind: EntryKind) -> u32
-    ensures { λ r. ⌜ r ≡ kindWord (kindOf kind) ⌝ }
+fn kind_word(kind: Kind) -> u32
+    ensures { λ r. ⌜ r ≡ kindWord (kindTold kind) ⌝ }
 {
     match kind {
-        EntryKind::Switch(_) => 0,
-        EntryKind::Appeared => 1,
-        EntryKind::Annexed => 2,
+        Kind::Switch(_) => 0,
+        Kind::Appeared => 1,
+        Kind::Annexed => 2,
     }
 }
 
 // The word of an entry row for the target, 0 where there is none.
-fn target_word(kind: EntryKind) -> u32
-    ensures { λ r. ⌜ r ≡ targetWord (kindOf kind) ⌝ }
+fn target_word(kind: Kind) -> u32
+    ensures { λ r. ⌜ r ≡ targetWord (kindTold kind) ⌝ }
 {
     match kind {
-        EntryKind::Switch(target) => target.word(),
-        EntryKind::Appeared => 0,
-        EntryKind::Annexed => 0,
+        Kind::Switch(target) => target.word(),
+        Kind::Appeared => 0,
+        Kind::Annexed => 0,
     }
 }
 
 // Writes an entry row: date, kind, target.
-fn put_entry(date: Eu4Date, kind: EntryKind, out: &mut [u32])
-    requires { ⌜ 3 ≤ length (now out) ⌝ }
-    ensures { λ _. ⌜ now (out .exit) ≡ entryRowWords (entryRow (entryOf date kind)) ++ drop 3 (now (out .entry)) ⌝ }
+fn put_entry(date: Eu4Date, kind: Kind, out: &mut [u32])
+    requires { ⌜ entryWidth ≤ length (now out) ⌝ }
+    ensures { λ _. ⌜ now (out .exit) ≡ entryRowWords (entryRow (record { date = date; kind = kindTold kind })) ++ drop entryWidth (now (out .entry)) ⌝ }
 {
     out[0] = date.word();
     out[1] = kind_word(kind);
@@ -116,10 +106,10 @@ pub(crate) fn write_entries(
     start: Eu4Date,
     out: &mut [u32],
 ) -> usize
-    requires { ⌜ Chained (now keys) (highs (now turns)) (lows (now turns)) ⌝ }
+    requires { ⌜ Chained (now keys) (highHalves (now turns)) (lowHalves (now turns)) ⌝ }
     requires { ⌜ Light walk ⌝ }
-    requires { ⌜ 3 * length (mergedEntries (now targets) (now run) (livedLeft start (now keys) (highs (now turns)) (lows (now turns)) walk .entries)) ≤ length (now out) ⌝ }
-    ensures { λ r. ⌜ EntriesWritten (mergedEntries (now (targets .entry)) (now (run .entry)) (livedLeft start (now (keys .entry)) (highs (now (turns .entry))) (lows (now (turns .entry))) walk .entries)) r (now (out .entry)) (now (out .exit)) ⌝ }
+    requires { ⌜ entryWidth * length (mergedEntries (now targets) (now run) (livedLeft start (now keys) (highHalves (now turns)) (lowHalves (now turns)) walk .entries)) ≤ length (now out) ⌝ }
+    ensures { λ r. ⌜ EntriesWritten (mergedEntries (now (targets .entry)) (now (run .entry)) (livedLeft start (now (keys .entry)) (highHalves (now (turns .entry))) (lowHalves (now (turns .entry))) walk .entries)) r (now (out .entry)) (now (out .exit)) ⌝ }
 {
     let mut life = walk.next(keys, turns, start);
     let mut i = 0;
@@ -128,7 +118,7 @@ pub(crate) fn write_entries(
         let at = ENTRY_WIDTH * k;
         if switch_first(run, i, life) {
             let key = run[i];
-            let kind = EntryKind::Switch(switch_target(targets, key));
+            let kind = Kind::Switch(switch_target(targets, key));
             put_entry(switch_date(key), kind, &mut out[at..]);
             i += 1;
             k += 1;

@@ -1,17 +1,16 @@
 // The tables of the countries, the chains of changes, and the switches of each country: all that nations are read from.
 use crate::chains;
 use crate::countries;
+use crate::layout::MOST_COUNTRIES;
 use crate::switches;
 use record::Countries;
 ghost use Prim.Native.Nat.{_≤_};
 ghost use lib.ListN.{length};
 ghost use Rattle.record.specs.Cursors.{countriesLeft};
+ghost use Rattle.nations.specs.Layout.{noChange};
 ghost use Rattle.nations.specs.Countries.{Keyed};
-ghost use Rattle.nations.specs.Turning.{highs, lows, Fresh};
+ghost use Rattle.nations.specs.Turning.{highHalves, lowHalves, Fresh};
 ghost use Rattle.nations.specs.NationSteps.{TablesRoom, TablesFilled, FewSwitches, Arranged};
-
-// How many countries a record has at most.
-pub(crate) const COUNTRIES: usize = 2000;
 
 // How many countries and switches there are.
 pub(crate) struct Sizes {
@@ -32,7 +31,7 @@ pub(crate) fn fill_tables(
     requires { ⌜ TablesRoom (countriesLeft (now s) all) (now «tag_words») (now «initial_keys») (now «switch_keys») ⌝ }
     ensures { λ r. ⌜ TablesFilled (countriesLeft (now (s .entry)) all) r (now («tag_words» .exit)) (now («initial_keys» .exit)) (now («switch_keys» .exit)) ⌝ }
 {
-    let mut initial_words = [0u32; COUNTRIES];
+    let mut initial_words = [0u32; MOST_COUNTRIES];
     let c = countries::country_words(s, all, tag_words, &mut initial_words);
     countries::row_keys(&initial_words, c, initial_keys, scratch);
     let m = countries::switch_keys(s, all, switch_keys, scratch);
@@ -53,8 +52,8 @@ pub(crate) fn arrange(
     targets: &mut [u64],
 )
     requires { ⌜ Keyed (countriesLeft (now s) all) × FewSwitches (countriesLeft (now s) all) (now runs) (now targets) ⌝ }
-    requires { ⌜ length (now turns) ≤ 65535 ⌝ }
-    requires { ⌜ Fresh (highs (now firsts)) × Fresh (lows (now firsts)) ⌝ }
+    requires { ⌜ length (now turns) ≤ noChange ⌝ }
+    requires { ⌜ Fresh (highHalves (now firsts)) × Fresh (lowHalves (now firsts)) ⌝ }
     ensures { λ _. ⌜ Arranged (countriesLeft (now (s .entry)) all) (now (turns .entry)) (now (turns .exit)) (now (firsts .exit)) (now (runs .exit)) (now (targets .exit)) ⌝ }
 {
     chains::link(turns, firsts);

@@ -1,11 +1,14 @@
 // Who holds each slot, change by change, by the rows of countries.
 use crate::countries;
-use crate::gathering::COUNTRIES;
-use crate::keys::WORDS;
+use crate::layout::CELL_ROWS;
+use crate::layout::MOST_COUNTRIES;
+use crate::layout::NOBODY;
+use crate::layout::WORD_SPAN;
 use crate::settling;
 use crate::starting;
 use owner_changes::NextChange;
 use owner_changes::PER_ID;
+use record::CountryTag;
 use record::ProvinceId;
 use record::Provinces;
 use sorting::sort_keys;
@@ -13,48 +16,47 @@ ghost use mathlib.Core.Path.{_≡_};
 ghost use mathlib.Core.List.{map};
 ghost use Prim.Native.Nat.{suc, _+_, _*_, _≤_};
 ghost use lib.ListN.{length, getD, take};
-ghost use Rattle.record.specs.Campaign.{campaignOf};
-ghost use Rattle.owner_changes.specs.ChangeSteps.{entered, Ready};
+ghost use Rattle.format.specs.Campaign.{campaignOf};
+ghost use Rattle.owner_changes.specs.ChangeSteps.{entered, mostChanges, AtFirstProvince};
+ghost use Rattle.nations.specs.Layout.{mostCountries, half, cellRows};
 ghost use Rattle.nations.specs.Countries.{tagWords, initialWords, rowKeys};
-ghost use Rattle.nations.specs.Turning.{lows};
+ghost use Rattle.nations.specs.Turning.{lowHalves};
 ghost use Rattle.nations.specs.Holders.{Switching, Settler, Tables, rowCell, slotCounts, holderCell};
 ghost use Rattle.nations.specs.Holders.{Replaced, Passed, Began, Stepped, HoldingRoom, Held, cellWord, SlotsPut};
 ghost use Rattle.rules.specs.Lent.{written};
 
-// The cell of a slot or of a change: the word of the holder times this, and below it the row of its country, or NO_ROW.
-pub(crate) const CELL_ROWS: u64 = 65536;
-
-// The cell of a slot that nobody holds: no word, and no row.
-const NOBODY: u64 = 65535;
-
-// The word of the tag of a row's country, or the given word where there is none.
-fn word_of(tags: &[u32], row: u16, other: u32) -> u32
-    ensures { λ r. ⌜ r ≡ getD (now (tags .entry)) row other ⌝ }
+// The word of the tag of a row's country, or of the given tag where there is none.
+fn word_of(tags: &[u32], row: u16, other: CountryTag) -> u32
+    ensures { λ r. ⌜ r ≡ getD (now (tags .entry)) row (other .0) ⌝ }
 {
     let i = row as usize;
-    if i < tags.len() { tags[i] } else { other }
+    if i < tags.len() {
+        tags[i]
+    } else {
+        other.word()
+    }
 }
 
-// The cell of a holder: that of a row's country, or with the given word where there is none.
-fn cell_of(tags: &[u32], row: u16, other: u32) -> u64
-    ensures { λ r. ⌜ r ≡ getD (now (tags .entry)) row other * 65536 + row ⌝ }
+// The cell of a holder: that of a row's country, or with the given tag where there is none.
+fn cell_of(tags: &[u32], row: u16, other: CountryTag) -> u64
+    ensures { λ r. ⌜ r ≡ getD (now (tags .entry)) row (other .0) * cellRows + row ⌝ }
 {
     word_of(tags, row, other) as u64 * CELL_ROWS + row as u64
 }
 
 // Turns the row of each slot's holder into the holder's cell.
 fn start_cells(tags: &[u32], slots: &mut [u64])
-    ensures { λ _. ⌜ now (slots .exit) ≡ map (rowCell (now (tags .entry))) (lows (now (slots .entry))) ⌝ }
+    ensures { λ _. ⌜ now (slots .exit) ≡ map (rowCell (now (tags .entry))) (lowHalves (now (slots .entry))) ⌝ }
 {
     let mut i = 0;
     while i < slots.len() {
-        slots[i] = cell_of(tags, (slots[i] % CELL_ROWS) as u16, 0);
+        slots[i] = cell_of(tags, (slots[i] % CELL_ROWS) as u16, CountryTag::kept(0));
         i += 1;
     }
 }
 
 // Sets every count to 0.
-fn clear(counts: &mut [u32])
+fn clear_counts(counts: &mut [u32])
     ensures { λ _. ⌜ now (counts .exit) ≡ map (λ _. 0) (now (counts .entry)) ⌝ }
 {
     let mut i = 0;
@@ -66,10 +68,10 @@ fn clear(counts: &mut [u32])
 
 // Writes how many slots each country row has, by the cells of the slots. A number that is no row's counts nowhere.
 pub(crate) fn count_slots(slots: &[u64], counts: &mut [u32])
-    requires { ⌜ length (now slots) ≤ 65536 ⌝ }
-    ensures { λ _. ⌜ now (counts .exit) ≡ slotCounts (lows (now (slots .entry))) (length (now (counts .entry))) ⌝ }
+    requires { ⌜ length (now slots) ≤ half ⌝ }
+    ensures { λ _. ⌜ now (counts .exit) ≡ slotCounts (lowHalves (now (slots .entry))) (length (now (counts .entry))) ⌝ }
 {
-    clear(counts);
+    clear_counts(counts);
     let mut i = 0;
     while i < slots.len() {
         let row = (slots[i] % CELL_ROWS) as usize;
@@ -89,7 +91,7 @@ fn fill_holders(
     switch_keys: &[u64],
     cells: &mut [u64],
 )
-    requires { ⌜ Ready (now s) provinces ⌝ }
+    requires { ⌜ AtFirstProvince (now s) provinces ⌝ }
     requires { ⌜ length (entered (now s)) ≡ length (now cells) ⌝ }
     requires { ⌜ Settler (campaignOf (now s) .countries) (now «tag_words») (now «tag_keys») (now «switch_keys») ⌝ }
     ensures { λ _. ⌜ now (cells .exit) ≡ map (holderCell (campaignOf (now (s .entry)) .countries)) (entered (now (s .entry))) ⌝ }
@@ -108,7 +110,7 @@ fn fill_holders(
                     to,
                     x.date,
                 );
-                cells[n] = cell_of(tag_words, row, to.word());
+                cells[n] = cell_of(tag_words, row, to);
                 n += 1;
                 at = rest;
             }
@@ -128,12 +130,12 @@ fn settle_changes(
     cells: &mut [u64],
     n: usize,
 )
-    requires { ⌜ Ready (now s) provinces ⌝ }
-    requires { ⌜ (n ≡ length (entered (now s))) × (n ≤ length (now cells)) × (length (now «tag_words») ≤ 2000) ⌝ }
+    requires { ⌜ AtFirstProvince (now s) provinces ⌝ }
+    requires { ⌜ (n ≡ length (entered (now s))) × (n ≤ length (now cells)) × (length (now «tag_words») ≤ mostCountries) ⌝ }
     requires { ⌜ Switching (campaignOf (now s) .countries) (now «tag_words») (now «switch_keys») ⌝ }
     ensures { λ _. ⌜ take n (now (cells .exit)) ≡ map (holderCell (campaignOf (now (s .entry)) .countries)) (entered (now (s .entry))) ⌝ }
 {
-    let mut tag_keys = [0u64; COUNTRIES];
+    let mut tag_keys = [0u64; MOST_COUNTRIES];
     countries::row_keys(tag_words, tag_words.len(), &mut tag_keys, cells);
     fill_holders(
         s,
@@ -183,7 +185,7 @@ fn start_slots(
     slots: &mut [u64],
     started: &mut [u32],
 )
-    requires { ⌜ Ready (now s) provinces ⌝ }
+    requires { ⌜ AtFirstProvince (now s) provinces ⌝ }
     requires { ⌜ now «tag_words» ≡ tagWords (campaignOf (now s) .countries) ⌝ }
     requires { ⌜ now «initial_keys» ≡ rowKeys (initialWords (campaignOf (now s) .countries)) ⌝ }
     requires { ⌜ (length (now slots) ≡ suc (length (campaignOf (now s) .provinces))) × (length (now started) ≡ length (campaignOf (now s) .countries)) ⌝ }
@@ -211,9 +213,9 @@ fn sort_steps(
     keys: &mut [u64],
     cells: &mut [u64],
 ) -> usize
-    requires { ⌜ Ready (now s) provinces ⌝ }
+    requires { ⌜ AtFirstProvince (now s) provinces ⌝ }
     requires { ⌜ Switching (campaignOf (now s) .countries) (now «tag_words») (now «switch_keys») ⌝ }
-    requires { ⌜ (60000 ≤ length (now keys)) × (60000 ≤ length (now cells)) ⌝ }
+    requires { ⌜ (mostChanges ≤ length (now keys)) × (mostChanges ≤ length (now cells)) ⌝ }
     ensures { λ r. ⌜ Stepped (now (s .entry)) r (now (keys .exit)) (now (cells .exit)) ⌝ }
 {
     let n = owner_changes::fill_keys(s, provinces, keys);
@@ -236,7 +238,7 @@ pub(crate) fn hold_slots(
     started: &mut [u32],
     turns: &mut [u32],
 ) -> usize
-    requires { ⌜ Ready (now s) provinces ⌝ }
+    requires { ⌜ AtFirstProvince (now s) provinces ⌝ }
     requires { ⌜ Tables (campaignOf (now s) .countries) (now «tag_words») (now «initial_keys») (now «switch_keys») ⌝ }
     requires { ⌜ HoldingRoom (campaignOf (now s)) (now keys) (now cells) (now slots) (now started) (now turns) ⌝ }
     ensures { λ r. ⌜ Held (now (s .entry)) r (now (keys .exit)) (now (slots .exit)) (now (started .exit)) (now (turns .exit)) ⌝ }
@@ -254,14 +256,14 @@ fn put_holders(slots: &[u64], out: &mut [u32])
 {
     let mut i = 0;
     while i < slots.len() {
-        out[i] = (slots[i] / CELL_ROWS % WORDS) as u32;
+        out[i] = (slots[i] / CELL_ROWS % WORD_SPAN) as u32;
         i += 1;
     }
 }
 
 // Writes the holder of each slot, and how many slots each of c countries holds, into the fronts of two slices.
 pub(crate) fn write_slots(slots: &[u64], c: usize, holders: &mut [u32], held: &mut [u32])
-    requires { ⌜ (length (now slots) ≤ length (now holders)) × (c ≤ length (now held)) × (length (now slots) ≤ 65536) ⌝ }
+    requires { ⌜ (length (now slots) ≤ length (now holders)) × (c ≤ length (now held)) × (length (now slots) ≤ half) ⌝ }
     ensures { λ _. ⌜ SlotsPut (now (slots .entry)) c (now (holders .entry)) (now (holders .exit)) (now (held .entry)) (now (held .exit)) ⌝ }
 {
     put_holders(slots, holders);

@@ -5,6 +5,7 @@ mod entries;
 mod gathering;
 mod holders;
 mod keys;
+mod layout;
 mod listing;
 mod lives;
 mod lookup;

@@ -1,10 +1,12 @@
 // The listed nations, in the order of the keys of initials.
 use crate::entries;
-use crate::keys;
+use crate::layout::KEY_ROWS;
 use crate::lives;
 use crate::lives::Lives;
 use crate::lookup;
 use crate::switches;
+use chronicle_rows::ENTRY_WIDTH;
+use chronicle_rows::NATION_WIDTH;
 use record::CountryTag;
 use record::Eu4Date;
 ghost use mathlib.Core.Path.{_≡_};
@@ -13,11 +15,10 @@ ghost use Prim.Native.Nat.{_≤_, _<_};
 ghost use lib.Dec.{leb};
 ghost use lib.ListN.{length, drop, getD};
 ghost use Rattle.sorting.specs.Sort.{sortBy};
+ghost use Rattle.rules.specs.NationRows.{nationWidth};
+ghost use Rattle.nations.specs.Layout.{wordSpan, rowKeySpan};
 ghost use Rattle.nations.specs.Listing.{cellsFrom, isListed, keyNations, nationsAt, listedOf, Readable, Counted};
 ghost use Rattle.nations.specs.Listing.{NationsRoom, NationsPut, NationsWritten};
-
-// The words of a nation row.
-pub(crate) const NATION_WIDTH: usize = 5;
 
 // How many nations are listed, and how many entries they have.
 pub(crate) struct Listed {
@@ -27,12 +28,12 @@ pub(crate) struct Listed {
 
 // Whether the country of an initial's key is listed: it is the last row of its initial, and held a slot ever.
 fn is_listed(initial_keys: &[u64], key: u64, walk: Lives) -> bool
-    requires { ⌜ (sortBy leb (now «initial_keys») ≡ now «initial_keys») × (key < 8796093022208) ⌝ }
+    requires { ⌜ (sortBy leb (now «initial_keys») ≡ now «initial_keys») × (key < rowKeySpan) ⌝ }
     ensures { λ r. ⌜ r ≡ isListed (now («initial_keys» .entry)) key walk ⌝ }
 {
-    let row = (key % keys::ROWS) as u16;
-    let low = key / keys::ROWS * keys::ROWS;
-    let mapped = lookup::last_within(initial_keys, initial_keys.len(), low, low + keys::ROWS);
+    let row = (key % KEY_ROWS) as u16;
+    let low = key / KEY_ROWS * KEY_ROWS;
+    let mapped = lookup::last_within(initial_keys, initial_keys.len(), low, low + KEY_ROWS);
     (mapped == row) & walk.holds_ever()
 }
 
@@ -52,7 +53,7 @@ fn count_nation(
     ensures { λ r. ⌜ r ≡ listedOf (keyNations (cellsFrom (now (started .entry)) (now («initial_keys» .entry)) (now (runs .entry)) [] (now (firsts .entry)) (now (started .entry)) (now (keys .entry)) (now (turns .entry)) start) (getD (now («initial_keys» .entry)) i 0)) ⌝ }
 {
     let key = initial_keys[i];
-    let row = (key % keys::ROWS) as usize;
+    let row = (key % KEY_ROWS) as usize;
     let walk = lives::first_lives(firsts, row, started[row]);
     if is_listed(initial_keys, key, walk) {
         let from = switches::run_start(runs, row);
@@ -103,8 +104,8 @@ fn put_nation(
     count: usize,
     out: &mut [u32],
 )
-    requires { ⌜ (5 ≤ length (now out)) × (first < 4294967296) × (count < 4294967296) ⌝ }
-    ensures { λ _. ⌜ now (out .exit) ≡ (initial .0 ∷ latest .0 ∷ stored .0 ∷ first ∷ count ∷ []) ++ drop 5 (now (out .entry)) ⌝ }
+    requires { ⌜ (nationWidth ≤ length (now out)) × (first < wordSpan) × (count < wordSpan) ⌝ }
+    ensures { λ _. ⌜ now (out .exit) ≡ (initial .0 ∷ latest .0 ∷ stored .0 ∷ first ∷ count ∷ []) ++ drop nationWidth (now (out .entry)) ⌝ }
 {
     out[0] = initial.word();
     out[1] = latest.word();
@@ -131,17 +132,17 @@ fn write_nation(
     entries: &mut [u32],
 ) -> Listed
     requires { ⌜ Readable (cellsFrom (now «tag_words») (now «initial_keys») (now runs) (now targets) (now firsts) (now started) (now keys) (now turns) start) ⌝ }
-    requires { ⌜ (i < length (now «initial_keys»)) × (first < 4294967296) ⌝ }
+    requires { ⌜ (i < length (now «initial_keys»)) × (first < wordSpan) ⌝ }
     requires { ⌜ NationsRoom (keyNations (cellsFrom (now «tag_words») (now «initial_keys») (now runs) (now targets) (now firsts) (now started) (now keys) (now turns) start) (getD (now «initial_keys») i 0)) (now nations) (now entries) ⌝ }
     ensures { λ r. ⌜ NationsPut (keyNations (cellsFrom (now («tag_words» .entry)) (now («initial_keys» .entry)) (now (runs .entry)) (now (targets .entry)) (now (firsts .entry)) (now (started .entry)) (now (keys .entry)) (now (turns .entry)) start) (getD (now («initial_keys» .entry)) i 0)) first r (now (nations .entry)) (now (nations .exit)) (now (entries .entry)) (now (entries .exit)) ⌝ }
 {
     let key = initial_keys[i];
-    let row = (key % keys::ROWS) as usize;
+    let row = (key % KEY_ROWS) as usize;
     let walk = lives::first_lives(firsts, row, started[row]);
     if is_listed(initial_keys, key, walk) {
         let from = switches::run_start(runs, row);
         let end = switches::run_start(runs, row + 1);
-        let initial = CountryTag::kept((key / keys::ROWS) as u32);
+        let initial = CountryTag::kept((key / KEY_ROWS) as u32);
         let run = &runs[from..end];
         let latest = entries::latest(run, targets, initial);
         let count = entries::write_entries(run, targets, walk, keys, turns, start, entries);
@@ -181,7 +182,7 @@ pub(crate) fn write_nations(
     let mut first = 0;
     while i < initial_keys.len() {
         let at = NATION_WIDTH * n;
-        let behind = entries::ENTRY_WIDTH * first;
+        let behind = ENTRY_WIDTH * first;
         let put = write_nation(
             tag_words,
             initial_keys,

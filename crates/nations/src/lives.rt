@@ -1,6 +1,7 @@
 // The Annexed and Appeared of one country, told one by one along its two chains of changes. A walk is a cursor by value: the next
 // change at which the country loses a slot, the next at which it gains one, and the slots that it holds now.
-use crate::chains::HALF;
+use crate::layout::HALF;
+use crate::layout::NO_CHANGE;
 use owner_changes::PER_DATE;
 use record::Eu4Date;
 ghost use mathlib.Core.Path.{_≡_};
@@ -8,10 +9,8 @@ ghost use mathlib.Core.Bool.{true, _||_};
 ghost use Prim.Native.Nat.{_-_, _≤_, _<_};
 ghost use lib.Dec.{ltb};
 ghost use lib.ListN.{length, getD};
-ghost use Rattle.nations.specs.Turning.{highs, lows, keyDate, livedLeft, livesCount, firstLives, Chained, Light, Turns, TellsLife};
-
-// Ends a chain.
-const NO_CHANGE: usize = 65535;
+ghost use Rattle.nations.specs.Layout.{noChange};
+ghost use Rattle.nations.specs.Turning.{highHalves, lowHalves, keyDate, livedLeft, livesCount, firstLives, Chained, Light, Turns, TellsLife};
 
 pub(crate) struct Lives {
     pub lose: usize,
@@ -37,17 +36,17 @@ pub(crate) struct LivesCount {
     pub held: u32,
 }
 
-// The difference, 0 where it would lie below.
-fn minus(a: u32, b: u32) -> u32
-    ensures { λ r. ⌜ r ≡ a - b ⌝ }
+// One slot less, or still none.
+fn one_less(held: u32) -> u32
+    ensures { λ r. ⌜ r ≡ held - 1 ⌝ }
 {
-    if b < a { a - b } else { 0 }
+    if 0 < held { held - 1 } else { 0 }
 }
 
 // The number of losses in cell k.
 fn loss_at(cells: &[u32], k: usize) -> usize
     requires { ⌜ k < length (now cells) ⌝ }
-    ensures { λ r. ⌜ r ≡ getD (highs (now (cells .entry))) k 0 ⌝ }
+    ensures { λ r. ⌜ r ≡ getD (highHalves (now (cells .entry))) k 0 ⌝ }
 {
     (cells[k] / HALF) as usize
 }
@@ -55,13 +54,13 @@ fn loss_at(cells: &[u32], k: usize) -> usize
 // The number of gains in cell k.
 fn gain_at(cells: &[u32], k: usize) -> usize
     requires { ⌜ k < length (now cells) ⌝ }
-    ensures { λ r. ⌜ r ≡ getD (lows (now (cells .entry))) k 0 ⌝ }
+    ensures { λ r. ⌜ r ≡ getD (lowHalves (now (cells .entry))) k 0 ⌝ }
 {
     (cells[k] % HALF) as usize
 }
 
 // The date of change k.
-fn date_at(keys: &[u64], k: usize) -> Eu4Date
+fn change_date(keys: &[u64], k: usize) -> Eu4Date
     requires { ⌜ k < length (now keys) ⌝ }
     ensures { λ r. ⌜ r ≡ keyDate (getD (now (keys .entry)) k 0) ⌝ }
 {
@@ -71,9 +70,9 @@ fn date_at(keys: &[u64], k: usize) -> Eu4Date
 impl Lives {
     // Whether the country holds a slot now or gains one later.
     pub(crate) fn holds_ever(self) -> bool
-        ensures { λ r. ⌜ r ≡ (ltb 0 (self .held) || ltb (self .gain) 65535) ⌝ }
+        ensures { λ r. ⌜ r ≡ (ltb 0 (self .held) || ltb (self .gain) noChange) ⌝ }
     {
-        (0 < self.held) | (self.gain < NO_CHANGE)
+        (0 < self.held) | (self.gain < NO_CHANGE as usize)
     }
 
     // Whether one of n changes is still to come.
@@ -85,30 +84,30 @@ impl Lives {
 
     // The country loses a slot; at 0 it is annexed.
     fn lost(self, keys: &[u64], turns: &[u32], start: Eu4Date) -> Turned
-        requires { ⌜ Chained (now keys) (highs (now turns)) (lows (now turns)) ⌝ }
+        requires { ⌜ Chained (now keys) (highHalves (now turns)) (lowHalves (now turns)) ⌝ }
         requires { ⌜ Light self ⌝ }
         requires { ⌜ (self .lose < length (now keys)) × (self .lose ≤ self .gain) ⌝ }
-        ensures { λ r. ⌜ Turns start (now (keys .entry)) (highs (now (turns .entry))) (lows (now (turns .entry))) self r ⌝ }
+        ensures { λ r. ⌜ Turns start (now (keys .entry)) (highHalves (now (turns .entry))) (lowHalves (now (turns .entry))) self r ⌝ }
     {
         let rest = Lives {
             lose: loss_at(turns, self.lose),
             gain: self.gain,
-            held: minus(self.held, 1),
+            held: one_less(self.held),
         };
         if rest.held == 0 {
-            return Turned::Told(date_at(keys, self.lose), true, rest);
+            return Turned::Told(change_date(keys, self.lose), true, rest);
         }
         Turned::Silent(rest)
     }
 
     // The country gains a slot. It appears where it had none before, on a day behind the start.
     fn gained(self, keys: &[u64], turns: &[u32], start: Eu4Date) -> Turned
-        requires { ⌜ Chained (now keys) (highs (now turns)) (lows (now turns)) ⌝ }
+        requires { ⌜ Chained (now keys) (highHalves (now turns)) (lowHalves (now turns)) ⌝ }
         requires { ⌜ Light self ⌝ }
         requires { ⌜ (self .gain < length (now keys)) × (self .gain < self .lose) ⌝ }
-        ensures { λ r. ⌜ Turns start (now (keys .entry)) (highs (now (turns .entry))) (lows (now (turns .entry))) self r ⌝ }
+        ensures { λ r. ⌜ Turns start (now (keys .entry)) (highHalves (now (turns .entry))) (lowHalves (now (turns .entry))) self r ⌝ }
     {
-        let date = date_at(keys, self.gain);
+        let date = change_date(keys, self.gain);
         let rest = Lives {
             lose: self.lose,
             gain: gain_at(turns, self.gain),
@@ -122,10 +121,10 @@ impl Lives {
 
     // The next change of the country. At one that takes a slot and gives one the loss comes first.
     fn turn(self, keys: &[u64], turns: &[u32], start: Eu4Date) -> Turned
-        requires { ⌜ Chained (now keys) (highs (now turns)) (lows (now turns)) ⌝ }
+        requires { ⌜ Chained (now keys) (highHalves (now turns)) (lowHalves (now turns)) ⌝ }
         requires { ⌜ Light self ⌝ }
         requires { ⌜ (ltb (self .lose) (length (now keys)) || ltb (self .gain) (length (now keys))) ≡ true ⌝ }
-        ensures { λ r. ⌜ Turns start (now (keys .entry)) (highs (now (turns .entry))) (lows (now (turns .entry))) self r ⌝ }
+        ensures { λ r. ⌜ Turns start (now (keys .entry)) (highHalves (now (turns .entry))) (lowHalves (now (turns .entry))) self r ⌝ }
     {
         if self.lose <= self.gain {
             return self.lost(keys, turns, start);
@@ -135,9 +134,9 @@ impl Lives {
 
     // The next entry of the country, or in the end the slots that it holds.
     pub(crate) fn next(self, keys: &[u64], turns: &[u32], start: Eu4Date) -> NextLife
-        requires { ⌜ Chained (now keys) (highs (now turns)) (lows (now turns)) ⌝ }
+        requires { ⌜ Chained (now keys) (highHalves (now turns)) (lowHalves (now turns)) ⌝ }
         requires { ⌜ Light self ⌝ }
-        ensures { λ r. ⌜ TellsLife start (now (keys .entry)) (highs (now (turns .entry))) (lows (now (turns .entry))) self r ⌝ }
+        ensures { λ r. ⌜ TellsLife start (now (keys .entry)) (highHalves (now (turns .entry))) (lowHalves (now (turns .entry))) self r ⌝ }
     {
         let n = keys.len();
         let mut walk = self;
@@ -152,9 +151,9 @@ impl Lives {
 
     // All entries of the country counted, and the slots that it holds in the end.
     pub(crate) fn count(self, keys: &[u64], turns: &[u32], start: Eu4Date) -> LivesCount
-        requires { ⌜ Chained (now keys) (highs (now turns)) (lows (now turns)) ⌝ }
+        requires { ⌜ Chained (now keys) (highHalves (now turns)) (lowHalves (now turns)) ⌝ }
         requires { ⌜ Light self ⌝ }
-        ensures { λ r. ⌜ r ≡ livesCount (livedLeft start (now (keys .entry)) (highs (now (turns .entry))) (lows (now (turns .entry))) self) ⌝ }
+        ensures { λ r. ⌜ r ≡ livesCount (livedLeft start (now (keys .entry)) (highHalves (now (turns .entry))) (lowHalves (now (turns .entry))) self) ⌝ }
     {
         let mut walk = self;
         let mut entries = 0;
@@ -173,7 +172,7 @@ impl Lives {
 // The walk of a row's country, which starts with so many slots, from the first change of each of its two chains.
 pub(crate) fn first_lives(firsts: &[u32], row: usize, held: u32) -> Lives
     requires { ⌜ row < length (now firsts) ⌝ }
-    ensures { λ r. ⌜ r ≡ firstLives (highs (now (firsts .entry))) (lows (now (firsts .entry))) row held ⌝ }
+    ensures { λ r. ⌜ r ≡ firstLives (highHalves (now (firsts .entry))) (lowHalves (now (firsts .entry))) row held ⌝ }
 {
     Lives {
         lose: loss_at(firsts, row),

@@ -1,14 +1,12 @@
 // Keys in order, looked up by halving. A key ends with the row of a country.
 use crate::keys::row_in;
+use crate::layout::NO_ROW;
 ghost use mathlib.Core.Path.{_≡_};
 ghost use lib.Dec.{leb, ltb};
 ghost use lib.ListN.{take};
 ghost use Rattle.lists.specs.Lists.{countOf};
 ghost use Rattle.sorting.specs.Sort.{sortBy};
 ghost use Rattle.nations.specs.Lookup.{firstWithin, lastWithin, FirstSorted};
-
-// No row: there is no country.
-pub(crate) const NO_ROW: u16 = 65535;
 
 // How many of the keys, which are in order, are below x: so the first key that is not below x stands there.
 // A key decides only whether `base` moves.

@@ -1,33 +1,26 @@
 // Nations: who lived, under which tags.
-use crate::entries::ENTRY_WIDTH;
 use crate::gathering;
 use crate::holders;
+use crate::layout::MOST_COUNTRIES;
+use crate::layout::MOST_SLOTS;
+use crate::layout::MOST_SWITCHES;
+use crate::layout::NO_FIRSTS;
 use crate::listing;
-use crate::listing::NATION_WIDTH;
 use crate::writing;
+use chronicle_rows::ENTRY_WIDTH;
+use chronicle_rows::NATION_WIDTH;
 use owner_changes::CHANGE_WIDTH;
+use owner_changes::MOST_CHANGES;
 use record::Countries;
 use record::Eu4Date;
 use record::Opened;
 use record::Provinces;
 ghost use mathlib.Core.Path.{_≡_};
-ghost use Rattle.record.specs.Campaign.{campaignOf};
+ghost use Rattle.format.specs.Campaign.{campaignOf};
 ghost use Rattle.rules.specs.Outcomes.{callNationEvents};
 ghost use Rattle.nations.specs.Cases.{nationCells, nationsOutcome};
-ghost use Rattle.owner_changes.specs.ChangeSteps.{Ready};
+ghost use Rattle.owner_changes.specs.ChangeSteps.{AtFirstProvince};
 ghost use Rattle.nations.specs.NationSteps.{FewRows, roomFor, Begun, SlotsReady, Gathered};
-
-// How many countries, switches, slots and changes a record has at most.
-const COUNTRIES: usize = gathering::COUNTRIES;
-
-const SWITCHES: usize = 20000;
-
-const SLOTS: usize = 8001;
-
-const CHANGES: usize = 60000;
-
-// No first loss and no first gain.
-const NO_FIRSTS: u32 = 4294967295;
 
 // How many rows of each kind there are.
 pub struct NationCounts {
@@ -83,7 +76,7 @@ fn answer_rows(
     held: &mut [u32],
     changes: &mut [u32],
 ) -> NationEvents
-    requires { ⌜ Ready (now s) provinces × (start ≡ campaignOf (now s) .start) ⌝ }
+    requires { ⌜ AtFirstProvince (now s) provinces × (start ≡ campaignOf (now s) .start) ⌝ }
     requires { ⌜ Gathered (now s) (now «tag_words») (now «initial_keys») (now runs) (now cells) (now firsts) (now started) (now keys) (now turns) (now slots) ⌝ }
     ensures { λ r. ⌜ nationsOutcome r (now (nations .exit)) (now (entries .exit)) (now (holders .exit)) (now (held .exit)) (now (changes .exit)) ≡ callNationEvents (now (s .entry)) (nationCells (now (nations .entry)) (now (entries .entry)) (now (holders .entry)) (now (held .entry)) (now (changes .entry))) ⌝ }
 {
@@ -201,15 +194,15 @@ fn nation_rows(
     requires { ⌜ Begun (now s) all provinces × (start ≡ campaignOf (now s) .start) ⌝ }
     ensures { λ r. ⌜ nationsOutcome r (now (nations .exit)) (now (entries .exit)) (now (holders .exit)) (now (held .exit)) (now (changes .exit)) ≡ callNationEvents (now (s .entry)) (nationCells (now (nations .entry)) (now (entries .entry)) (now (holders .entry)) (now (held .entry)) (now (changes .entry))) ⌝ }
 {
-    let mut tag_words = [0u32; COUNTRIES];
-    let mut initial_keys = [0u64; COUNTRIES];
-    let mut switch_keys = [0u64; SWITCHES];
-    let mut keys = [0u64; CHANGES];
-    let mut cells = [0u64; CHANGES];
-    let mut slots = [0u64; SLOTS];
-    let mut started = [0u32; COUNTRIES];
-    let mut turns = [0u32; CHANGES];
-    let mut firsts = [NO_FIRSTS; COUNTRIES];
+    let mut tag_words = [0u32; MOST_COUNTRIES];
+    let mut initial_keys = [0u64; MOST_COUNTRIES];
+    let mut switch_keys = [0u64; MOST_SWITCHES];
+    let mut keys = [0u64; MOST_CHANGES];
+    let mut cells = [0u64; MOST_CHANGES];
+    let mut slots = [0u64; MOST_SLOTS];
+    let mut started = [0u32; MOST_COUNTRIES];
+    let mut turns = [0u32; MOST_CHANGES];
+    let mut firsts = [NO_FIRSTS; MOST_COUNTRIES];
     let p = provinces.len(s) + 1;
     let sizes = gathering::fill_tables(
         s,

@@ -1,6 +1,6 @@
 // The keys of all switches, by either order, and the targets of the switches.
 use crate::keys;
-use crate::keys::ROW_SPAN;
+use crate::layout::ROW_SPAN;
 use crate::lookup;
 use record::Countries;
 use record::CountryTag;
@@ -20,6 +20,7 @@ ghost use Rattle.sorting.specs.Sort.{sortBy};
 ghost use Rattle.record.specs.Cursors.{countriesLeft, switchesLeft, previousLeft};
 ghost use Rattle.rules.specs.Lent.{written};
 ghost use Rattle.rules.specs.Nations.{initialFrom};
+ghost use Rattle.nations.specs.Layout.{keyRows, keyNumbers};
 ghost use Rattle.nations.specs.Countries.{Filled, FilledFrom};
 ghost use Rattle.nations.specs.Switches.{placed, ownPlaced, allPlaced, keyBy, KeyFits};
 ghost use Rattle.nations.specs.Switches.{runsFrom, runKeys, runStart, chainWords, targetWords};
@@ -32,7 +33,7 @@ pub(crate) enum SwitchOrder {
 
 // The key of the record's switch of a number, made by the country in a row.
 fn switch_key(order: SwitchOrder, row: u64, number: usize, x: Switch) -> u64
-    requires { ⌜ (row < 2048) × KeyFits order (placed row number x) ⌝ }
+    requires { ⌜ (row < keyRows) × KeyFits order (placed row number x) ⌝ }
     ensures { λ r. ⌜ r ≡ keyBy order (placed row number x) ⌝ }
 {
     match order {
@@ -50,7 +51,7 @@ fn own_keys(
     cells: &mut [u64],
     at: usize,
 ) -> usize
-    requires { ⌜ (row < 2048) × (at + length (switchesLeft (now s) switches) ≤ length (now cells)) × All (KeyFits order) (ownPlaced row at (switchesLeft (now s) switches)) ⌝ }
+    requires { ⌜ (row < keyRows) × (at + length (switchesLeft (now s) switches) ≤ length (now cells)) × All (KeyFits order) (ownPlaced row at (switchesLeft (now s) switches)) ⌝ }
     ensures { λ r. ⌜ FilledFrom (map (keyBy order) (ownPlaced row at (switchesLeft (now (s .entry)) switches))) at r (now (cells .entry)) (now (cells .exit)) ⌝ }
 {
     let mut left = switches;
@@ -69,7 +70,7 @@ fn own_keys(
 
 // Writes the keys of all switches in the order of the rows, and returns how many there are.
 fn all_keys(s: &[u8], countries: Countries, order: SwitchOrder, cells: &mut [u64]) -> usize
-    requires { ⌜ (length (countriesLeft (now s) countries) ≤ 2048) × (length (allPlaced 0 0 (countriesLeft (now s) countries)) ≤ length (now cells)) ⌝ }
+    requires { ⌜ (length (countriesLeft (now s) countries) ≤ keyRows) × (length (allPlaced 0 0 (countriesLeft (now s) countries)) ≤ length (now cells)) ⌝ }
     requires { ⌜ All (KeyFits order) (allPlaced 0 0 (countriesLeft (now s) countries)) ⌝ }
     ensures { λ r. ⌜ Filled (map (keyBy order) (allPlaced 0 0 (countriesLeft (now (s .entry)) countries))) r (now (cells .entry)) (now (cells .exit)) ⌝ }
 {
@@ -97,7 +98,7 @@ pub(crate) fn sorted_keys(
     cells: &mut [u64],
     scratch: &mut [u64],
 ) -> usize
-    requires { ⌜ (length (countriesLeft (now s) countries) ≤ 2048) × (length (allPlaced 0 0 (countriesLeft (now s) countries)) ≤ length (now cells)) ⌝ }
+    requires { ⌜ (length (countriesLeft (now s) countries) ≤ keyRows) × (length (allPlaced 0 0 (countriesLeft (now s) countries)) ≤ length (now cells)) ⌝ }
     requires { ⌜ All (KeyFits order) (allPlaced 0 0 (countriesLeft (now s) countries)) ⌝ }
     ensures { λ r. ⌜ Filled (sortBy leb (map (keyBy order) (allPlaced 0 0 (countriesLeft (now (s .entry)) countries)))) r (now (cells .entry)) (now (cells .exit)) ⌝ }
 {
@@ -113,7 +114,7 @@ pub(crate) fn run_keys(
     keys: &mut [u64],
     scratch: &mut [u64],
 ) -> usize
-    requires { ⌜ (length (countriesLeft (now s) countries) ≤ 2048) × (length (runsFrom 0 0 (countriesLeft (now s) countries)) ≤ 32768) ⌝ }
+    requires { ⌜ (length (countriesLeft (now s) countries) ≤ keyRows) × (length (runsFrom 0 0 (countriesLeft (now s) countries)) ≤ keyNumbers) ⌝ }
     requires { ⌜ length (runsFrom 0 0 (countriesLeft (now s) countries)) ≤ length (now keys) ⌝ }
     ensures { λ r. ⌜ Filled (runKeys (countriesLeft (now (s .entry)) countries)) r (now (keys .entry)) (now (keys .exit)) ⌝ }
 {
@@ -122,14 +123,14 @@ pub(crate) fn run_keys(
 
 // Where the keys of a row's switches begin.
 pub(crate) fn run_start(keys: &[u64], row: usize) -> usize
-    requires { ⌜ (sortBy leb (now keys) ≡ now keys) × (row ≤ 2048) ⌝ }
+    requires { ⌜ (sortBy leb (now keys) ≡ now keys) × (row ≤ keyRows) ⌝ }
     ensures { λ r. ⌜ r ≡ runStart row (now (keys .entry)) ⌝ }
 {
     lookup::lower_bound(keys, row as u64 * ROW_SPAN)
 }
 
 // The previous tags behind the first one.
-fn behind(s: &[u8], previous: PreviousTags) -> PreviousTags
+fn past_first(s: &[u8], previous: PreviousTags) -> PreviousTags
     ensures { λ r. ⌜ previousLeft (now (s .entry)) r ≡ drop 1 (previousLeft (now (s .entry)) previous) ⌝ }
 {
     match previous.next(s) {
@@ -176,7 +177,7 @@ fn own_targets(
     loop {
         match left.next(s) {
             NextSwitch::Row(_, rest) => {
-                tags = behind(s, tags);
+                tags = past_first(s, tags);
                 let target = first_tag(s, rest, tags, tag);
                 targets[k] = target.word() as u64;
                 k += 1;

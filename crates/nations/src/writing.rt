@@ -5,9 +5,9 @@ use record::Eu4Date;
 use record::Provinces;
 ghost use mathlib.Core.Path.{_≡_};
 ghost use mathlib.Core.Bool.{true};
-ghost use Rattle.record.specs.Campaign.{campaignOf};
+ghost use Rattle.format.specs.Campaign.{campaignOf};
 ghost use Rattle.rules.specs.Outcomes.{answersOf, cellsOf, allFit, allWritten};
-ghost use Rattle.owner_changes.specs.ChangeSteps.{Ready};
+ghost use Rattle.owner_changes.specs.ChangeSteps.{AtFirstProvince};
 ghost use Rattle.nations.specs.Cases.{nationCells};
 ghost use Rattle.nations.specs.NationSteps.{Gathered};
 
@@ -31,7 +31,7 @@ pub(crate) fn write_all(
     held: &mut [u32],
     changes: &mut [u32],
 )
-    requires { ⌜ Ready (now s) provinces × (start ≡ campaignOf (now s) .start) ⌝ }
+    requires { ⌜ AtFirstProvince (now s) provinces × (start ≡ campaignOf (now s) .start) ⌝ }
     requires { ⌜ Gathered (now s) (now «tag_words») (now «initial_keys») (now runs) (now cells) (now firsts) (now started) (now keys) (now turns) (now slots) ⌝ }
     requires { ⌜ allFit (cellsOf (answersOf (campaignOf (now s)))) (nationCells (now nations) (now entries) (now holders) (now held) (now changes)) ≡ true ⌝ }
     ensures { λ _. ⌜ nationCells (now (nations .exit)) (now (entries .exit)) (now (holders .exit)) (now (held .exit)) (now (changes .exit)) ≡ allWritten (cellsOf (answersOf (campaignOf (now (s .entry))))) (nationCells (now (nations .entry)) (now (entries .entry)) (now (holders .entry)) (now (held .entry)) (now (changes .entry))) ⌝ }

@@ -10,23 +10,23 @@ use Rattle.lists.proofs.BoolLaws.{cases}
 use Rattle.lists.proofs.ListLaws.{all-map, all-join}
 use Rattle.lists.specs.Lists.{All}
 use Rattle.sorting.proofs.SortLaws.{length-sort}
-use Rattle.record.specs.declared.tag.CountryTag.{CountryTag}
-use Rattle.record.specs.declared.rows.ProvinceId.{ProvinceId}
-use Rattle.record.specs.declared.rows.OwnerEvent.{OwnerEvent}
+use Rattle.format.specs.declared.tag.CountryTag.{CountryTag}
+use Rattle.format.specs.declared.rows.ProvinceId.{ProvinceId}
+use Rattle.format.specs.declared.rows.OwnerEvent.{OwnerEvent}
 use Rattle.record.specs.declared.cursors.ProvinceRow.{ProvinceRow}
 use Rattle.record.specs.declared.cursors.Provinces.{Provinces}
 use Rattle.record.specs.declared.cursors.NextProvince as NextProvince
 use Rattle.record.specs.declared.cursors.OwnerEvents.{OwnerEvents}
 use Rattle.record.specs.declared.cursors.NextOwnerEvent as NextOwnerEvent
-use Rattle.record.specs.Tags.{sameTag}
-use Rattle.record.specs.Campaign.{Province, campaignOf}
+use Rattle.format.specs.Tags.{sameTag}
+use Rattle.format.specs.Campaign.{Province, campaignOf}
 use Rattle.record.specs.Cursors.{ownerEventsLeft, ownerEventTold, provincesLeft, provinceTold}
-use Rattle.record.specs.Refusal.{refusal}
-use Rattle.record.proofs.CampaignLaws.{told-row, told-end}
-use Rattle.record.proofs.BoundLaws.{small-provinces, few-events}
+use Rattle.format.specs.Refusal.{refusal}
+use Rattle.format.proofs.CampaignLaws.{told-row, told-end}
+use Rattle.format.proofs.BoundLaws.{small-provinces, few-events}
 use Rattle.rules.specs.Chronicle.{Change}
 use Rattle.rules.specs.Changes.{changesFrom, provinceChanges, byDateAndId, changesOf}
-use Rattle.owner_changes.specs.ChangeSteps.{changesLeft, entered}
+use Rattle.owner_changes.specs.ChangeSteps.{changesLeft, entered, mostChanges, perId, perTag}
 use Rattle.rules.proofs.CampaignLaws.{all-changes}
 
 -- ## One step of the walk
@@ -84,10 +84,10 @@ all-few [] = omega arith
 all-few (p ∷ ps) =
     omega (arith, length-append (provinceChanges p) (joinOf provinceChanges ps), slot-few (p .id) (p .owner) (p .events), all-few ps)
 
-pub entered-few : (xs : List ℕ) → refusal xs ≡ 0 → length (entered xs) ≤ 60000
+pub entered-few : (xs : List ℕ) → refusal xs ≡ 0 → length (entered xs) ≤ mostChanges
 entered-few xs h = omega (arith, all-few (campaignOf xs .provinces), few-events xs h)
 
-pub changes-few : (xs : List ℕ) → refusal xs ≡ 0 → length (changesOf (campaignOf xs)) ≤ 60000
+pub changes-few : (xs : List ℕ) → refusal xs ≡ 0 → length (changesOf (campaignOf xs)) ≤ mostChanges
 unfolding changesOf
 changes-few xs h = omega (arith, length-sort byDateAndId (entered xs), entered-few xs h)
 
@@ -95,8 +95,8 @@ changes-few xs h = omega (arith, length-sort byDateAndId (entered xs), entered-f
 
 -- The id of a change takes 16 bits, and its second tag 32.
 pub record Narrow (x : Change) : Type 0 where
-  pub id : x .id .0 < 65536
-  pub to : x .to .0 < 4294967296
+  pub id : x .id .0 < perId
+  pub to : x .to .0 < perTag
 
 pub entered-narrow : (xs : List ℕ) → refusal xs ≡ 0 → All Narrow (entered xs)
 entered-narrow xs h =

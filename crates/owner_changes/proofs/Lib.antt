@@ -1,6 +1,6 @@
 pub mod ChangeLaws
-pub mod KeyLaws
-pub mod FillLaws
+pub mod ChangeKeyLaws
+pub mod EnteringLaws
 pub mod RoomLaws
 pub mod OutcomeLaws
 pub mod CountLaws

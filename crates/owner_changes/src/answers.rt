@@ -2,21 +2,19 @@
 use crate::changes;
 use crate::changes::NextChange;
 use crate::keys;
+use crate::keys::MOST_CHANGES;
 use record::Dated;
 use record::Eu4Date;
 use record::Opened;
 use record::Provinces;
 ghost use mathlib.Core.Path.{_≡_};
 ghost use Rattle.lists.specs.Lists.{one as oneOf};
-ghost use Rattle.record.specs.Campaign.{campaignOf};
+ghost use Rattle.format.specs.Campaign.{campaignOf};
 ghost use Rattle.rules.specs.Lent.{gives};
 ghost use Rattle.rules.specs.Changes.{changesOf, eventsOn};
 ghost use Rattle.rules.specs.Outcomes.{callProvinceOwners, callEventsOn};
 ghost use Rattle.owner_changes.specs.Cases.{ownersOutcome, eventsOnAnswer};
-ghost use Rattle.owner_changes.specs.ChangeSteps.{Ready};
-
-// How many changes a campaign can have: as many as owner events.
-const MOST: usize = 60000;
+ghost use Rattle.owner_changes.specs.ChangeSteps.{AtFirstProvince};
 
 // The number of changes, whose rows are written, or the number of the refusal.
 pub enum Owners {
@@ -26,11 +24,11 @@ pub enum Owners {
 
 // Sorts and counts the changes before the first cell is written.
 fn owner_rows(s: &[u8], provinces: Provinces, out: &mut [u32]) -> Owners
-    requires { ⌜ Ready (now s) provinces ⌝ }
+    requires { ⌜ AtFirstProvince (now s) provinces ⌝ }
     ensures { λ r. ⌜ ownersOutcome r (now (out .exit)) ≡ callProvinceOwners (now (s .entry)) (now (out .entry)) ⌝ }
 {
-    let mut sorted = [0u64; MOST];
-    let mut tags = [0u64; MOST];
+    let mut sorted = [0u64; MOST_CHANGES];
+    let mut tags = [0u64; MOST_CHANGES];
     let n = keys::sort_changes(s, provinces, &mut sorted, &mut tags);
     if out.len() < keys::CHANGE_WIDTH * n {
         return Owners::Refused(10);
@@ -68,7 +66,7 @@ fn one(b: bool) -> usize
 
 // How many changes are before the day, and how many are on it: their order does not matter.
 fn count_on(s: &[u8], provinces: Provinces, day: Eu4Date) -> EventsOn
-    requires { ⌜ Ready (now s) provinces ⌝ }
+    requires { ⌜ AtFirstProvince (now s) provinces ⌝ }
     ensures { λ r. ⌜ eventsOnAnswer r ≡ gives (eventsOn (changesOf (campaignOf (now (s .entry)))) day) ⌝ }
 {
     let mut at = provinces.next(s);

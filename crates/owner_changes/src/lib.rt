@@ -11,6 +11,7 @@ pub use changes::NextChange;
 pub use changes::OwnerChange;
 pub use changes::next_change;
 pub use keys::CHANGE_WIDTH;
+pub use keys::MOST_CHANGES;
 pub use keys::PER_DATE;
 pub use keys::PER_ID;
 pub use keys::cell;

@@ -10,37 +10,38 @@ use lib.ListN.{length, take, length-map, length-take}
 use lib.Seq.{take-length, take-at, length-take-le}
 use Rattle.sorting.specs.Sort.{sortBy}
 use Rattle.sorting.proofs.SortLaws.{length-sort}
-use Rattle.record.specs.declared.date.Eu4Date.{Eu4Date}
-use Rattle.record.specs.Campaign.{Campaign, Country, campaignOf}
-use Rattle.record.specs.Refusal.{refusal}
-use Rattle.record.proofs.SoundLaws.{sound}
+use Rattle.format.specs.declared.date.Eu4Date.{Eu4Date}
+use Rattle.format.specs.Campaign.{Campaign, Country, campaignOf}
+use Rattle.format.specs.Refusal.{refusal}
+use Rattle.format.proofs.SoundLaws.{sound}
+use Rattle.nations.specs.Layout.{mostSwitches, half, noChange}
 use Rattle.nations.specs.declared.listing.Listed.{Listed}
 use Rattle.nations.specs.declared.nations.NationCounts.{NationCounts}
 use Rattle.nations.specs.Cases.{countsIn}
 use Rattle.rules.specs.Changes.{byDateAndId, changesOf}
 use Rattle.rules.specs.Nations.{nationsOf, holdersOf, heldOf, matches}
 use Rattle.rules.specs.Outcomes.{Counts, answersOf, countsOf}
-use Rattle.owner_changes.specs.ChangeSteps.{entered, keysFrom}
+use Rattle.owner_changes.specs.ChangeSteps.{entered, changeKeysFrom, mostChanges}
 use Rattle.lists.specs.Lists.{countOf}
 use Rattle.nations.specs.Countries.{tagWords, switchKeysFrom, Keyed}
-use Rattle.nations.specs.Turning.{highs, lows, Fresh}
+use Rattle.nations.specs.Turning.{highHalves, lowHalves, Fresh}
 use Rattle.nations.specs.Holders.{slotCell, Held}
 use Rattle.nations.specs.Listing.{Cells, cellsFrom, retold, listedOf, Readable, Counted, CampaignCells}
 use Rattle.nations.specs.NationSteps.{FewSwitches, Arranged, SlotsReady, Gathered}
 use Rattle.nations.specs.Switches.{runsFrom, runKeys, targetWords}
 use Rattle.owner_changes.proofs.ChangeLaws.{changes-few}
-use Rattle.owner_changes.proofs.KeyLaws.{length-keys}
+use Rattle.owner_changes.proofs.ChangeKeyLaws.{length-change-keys}
 use Rattle.nations.proofs.tables.KeyedLaws.{countries-few, provinces-few, switches-few, accepted-keyed}
 use Rattle.nations.proofs.answer.NationsLaws.{RunEntries, runs-told, cells-nations, cells-readable}
 use Rattle.nations.proofs.tables.SwitchLaws.{runs-few, targets-small, run-entries}
 
 -- There are as many sorted keys as changes.
-pub sorted-count : (xs keys : List ℕ) → keys ≡ sortBy leb (keysFrom 0 (entered xs)) → length keys ≡ length (changesOf (campaignOf xs))
+pub sorted-count : (xs keys : List ℕ) → keys ≡ sortBy leb (changeKeysFrom 0 (entered xs)) → length keys ≡ length (changesOf (campaignOf xs))
 unfolding changesOf
 sorted-count xs keys e =
     ap length e
-    ∙ length-sort leb (keysFrom 0 (entered xs))
-    ∙ length-keys 0 (entered xs)
+    ∙ length-sort leb (changeKeysFrom 0 (entered xs))
+    ∙ length-change-keys 0 (entered xs)
     ∙ sym (length-sort byDateAndId (entered xs))
 
 -- ## The count
@@ -75,11 +76,11 @@ module _ (xs : List ℕ) (z : refusal xs ≡ 0) (words initials switches keys ce
     (q : SlotsReady xs words initials switches keys cells slots started turns firsts) (n : ℕ) (keys₁ slots₁ started₁ turns₁ : List ℕ)
     (h : Held xs n keys₁ slots₁ started₁ turns₁) where
   -- There are not many changes.
-  pub changes-within : (m k : ℕ) → m ≡ k → 60000 ≤ k → n ≤ m
+  pub changes-within : (m k : ℕ) → m ≡ k → mostChanges ≤ k → n ≤ m
   changes-within m k e l = let a = changes-few xs z in let b = h .counted in omega arith
 
-  few-changes : n ≤ 60000
-  few-changes = changes-within 60000 60000 refl (omega arith)
+  few-changes : n ≤ mostChanges
+  few-changes = changes-within mostChanges mostChanges refl (omega arith)
 
   -- There is a cell for each switch.
   switches-there : length switches ≡ length (switchKeysFrom 0 (campaignOf xs .countries))
@@ -87,9 +88,9 @@ module _ (xs : List ℕ) (z : refusal xs ≡ 0) (words initials switches keys ce
 
   -- What `arrange` asks.
   pub arrange-asked : (ks : List Country) → ks ≡ campaignOf xs .countries → (cells₁ : List ℕ) → length cells₁ ≡ length cells
-      → (Keyed ks × FewSwitches ks switches cells₁) × ((length (take (n - 0) turns₁) ≤ 65535) × (Fresh (highs firsts) × Fresh (lows firsts)))
+      → (Keyed ks × FewSwitches ks switches cells₁) × ((length (take (n - 0) turns₁) ≤ noChange) × (Fresh (highHalves firsts) × Fresh (lowHalves firsts)))
   arrange-asked ks same cells₁ kept =
-      let few : length (switchKeysFrom 0 ks) ≤ 20000 = rw same (switches-few xs z) in
+      let few : length (switchKeysFrom 0 ks) ≤ mostSwitches = rw same (switches-few xs z) in
       let there : length switches ≡ length (switchKeysFrom 0 ks) = rw same switches-there in
       let room = q .room .cells in
       let k = few-changes in
@@ -115,7 +116,7 @@ module _ (xs : List ℕ) (z : refusal xs ≡ 0) (words initials switches keys ce
     targets-there : take (length runs₁) targets ≡ targetWords (campaign .countries)
     targets-there = ap (λ (n : ℕ). take n targets) switched ∙ a .targets ∙ ap targetWords same
 
-    few-runs : length (runKeys (campaign .countries)) ≤ 20000
+    few-runs : length (runKeys (campaign .countries)) ≤ mostSwitches
     few-runs = let e = length-sort leb (runsFrom 0 0 (campaign .countries)) in let h = runs-few xs z in omega arith
 
     -- The links are all that is lent of them.
@@ -144,15 +145,15 @@ module _ (xs : List ℕ) (z : refusal xs ≡ 0) (words initials switches keys ce
           targets = targets-there;
           start = refl;
           started = h .started;
-          oldRows = highs (take n turns₁);
-          newRows = lows (take n turns₁);
+          oldRows = highHalves (take n turns₁);
+          newRows = lowHalves (take n turns₁);
           rowed = h .rowed;
           few = let l = length-take n keys₁ in let k = few-changes in omega arith;
           losses = rw (sub-zero n) at (a .linked .losses);
           gains = rw (sub-zero n) at (a .linked .gains);
-          lossRows = rows-there (λ x. x) (highs firsts₁) (length-map firsts₁ (λ x. x / 65536));
-          gainRows = rows-there (λ x. x) (lows firsts₁) (length-map firsts₁ (λ x. x % 65536));
-          slots = provinces-few xs z;
+          lossRows = rows-there (λ x. x) (highHalves firsts₁) (length-map firsts₁ (λ x. x / half));
+          gainRows = rows-there (λ x. x) (lowHalves firsts₁) (length-map firsts₁ (λ x. x % half));
+          slots = omega (arith, provinces-few xs z);
         }
 
     -- So all is gathered.

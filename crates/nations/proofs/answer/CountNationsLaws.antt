@@ -5,13 +5,14 @@ use Prim.Native.Nat.{ℕ, _+_, _-_, _*_, _≤_, _<_}
 use native.Mathlib.Omega.{arith}
 use lib.ListN.{length, getD, drop, length-append}
 use Rattle.lists.proofs.BoolLaws.{cases}
+use Rattle.nations.specs.Layout.{keyRows}
 use Rattle.nations.specs.declared.listing.Listed.{Listed}
 use Rattle.rules.specs.Chronicle.{Nation}
 use Rattle.nations.specs.Lookup.{rowIn}
 use Rattle.nations.specs.Listing.{Cells, retold, walkOf, isListed, nationOfKey, keyNations, nationsAt, listedOf}
 use Rattle.nations.specs.Listing.{Readable, Counted}
 use Rattle.rules.proofs.RowLaws.{allEntries}
-use Rattle.nations.proofs.answer.ListingLaws.{key-few, key-short, length-entries, key-one, key-none, one-entries, nations-next, nations-end, length-all}
+use Rattle.nations.proofs.answer.ListingLaws.{key-few, key-short, length-entries, key-one, key-none, one-entries, key-nations-next, nations-end, length-all-entries}
 
 -- Of the keys before i so many nations and entries are counted.
 pub record NationsCounting (w : Cells) (i nations entries : ℕ) : Type 0 where
@@ -61,15 +62,15 @@ module _ (w : Cells) (tags targets : List ℕ) where
           arith,
           here .1,
           rest .1,
-          length-all (keyNations w key) (nationsAt w keys),
-          length-all (keyNations v key) (nationsAt v keys),
+          length-all-entries (keyNations w key) (nationsAt w keys),
+          length-all-entries (keyNations v key) (nationsAt v keys),
         ),
       )
 
 module _ (w : Cells) where
   -- At first none is counted.
-  pub counting-none : NationsCounting w 0 0 0
-  counting-none = record { inside = omega arith; listed = omega arith; told = omega arith; few = omega arith; short = omega arith }
+  pub nations-counting-none : NationsCounting w 0 0 0
+  nations-counting-none = record { inside = omega arith; listed = omega arith; told = omega arith; few = omega arith; short = omega arith }
 
   module _ (i nations entries : ℕ) (c : NationsCounting w i nations entries) where
     module _ (readable : Readable w) (h : i < length (w .initials)) (r : Listed) (e : r ≡ listedOf (keyNations w (getD (w .initials) i 0))) where
@@ -79,31 +80,31 @@ module _ (w : Cells) where
           rw e (key-few w (getD (w .initials) i 0), key-short w readable (getD (w .initials) i 0))
 
       -- The numbers stay small.
-      pub counting-few : nations + r .nations ≤ 2048
-      counting-few = omega (arith, c .few, one-more .0, readable .few)
+      pub nations-counting-few : nations + r .nations ≤ keyRows
+      nations-counting-few = omega (arith, c .few, one-more .0, readable .few)
 
-      pub counting-short : entries + r .entries ≤ 335544320
-      counting-short = omega (arith, c .short, one-more .1, readable .few)
+      pub nations-counting-short : entries + r .entries ≤ 335544320
+      nations-counting-short = omega (arith, c .short, one-more .1, readable .few)
 
       -- The key at i is counted.
-      pub counting-more : NationsCounting w (i + 1) (nations + r .nations) (entries + r .entries)
-      counting-more =
+      pub nations-counting-more : NationsCounting w (i + 1) (nations + r .nations) (entries + r .entries)
+      nations-counting-more =
           let here : List Nation = keyNations w (getD (w .initials) i 0) in
           let rest : List Nation = nationsAt w (drop (i + 1) (w .initials)) in
-          let next : nationsAt w (drop i (w .initials)) ≡ here ++ rest = nations-next w (w .initials) i h in
+          let next : nationsAt w (drop i (w .initials)) ≡ here ++ rest = key-nations-next w (w .initials) i h in
           let n : r .nations ≡ length here = ap (λ (x : Listed). x .nations) e in
           let m : r .entries ≡ length (allEntries here) = ap (λ (x : Listed). x .entries) e in
           record {
             inside = omega arith;
             listed = omega (arith, n, c .listed, ap length next, length-append here rest);
-            told = omega (arith, m, c .told, ap (λ (ns : List Nation). length (allEntries ns)) next, length-all here rest);
+            told = omega (arith, m, c .told, ap (λ (ns : List Nation). length (allEntries ns)) next, length-all-entries here rest);
             few = omega (arith, c .few, one-more .0);
             short = omega (arith, c .short, one-more .1);
           }
 
     -- All keys are counted.
-    pub counting-done : length (w .initials) ≤ i → Counted (retold w [] []) (record { nations = nations; entries = entries })
-    counting-done h =
+    pub nations-counting-done : length (w .initials) ≤ i → Counted (retold w [] []) (record { nations = nations; entries = entries })
+    nations-counting-done h =
         let none : nationsAt w (drop i (w .initials)) ≡ [] = nations-end w (w .initials) i h in
         record {
           listed =

@@ -13,11 +13,11 @@ use Rattle.lists.specs.Lists.{All}
 use Rattle.sorting.specs.Sort.{sortBy}
 use Rattle.sorting.specs.Steps.{mergeBy}
 use Rattle.sorting.proofs.SortLaws.{Ordered, sort-ordered, merge-sort, leb-total, leb-trans}
-use Rattle.record.specs.declared.tag.CountryTag.{CountryTag}
-use Rattle.record.specs.declared.date.Eu4Date.{Eu4Date}
-use Rattle.record.specs.Tags.{sameTag}
-use Rattle.record.specs.Dates.{earlier}
-use Rattle.record.specs.Campaign.{Campaign, Country}
+use Rattle.format.specs.declared.tag.CountryTag.{CountryTag}
+use Rattle.format.specs.declared.date.Eu4Date.{Eu4Date}
+use Rattle.format.specs.Tags.{sameTag}
+use Rattle.format.specs.Dates.{earlier}
+use Rattle.format.specs.Campaign.{Campaign, Country}
 use Rattle.rules.specs.Chronicle.{appeared, annexed, Entry}
 use Rattle.rules.specs.Nations.{matches, switchEntries, startHolders, Move, movesOf, Turn, turnsFrom, turnsOf, turnEntries, turnCount, livesFrom, livesOf, entriesOf}
 use Rattle.nations.specs.Turning.{byDate}
@@ -97,12 +97,12 @@ lives-in-order c t = lives-order (c .start) t (turnsOf c) _ (turns-order (movesO
 
 -- ## The merge
 
-by-date : (es : List Entry) → InOrder (λ e. e .date .0) es → Ordered byDate es
-by-date [] o = tt
-by-date (e ∷ es) o = (all-map (λ f h. le-leb (e .date .0) (f .date .0) h) es (o .0), by-date es (o .1))
+in-order-by-date : (es : List Entry) → InOrder (λ e. e .date .0) es → Ordered byDate es
+in-order-by-date [] o = tt
+in-order-by-date (e ∷ es) o = (all-map (λ f h. le-leb (e .date .0) (f .date .0) h) es (o .0), in-order-by-date es (o .1))
 
 pub entries-merge : (c : Campaign) (k : Country) → entriesOf c k ≡ mergeBy byDate (sortBy byDate (switchEntries k)) (livesOf c (k .tag))
 unfolding entriesOf
 entries-merge c k =
     sym (merge-sort byDate (λ a b. leb-total (a .date .0) (b .date .0)) (λ a b d. leb-trans (a .date .0) (b .date .0) (d .date .0)) (switchEntries k) (livesOf c (k .tag)))
-    ∙ ap (mergeBy byDate (sortBy byDate (switchEntries k))) (sort-ordered byDate (livesOf c (k .tag)) (by-date (livesOf c (k .tag)) (lives-in-order c (k .tag))))
+    ∙ ap (mergeBy byDate (sortBy byDate (switchEntries k))) (sort-ordered byDate (livesOf c (k .tag)) (in-order-by-date (livesOf c (k .tag)) (lives-in-order c (k .tag))))

@@ -16,8 +16,9 @@ use Rattle.lists.proofs.ElementLaws.{at-drop, keep-map, at-getD, kept-join}
 use Rattle.lists.proofs.ListLaws.{all-map, all-both, map-then}
 use Rattle.sorting.specs.Sort.{sortBy}
 use Rattle.sorting.proofs.SortLaws.{Agrees, all-sort, keep-sort, map-sort, leb-total, leb-trans}
-use Rattle.record.specs.Campaign.{Campaign, Country}
+use Rattle.format.specs.Campaign.{Campaign, Country}
 use Rattle.rules.specs.Nations.{initialOf, matches, isMapped, nationOf, heldEver, listedCountries, nationsOf}
+use Rattle.nations.specs.Layout.{keyRows}
 use Rattle.nations.specs.Lookup.{noRow, rowIn, lastWithin}
 use Rattle.nations.specs.Countries.{tagAtRow, tagWords, initialWords, placesOf, mappedRow, wordKeys, rowKeys}
 use Rattle.nations.proofs.tables.MappedLaws.{places-within, mapped-row, row-single, row-same}
@@ -45,28 +46,28 @@ countryIn ks key = getD ks (rowIn key) noCountry
 -- A key of an initial: its row is a country's, and above the row stands that country's initial.
 pub record InitialKey (ks : List Country) (key : ℕ) : Type 0 where
   pub there : getElem? ks (rowIn key) ≡ some (countryIn ks key)
-  pub initial : key / 2048 ≡ initialOf (countryIn ks key) .0
+  pub initial : key / keyRows ≡ initialOf (countryIn ks key) .0
 
 module _ (all : List Country) where
   -- The key of the country that stands in a row tells the row and the country.
-  module _ (row : ℕ) (k : Country) (small : row < 2048) (there : getElem? all row ≡ some k) where
-    key-row : (w : ℕ) → rowIn (w * 2048 + row) ≡ row
+  module _ (row : ℕ) (k : Country) (small : row < keyRows) (there : getElem? all row ≡ some k) where
+    key-row : (w : ℕ) → rowIn (w * keyRows + row) ≡ row
     key-row w = omega arith
 
-    key-country : (w : ℕ) → countryIn all (w * 2048 + row) ≡ k
+    key-country : (w : ℕ) → countryIn all (w * keyRows + row) ≡ k
     key-country w = ap (λ (r : ℕ). getD all r noCountry) (key-row w) ∙ at-getD all row k noCountry there
 
-    key-is : InitialKey all (initialOf k .0 * 2048 + row)
+    key-is : InitialKey all (initialOf k .0 * keyRows + row)
     key-is =
         let w : ℕ = initialOf k .0 in
-        let high : (w * 2048 + row) / 2048 ≡ w = omega arith in
+        let high : (w * keyRows + row) / keyRows ≡ w = omega arith in
         record {
           there = ap (getElem? all) (key-row w) ∙ there ∙ ap some (sym (key-country w));
           initial = high ∙ ap (λ (x : Country). initialOf x .0) (sym (key-country w));
         }
 
   -- Each key of the countries from a row on is one.
-  keys-are : (row : ℕ) (ks : List Country) → drop row all ≡ ks → row + length ks ≤ 2048 → All (InitialKey all) (wordKeys row (initialWords ks))
+  keys-are : (row : ℕ) (ks : List Country) → drop row all ≡ ks → row + length ks ≤ keyRows → All (InitialKey all) (wordKeys row (initialWords ks))
   unfolding wordKeys
   keys-are row [] e h = tt
   keys-are row (k ∷ ks) e h =
@@ -74,13 +75,13 @@ module _ (all : List Country) where
       (key-is row k (omega arith) (d .0), keys-are (suc row) ks (d .1) (omega arith))
 
   -- Their countries are these.
-  keys-back : (row : ℕ) (ks : List Country) → drop row all ≡ ks → row + length ks ≤ 2048
+  keys-back : (row : ℕ) (ks : List Country) → drop row all ≡ ks → row + length ks ≤ keyRows
       → map (countryIn all) (wordKeys row (initialWords ks)) ≡ ks
   unfolding wordKeys
   keys-back row [] e h = refl
   keys-back row (k ∷ ks) e h =
       let d = at-drop all row k ks e in
-      let here : countryIn all (initialOf k .0 * 2048 + row) ≡ k = key-country row k (omega arith) (d .0) (initialOf k .0) in
+      let here : countryIn all (initialOf k .0 * keyRows + row) ≡ k = key-country row k (omega arith) (d .0) (initialOf k .0) in
       rw (here, keys-back (suc row) ks (d .1) (omega arith))
 
 -- ## The order of the keys
@@ -90,37 +91,37 @@ abbrev pub byInitial : Country → Country → Bool
 byInitial a b = leb (initialOf a .0) (initialOf b .0)
 
 -- Keys of words from a row on have rows from there on.
-rows-from : (row : ℕ) (ws : List ℕ) → row + length ws ≤ 2048 → All (λ j. row ≤ rowIn j) (wordKeys row ws)
+rows-from : (row : ℕ) (ws : List ℕ) → row + length ws ≤ keyRows → All (λ j. row ≤ rowIn j) (wordKeys row ws)
 unfolding wordKeys
 rows-from row [] h = tt
 rows-from row (w ∷ ws) h =
-    let here : row ≤ (w * 2048 + row) % 2048 = omega arith in
+    let here : row ≤ (w * keyRows + row) % keyRows = omega arith in
     (here, all-map (λ j l. omega arith) (wordKeys (suc row) ws) (rows-from (suc row) ws (omega arith)))
 
 -- A key compares with one of a later row as what stands above the rows does.
-high-agree : (a b : ℕ) → a % 2048 ≤ b % 2048 → leb a b ≡ leb (a / 2048) (b / 2048)
+high-agree : (a b : ℕ) → a % keyRows ≤ b % keyRows → leb a b ≡ leb (a / keyRows) (b / keyRows)
 high-agree a b h =
-    cases (leb (a / 2048) (b / 2048))
-    (λ g. let l = leb-true (a / 2048) (b / 2048) g in le-leb a b (omega arith) ∙ sym g)
-    (λ g. let l = leb-false (a / 2048) (b / 2048) g in lt-leb a b (omega arith) ∙ sym g)
+    cases (leb (a / keyRows) (b / keyRows))
+    (λ g. let l = leb-true (a / keyRows) (b / keyRows) g in le-leb a b (omega arith) ∙ sym g)
+    (λ g. let l = leb-false (a / keyRows) (b / keyRows) g in lt-leb a b (omega arith) ∙ sym g)
 
 module _ (all : List Country) where
   -- Each key compares with the later ones as the countries do by their initials.
-  agreeing : (row : ℕ) (ks : List Country) → drop row all ≡ ks → row + length ks ≤ 2048
+  agreeing : (row : ℕ) (ks : List Country) → drop row all ≡ ks → row + length ks ≤ keyRows
       → Agrees leb byInitial (countryIn all) (wordKeys row (initialWords ks))
   unfolding wordKeys
   agreeing row [] e h = tt
   agreeing row (k ∷ ks) e h =
       let d = at-drop all row k ks e in
-      let key : ℕ = initialOf k .0 * 2048 + row in
+      let key : ℕ = initialOf k .0 * keyRows + row in
       let q : InitialKey all key = key-is all row k (omega arith) (d .0) in
-      let low : key % 2048 ≡ row = key-row all row k (omega arith) (d .0) (initialOf k .0) in
+      let low : key % keyRows ≡ row = key-row all row k (omega arith) (d .0) (initialOf k .0) in
       let later : List ℕ = wordKeys (suc row) (initialWords ks) in
-      let long : suc row + length (initialWords ks) ≤ 2048 = omega (arith, length-map ks (λ x. initialOf x .0)) in (
+      let long : suc row + length (initialWords ks) ≤ keyRows = omega (arith, length-map ks (λ x. initialOf x .0)) in (
         all-map {Q = λ j. leb key j ≡ byInitial (countryIn all key) (countryIn all j)}
-            (λ j g. let r : suc row ≤ j % 2048 = g .1 in
+            (λ j g. let r : suc row ≤ j % keyRows = g .1 in
             high-agree key j (omega arith)
-            ∙ ap (λ (w : ℕ). leb w (j / 2048)) (q .initial)
+            ∙ ap (λ (w : ℕ). leb w (j / keyRows)) (q .initial)
             ∙ ap (leb (initialOf (countryIn all key) .0)) (g .0 .initial))
             later
             (all-both (InitialKey all) (λ j. suc row ≤ rowIn j) later
@@ -128,7 +129,7 @@ module _ (all : List Country) where
         agreeing (suc row) ks (d .1) (omega arith),
       )
 
-module _ (ks : List Country) (few : length ks ≤ 2048) where
+module _ (ks : List Country) (few : length ks ≤ keyRows) where
   -- Each of the keys is one.
   pub initial-keys : All (InitialKey ks) (rowKeys (initialWords ks))
   initial-keys = all-sort leb (InitialKey ks) (wordKeys 0 (initialWords ks)) (keys-are ks 0 ks refl (omega arith))
@@ -141,7 +142,7 @@ module _ (ks : List Country) (few : length ks ≤ 2048) where
 
 -- ## Mapped countries
 
-module _ (ks : List Country) (few : length ks ≤ 2048) (once : twice (tagWords ks) ≡ false) where
+module _ (ks : List Country) (few : length ks ≤ keyRows) (once : twice (tagWords ks) ≡ false) where
   -- A row is a country's row if the row's tag is the country's.
   pub place-is : (i : ℕ) (k : Country) → getElem? ks i ≡ some k → (m : ℕ) → eqb m i ≡ matches (k .tag) (tagAtRow ks m)
   place-is i k there m = go (getElem? ks m) refl
@@ -153,12 +154,12 @@ module _ (ks : List Country) (few : length ks ≤ 2048) (once : twice (tagWords 
 
   -- The key is that of its initial's last row if its country is mapped.
   pub mapped-key : (key : ℕ) → InitialKey ks key
-      → eqb (lastWithin (key / 2048 * 2048) (key / 2048 * 2048 + 2048) (rowKeys (initialWords ks))) (rowIn key) ≡ isMapped ks (countryIn ks key)
+      → eqb (lastWithin (key / keyRows * keyRows) (key / keyRows * keyRows + keyRows) (rowKeys (initialWords ks))) (rowIn key) ≡ isMapped ks (countryIn ks key)
   unfolding lastWithin
   mapped-key key q =
       let k : Country = countryIn ks key in
-      let last-row : lastWithin (key / 2048 * 2048) (key / 2048 * 2048 + 2048) (rowKeys (initialWords ks)) ≡ mappedRow ks (initialOf k) =
-      ap (lastOr noRow) (places-within (key / 2048) (initialWords ks) (omega (arith, length-map ks (λ x. initialOf x .0))))
+      let last-row : lastWithin (key / keyRows * keyRows) (key / keyRows * keyRows + keyRows) (rowKeys (initialWords ks)) ≡ mappedRow ks (initialOf k) =
+      ap (lastOr noRow) (places-within (key / keyRows) (initialWords ks) (omega (arith, length-map ks (λ x. initialOf x .0))))
       ∙ ap (λ (w : ℕ). lastOr noRow (placesOf w 0 (initialWords ks))) (q .initial) in
       ap (λ (r : ℕ). eqb r (rowIn key)) last-row
       ∙ place-is (rowIn key) k (q .there) (mappedRow ks (initialOf k))
@@ -171,7 +172,7 @@ abbrev pub listed : Campaign → Country → Bool
 listed c k = isMapped (c .countries) k && heldEver c k
 
 -- Each key of a listed country gives its nation, any other none.
-pub nations-by-key : (c : Campaign) → length (c .countries) ≤ 2048
+pub nations-by-key : (c : Campaign) → length (c .countries) ≤ keyRows
     → nationsOf c
     ≡ joinOf (λ key. cond (listed c (countryIn (c .countries) key)) (nationOf c (countryIn (c .countries) key) ∷ []) [])
     (rowKeys (initialWords (c .countries)))

@@ -14,16 +14,17 @@ use Rattle.lists.proofs.BoolLaws.{cases}
 use Rattle.lists.proofs.ElementLaws.{all-inside}
 use Rattle.lists.proofs.ListLaws.{count-le, count-more, join-append}
 use Rattle.lists.proofs.WriteLaws.{Behind}
-use Rattle.record.specs.declared.tag.CountryTag.{CountryTag}
+use Rattle.format.specs.declared.tag.CountryTag.{CountryTag}
+use Rattle.nations.specs.Layout.{keyRows, rowKeySpan, rowSpan, half}
 use Rattle.nations.specs.declared.lives.Lives.{Lives}
 use Rattle.nations.specs.declared.lives.LivesCount.{LivesCount}
 use Rattle.rules.specs.Chronicle.{Entry, Nation}
-use Rattle.rules.specs.NationRows.{nationRowsFrom, entryWords}
+use Rattle.rules.specs.NationRows.{nationRowsFrom, entryWords, nationWidth, entryWidth}
 use Rattle.nations.specs.Lookup.{rowIn}
-use Rattle.nations.specs.Turning.{highs, livedLeft, livesCount, Light}
+use Rattle.nations.specs.Turning.{highHalves, livedLeft, livesCount, Light}
 use Rattle.nations.specs.Switches.{runStart, switchIn}
 use Rattle.nations.specs.Entries.{mergedEntries, latestTag, EntriesWritten}
-use Rattle.nations.specs.Listing.{Cells, walkOf, livedOf, runOf, entriesAt, isListed, nationOfKey, keyNations, nationsAt, listedOf}
+use Rattle.nations.specs.Listing.{Cells, walkOf, livedOf, runOf, rowEntries, isListed, nationOfKey, keyNations, nationsAt, listedOf}
 use Rattle.nations.specs.Listing.{Readable, NationsRoom, NationsPut}
 use Rattle.rules.proofs.RowLaws.{allEntries, length-nationWords, length-entryWords}
 use Rattle.nations.proofs.slots.WalkLaws.{lived-short}
@@ -34,13 +35,13 @@ use Rattle.nations.proofs.answer.MergeEntryLaws.{length-merge}
 -- A row's run begins before the next one's.
 pub run-rises : (row : ℕ) (runs : List ℕ) → runStart row runs ≤ runStart (row + 1) runs
 run-rises row runs =
-    let low = row * 4398046511104 in
-    let high = (row + 1) * 4398046511104 in
+    let low = row * rowSpan in
+    let high = (row + 1) * rowSpan in
     count-more (λ k. ltb k low) (λ k. ltb k high) (λ k p. lt-ltb k high (omega (arith, ltb-true k low p))) runs
 
 -- It begins inside.
 pub run-inside : (row : ℕ) (runs : List ℕ) → runStart row runs ≤ length runs
-run-inside row runs = count-le (λ k. ltb k (row * 4398046511104)) runs
+run-inside row runs = count-le (λ k. ltb k (row * rowSpan)) runs
 
 -- It is as long as the two beginnings are apart.
 length-run : (runs : List ℕ) (row : ℕ) → length (runOf runs row) ≡ runStart (row + 1) runs - runStart row runs
@@ -54,7 +55,7 @@ length-run runs row =
 module _ (w : Cells) where
   -- They are its switches and its lives.
   pub length-entries : (row : ℕ)
-      → length (entriesAt w row) ≡ runStart (row + 1) (w .runs) - runStart row (w .runs) + length (livedOf w row .entries)
+      → length (rowEntries w row) ≡ runStart (row + 1) (w .runs) - runStart row (w .runs) + length (livedOf w row .entries)
   length-entries row =
       let run : List Entry = map (switchIn (w .targets)) (runOf (w .runs) row) in
       omega (
@@ -66,7 +67,7 @@ module _ (w : Cells) where
 
   module _ (r : Readable w) where
     -- They are few.
-    pub entries-short : (row : ℕ) → length (entriesAt w row) ≤ 163840
+    pub entries-short : (row : ℕ) → length (rowEntries w row) ≤ 163840
     entries-short row =
         omega (
           arith,
@@ -110,17 +111,17 @@ module _ (w : Cells) where
   -- ## Key by key
 
   -- The nation of the key at i, and those of the keys behind it.
-  pub nations-next : (keys : List ℕ) (i : ℕ) → i < length keys
+  pub key-nations-next : (keys : List ℕ) (i : ℕ) → i < length keys
       → nationsAt w (drop i keys) ≡ keyNations w (getD keys i 0) ++ nationsAt w (drop (i + 1) keys)
-  nations-next keys i h = rw (drop-cons keys i 0 h, add-one)
+  key-nations-next keys i h = rw (drop-cons keys i 0 h, add-one)
 
   -- Behind the last key there is none.
   pub nations-end : (keys : List ℕ) (i : ℕ) → length keys ≤ i → nationsAt w (drop i keys) ≡ []
   nations-end keys i h = rw (drop-of-length-le keys {i = i} h)
 
 -- The entries of nations one behind the other.
-pub length-all : (xs ys : List Nation) → length (allEntries (xs ++ ys)) ≡ length (allEntries xs) + length (allEntries ys)
-length-all xs ys = ap length (join-append (λ (n : Nation). n .entries) xs ys) ∙ length-append (allEntries xs) (allEntries ys)
+pub length-all-entries : (xs ys : List Nation) → length (allEntries (xs ++ ys)) ≡ length (allEntries xs) + length (allEntries ys)
+length-all-entries xs ys = ap length (join-append (λ (n : Nation). n .entries) xs ys) ∙ length-append (allEntries xs) (allEntries ys)
 
 -- ## The steps for one key
 
@@ -144,18 +145,18 @@ module _ (w : Cells) (r : Readable w) (i : ℕ) (h : i < length (w .initials)) w
   )
 
   -- So it has a cell, where both share one.
-  pub key-first : (firsts : List ℕ) → w .losses ≡ highs firsts → rowIn key < length firsts
-  key-first firsts e = let h = key-heads .0 in omega (arith, ap length e, length-map firsts (λ x. x / 65536))
+  pub key-first : (firsts : List ℕ) → w .losses ≡ highHalves firsts → rowIn key < length firsts
+  key-first firsts e = let h = key-heads .0 in omega (arith, ap length e, length-map firsts (λ x. x / half))
 
   -- Its initial is a word.
-  pub key-narrow : key < 8796093022208
-  key-narrow = all-inside (λ k. k < 8796093022208) (w .initials) i 0 (r .words) h
+  pub key-narrow : key < rowKeySpan
+  key-narrow = all-inside (λ k. k < rowKeySpan) (w .initials) i 0 (r .words) h
 
   module _ (walk : Lives) (here : walk ≡ walkOf w (rowIn key)) where
     -- The walk may begin.
     pub key-light : Light walk
     key-light =
-        let few = all-inside (λ n. n ≤ 65536) (w .started) (rowIn key) 0 (r .started) key-started in
+        let few = all-inside (λ n. n ≤ half) (w .started) (rowIn key) 0 (r .started) key-started in
         rw here (omega (arith, few))
 
     -- Of a country that is not listed nothing is counted or written.
@@ -206,17 +207,17 @@ module _ (w : Cells) (r : Readable w) (i : ℕ) (h : i < length (w .initials)) w
             (livedLeft (w .start) (w .keys) (w .olds) (w .news) walk .entries)
 
         -- They are the row's.
-        same-entries : lent ≡ entriesAt w (rowIn key)
+        same-entries : lent ≡ rowEntries w (rowIn key)
         same-entries = rw (same-run, here)
 
         module _ (rows entries : List ℕ) (room : NationsRoom (keyNations w key) rows entries) where
           -- There is room for the row.
-          pub room-row : 5 ≤ length rows
+          pub room-row : nationWidth ≤ length rows
           room-row =
               omega (arith, room .rows, length-nationWords (keyNations w key), ap length only)
 
           -- There is room for the entries.
-          pub room-entries : 3 * length lent ≤ length entries
+          pub room-entries : entryWidth * length lent ≤ length entries
           room-entries =
               rw same-entries
               (omega (
@@ -233,16 +234,16 @@ module _ (w : Cells) (r : Readable w) (i : ℕ) (h : i < length (w .initials)) w
           count-narrow = omega (arith, wrote .counted, ap length same-entries, entries-short w r (rowIn key))
 
           -- What is written is the nation's.
-          pub put-listed : (initial latest stored : CountryTag) (first : ℕ) (rows rows′ : List ℕ) → initial .0 ≡ key / 2048
+          pub put-listed : (initial latest stored : CountryTag) (first : ℕ) (rows rows′ : List ℕ) → initial .0 ≡ key / keyRows
               → latest ≡ latestTag (w .targets) (take (end - from) (drop from (w .runs))) initial → stored .0 ≡ getD (w .tags) (rowIn key) 0
-              → rows′ ≡ (initial .0 ∷ latest .0 ∷ stored .0 ∷ first ∷ count ∷ []) ++ drop 5 rows
+              → rows′ ≡ (initial .0 ∷ latest .0 ∷ stored .0 ∷ first ∷ count ∷ []) ++ drop nationWidth rows
               → NationsPut (keyNations w key) first (record { nations = 1; entries = count }) rows rows′ entries entries′
           unfolding nationRowsFrom entryWords
           put-listed initial latest stored first rows rows′ a b s p =
-              let n : count ≡ length (entriesAt w (rowIn key)) = wrote .counted ∙ ap length same-entries in
-              let i : initial ≡ record { 0 = key / 2048 } = ap (λ (v : ℕ). record { 0 = v }) a in
-              let l : latest ≡ latestTag (w .targets) (runOf (w .runs) (rowIn key)) (record { 0 = key / 2048 }) = rw (same-run, i) at b in
-              let all = append-nil (entriesAt w (rowIn key)) in
+              let n : count ≡ length (rowEntries w (rowIn key)) = wrote .counted ∙ ap length same-entries in
+              let i : initial ≡ record { 0 = key / keyRows } = ap (λ (v : ℕ). record { 0 = v }) a in
+              let l : latest ≡ latestTag (w .targets) (runOf (w .runs) (rowIn key)) (record { 0 = key / keyRows }) = rw (same-run, i) at b in
+              let all = append-nil (rowEntries w (rowIn key)) in
               rw only
               (record {
                 listed = ap (λ (m : ℕ). record { nations = 1; entries = m }) (n ∙ sym (ap length all));

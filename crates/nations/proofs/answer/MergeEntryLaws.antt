@@ -11,8 +11,8 @@ use Rattle.lists.proofs.BoolLaws.{cases, clash}
 use Rattle.lists.proofs.ListLaws.{length-join}
 use Rattle.lists.proofs.WriteLaws.{Behind, Writing, writing-none, writing-more, writing-done}
 use Rattle.sorting.specs.Steps.{into, mergeBy}
-use Rattle.record.specs.declared.tag.CountryTag.{CountryTag}
-use Rattle.record.specs.declared.date.Eu4Date.{Eu4Date}
+use Rattle.format.specs.declared.tag.CountryTag.{CountryTag}
+use Rattle.format.specs.declared.date.Eu4Date.{Eu4Date}
 use Rattle.nations.specs.declared.lives.Lives.{Lives}
 use Rattle.nations.specs.declared.lives.NextLife.{NextLife}
 use Rattle.nations.specs.declared.lives.NextLife.the-variants.{Life, End}
@@ -154,42 +154,42 @@ module _ (words run : List ℕ) (start : Eu4Date) (keys olds news : List ℕ) wh
   -- k entries are written; those that are left find room behind them.
   pub record Merging (life₀ : NextLife) (out₀ : List ℕ) (life : NextLife) (i k : ℕ) (out : List ℕ) : Type 0 where
     pub counted : k + length (entriesAhead i life) ≡ length (entriesAhead 0 life₀)
-    pub cells : Writing (entriesWords (entriesAhead 0 life₀)) (entriesWords (entriesAhead i life)) out₀ (3 * k) out
+    pub cells : Writing (entriesWords (entriesAhead 0 life₀)) (entriesWords (entriesAhead i life)) out₀ (entryWidth * k) out
     pub light : Lightly life
 
   -- An entry row has three words.
-  length-words : (es : List Entry) → length (entriesWords es) ≡ 3 * length es
-  length-words es = length-join entryWidth (λ e. entryRowWords (entryRow e)) (λ e. refl) es
+  length-entries-words : (es : List Entry) → length (entriesWords es) ≡ entryWidth * length es
+  length-entries-words es = length-join entryWidth (λ e. entryRowWords (entryRow e)) (λ e. refl) es
 
   -- At first nothing is written.
   pub merging-none : (walk : Lives) (life : NextLife) (out : List ℕ) → TellsLife start keys olds news walk life
-      → 3 * length (mergedEntries words run (livedLeft start keys olds news walk .entries)) ≤ length out → Merging life out life 0 0 out
+      → entryWidth * length (mergedEntries words run (livedLeft start keys olds news walk .entries)) ≤ length out → Merging life out life 0 0 out
   merging-none walk life out t h =
-      let room : 3 * length (entriesAhead 0 life) ≤ length out = rw (t .told) at h in
+      let room : entryWidth * length (entriesAhead 0 life) ≤ length out = rw (t .told) at h in
       record {
         counted = omega arith;
-        cells = writing-none _ _ (omega (arith, length-words (entriesAhead 0 life)));
+        cells = writing-none _ _ (omega (arith, length-entries-words (entriesAhead 0 life)));
         light = onward-lightly walk life (t .onward);
       }
 
   module _ (life₀ : NextLife) (out₀ : List ℕ) (life : NextLife) (i k : ℕ) (out : List ℕ) (m : Merging life₀ out₀ life i k out) where
     -- There is room for the next entry.
-    room : (e : Entry) (es : List Entry) → entriesAhead i life ≡ e ∷ es → 3 * k + 3 ≤ length out
+    room : (e : Entry) (es : List Entry) → entriesAhead i life ≡ e ∷ es → entryWidth * k + entryWidth ≤ length out
     room e es n =
         let l : length (entriesAhead i life) ≡ suc (length es) = ap length n in
-        omega (arith, m .cells .fits, m .cells .long, length-words (entriesAhead i life))
+        omega (arith, m .cells .fits, m .cells .long, length-entries-words (entriesAhead i life))
 
     -- The next entry is written.
     more : (e : Entry) (life′ : NextLife) (i′ : ℕ) (out′ : List ℕ) → entriesAhead i life ≡ e ∷ entriesAhead i′ life′ → Lightly life′
-        → Behind out (entryRowWords (entryRow e)) (3 * k) out′ → Merging life₀ out₀ life′ i′ (k + 1) out′
+        → Behind out (entryRowWords (entryRow e)) (entryWidth * k) out′ → Merging life₀ out₀ life′ i′ (k + 1) out′
     more e life′ i′ out′ n light b =
         let l : length (entriesAhead i life) ≡ suc (length (entriesAhead i′ life′)) = ap length n in
-        let row-more : 3 * (k + 1) ≡ 3 * k + 3 = omega arith in
+        let row-more : entryWidth * (k + 1) ≡ entryWidth * k + entryWidth = omega arith in
         record {
           counted = omega (arith, m .counted);
           cells =
               rw row-more
-              (writing-more _ _ (entriesWords (entriesAhead i′ life′)) _ (entryRowWords (entryRow e)) out out′ (3 * k) (ap entriesWords n)
+              (writing-more _ _ (entriesWords (entriesAhead i′ life′)) _ (entryRowWords (entryRow e)) out out′ (entryWidth * k) (ap entriesWords n)
               (m .cells) b);
           light = light;
         }
@@ -197,7 +197,7 @@ module _ (words run : List ℕ) (start : Eu4Date) (keys olds news : List ℕ) wh
     -- The next entry is the switch at i.
     module _ (h : switchFirst (drop i run) life ≡ true) where
       -- It finds room.
-      pub switch-room : 3 * k + 3 ≤ length out
+      pub switch-room : entryWidth * k + entryWidth ≤ length out
       switch-room = room _ _ (switch-next i life h)
 
       -- Behind it less is left.
@@ -205,14 +205,14 @@ module _ (words run : List ℕ) (start : Eu4Date) (keys olds news : List ℕ) wh
       switch-less = let l : length (entriesAhead i life) ≡ suc (length (entriesAhead (i + 1) life)) = ap length (switch-next i life h) in omega arith
 
       -- It is written.
-      pub switch-more : (out′ : List ℕ) → Behind out (entryRowWords (entryRow (switchIn words (getD run i 0)))) (3 * k) out′
+      pub switch-more : (out′ : List ℕ) → Behind out (entryRowWords (entryRow (switchIn words (getD run i 0)))) (entryWidth * k) out′
           → Merging life₀ out₀ life (i + 1) (k + 1) out′
       switch-more out′ b = more (switchIn words (getD run i 0)) life (i + 1) out′ (switch-next i life h) (m .light) b
 
     -- The next entry is the told life.
     module _ (h : switchFirst (drop i run) life ≡ false) (date : Eu4Date) (falls : Bool) (c : Lives) (e : life ≡ Life date falls c) where
       -- It finds room.
-      pub life-room : 3 * k + 3 ≤ length out
+      pub life-room : entryWidth * k + entryWidth ≤ length out
       life-room = room _ _ (life-first i life date falls c e h)
 
       -- The walk behind it may be gone on.
@@ -228,7 +228,7 @@ module _ (words run : List ℕ) (start : Eu4Date) (keys olds news : List ℕ) wh
             omega arith
 
         -- It is written.
-        pub life-more : (out′ : List ℕ) → Behind out (entryRowWords (entryRow (lifeEntry date falls))) (3 * k) out′
+        pub life-more : (out′ : List ℕ) → Behind out (entryRowWords (entryRow (lifeEntry date falls))) (entryWidth * k) out′
             → Merging life₀ out₀ life′ i (k + 1) out′
         life-more out′ b =
             more (lifeEntry date falls) life′ i out′ (life-next i life date falls c life′ e h t) (onward-lightly c life′ (t .onward)) b

@@ -8,14 +8,17 @@ use lib.Dec.{leb}
 use lib.ListN.{length, length-map}
 use Rattle.lists.specs.Lists.{countOf, numbersFrom}
 use Rattle.lists.proofs.ListLaws.{length-numbers}
-use Rattle.record.specs.declared.rows.ProvinceId.{ProvinceId}
-use Rattle.record.specs.Campaign.{Campaign, campaignOf}
-use Rattle.record.specs.Refusal.{refusal, firstOf}
-use Rattle.record.proofs.FirstLaws.{first-stop, first-pass, first-one, first-zero}
+use Rattle.format.specs.declared.rows.ProvinceId.{ProvinceId}
+use Rattle.format.specs.Campaign.{Campaign, campaignOf}
+use Rattle.format.specs.Refusal.{refusal, firstOf}
+use Rattle.format.proofs.FirstLaws.{first-stop, first-pass, first-one, first-zero}
+use Rattle.rules.specs.Changes.{changeWidth}
+use Rattle.owner_changes.specs.ChangeSteps.{mostChanges}
+use Rattle.nations.specs.Layout.{mostCountries, mostSlots}
 use Rattle.nations.specs.declared.nations.NationCounts.{NationCounts}
 use Rattle.rules.specs.Lent.{refused, gives, roomNumber}
 use Rattle.rules.specs.Nations.{matches, slotsOf, movesOf, lastHolder, holdersOf, heldOf}
-use Rattle.rules.specs.NationRows.{holderWord}
+use Rattle.rules.specs.NationRows.{holderWord, nationWidth, entryWidth}
 use Rattle.rules.specs.Outcomes.{Answers, answersOf, NationCells, cellsOf, allFit, allWritten, Counts, countsOf, callNationEvents}
 use Rattle.nations.specs.Cases.{countsIn}
 use Rattle.nations.specs.NationSteps.{roomFor, FewRows}
@@ -37,11 +40,11 @@ room-fits a r before e =
     (and
     (and
     (and
-    (same _ (ap (λ (x : Counts). 5 * x .nations) e ∙ sym (length-nationWords (a .nations))))
-    (same _ (ap (λ (x : Counts). 3 * x .entries) e ∙ sym (length-entryWords (a .nations)))))
+    (same _ (ap (λ (x : Counts). nationWidth * x .nations) e ∙ sym (length-nationWords (a .nations))))
+    (same _ (ap (λ (x : Counts). entryWidth * x .entries) e ∙ sym (length-entryWords (a .nations)))))
     (same _ (ap (λ (x : Counts). x .slots) e ∙ sym (length-map (a .holders) holderWord))))
     (same _ (ap (λ (x : Counts). x .countries) e)))
-    (same _ (ap (λ (x : Counts). 4 * x .changes) e ∙ sym (length-changeRows (a .changes))))
+    (same _ (ap (λ (x : Counts). changeWidth * x .changes) e ∙ sym (length-changeRows (a .changes))))
   where
     same : {m n : ℕ} (k : ℕ) → m ≡ n → leb m k ≡ leb n k
     same k h = ap (λ (j : ℕ). leb j k) h
@@ -83,11 +86,11 @@ module _ (xs : List ℕ) (before : NationCells) where
 
 -- What is counted is small.
 pub record SmallCounts (r : Counts) : Type 0 where
-  pub nations : r .nations ≤ 2000
+  pub nations : r .nations ≤ mostCountries
   pub entries : r .entries ≤ 280000000
-  pub slots : r .slots ≤ 8001
-  pub countries : r .countries ≤ 2000
-  pub changes : r .changes ≤ 60000
+  pub slots : r .slots ≤ mostSlots
+  pub countries : r .countries ≤ mostCountries
+  pub changes : r .changes ≤ mostChanges
 
 pub counts-small : (xs : List ℕ) → refusal xs ≡ 0 → SmallCounts (countsOf (answersOf (campaignOf xs)))
 unfolding countsOf answersOf holdersOf heldOf slotsOf

@@ -11,14 +11,15 @@ use Rattle.lists.specs.Lists.{All, keep, countOf, joinOf}
 use Rattle.lists.proofs.ElementLaws.{keep-short}
 use Rattle.lists.proofs.ListLaws.{all-map, all-keep, join-short}
 use Rattle.sorting.proofs.SortLaws.{length-sort, all-sort}
-use Rattle.record.specs.declared.tag.CountryTag.{CountryTag}
-use Rattle.record.specs.declared.date.Eu4Date.{Eu4Date}
-use Rattle.record.specs.Tags.{sameTag}
-use Rattle.record.specs.Campaign.{Campaign, Country, campaignOf}
-use Rattle.record.specs.Refusal.{refusal}
+use Rattle.format.specs.declared.tag.CountryTag.{CountryTag}
+use Rattle.format.specs.declared.date.Eu4Date.{Eu4Date}
+use Rattle.format.specs.Tags.{sameTag}
+use Rattle.format.specs.Campaign.{Campaign, Country, campaignOf}
+use Rattle.format.specs.Refusal.{refusal}
 use Rattle.rules.specs.Chronicle.{Nation}
 use Rattle.rules.specs.Changes.{changesOf}
 use Rattle.rules.specs.Nations.{matches, initialOf, lastTarget, switchEntries, startHolders, allSwitches, moveOf, Move, movesOf, Turn, turnsFrom, turnsOf, turnEntries, turnCount, livesFrom, livesOf, entriesOf, nationOf, isMapped, heldEver, listedCountries, nationsOf}
+use Rattle.nations.specs.Layout.{mostCountries, mostSwitches}
 use Rattle.nations.specs.Countries.{switchKey, switchKeysFrom}
 use Rattle.nations.specs.Turning.{byDate}
 use Rattle.rules.specs.NationRows.{targetWord}
@@ -49,9 +50,9 @@ length-turns holders [] = refl
 length-turns holders (m ∷ ms) = ap suc (length-turns (set holders (m .slot .0) (some (m .holder))) ms)
 
 -- A country has its switches, and at most two entries for each change.
-entries-short : (c : Campaign) (k : Country) → length (entriesOf c k) ≤ length (k .switches) + 2 * length (changesOf c)
+all-entries-short : (c : Campaign) (k : Country) → length (entriesOf c k) ≤ length (k .switches) + 2 * length (changesOf c)
 unfolding entriesOf livesOf turnsOf movesOf
-entries-short c k =
+all-entries-short c k =
     let n : ℕ = countOf (matches (k .tag)) (startHolders c) in
     omega (
       arith,
@@ -77,7 +78,7 @@ module _ (xs : List ℕ) (z : refusal xs ≡ 0) where
   abbrev c : Campaign
   c = campaignOf xs
 
-  listed-few : length (listedCountries c) ≤ 2000
+  listed-few : length (listedCountries c) ≤ mostCountries
   unfolding listedCountries
   listed-few =
       let kept = keep (λ k. isMapped (c .countries) k && heldEver c k) (c .countries) in
@@ -89,20 +90,20 @@ module _ (xs : List ℕ) (z : refusal xs ≡ 0) where
       )
 
   -- At most as many nations as countries.
-  pub nations-few : length (nationsOf c) ≤ 2000
+  pub nations-few : length (nationsOf c) ≤ mostCountries
   unfolding nationsOf
   nations-few = omega (arith, length-map (listedCountries c) (nationOf c), listed-few)
 
-  abbrev Short : Country → Type 0
-  Short k = length (nationOf c k .entries) ≤ 140000
+  abbrev FewEntries : Country → Type 0
+  FewEntries k = length (nationOf c k .entries) ≤ 140000
 
-  listed-short : All Short (listedCountries c)
+  listed-short : All FewEntries (listedCountries c)
   unfolding listedCountries
   listed-short =
       let listed : Country → Bool = λ k. isMapped (c .countries) k && heldEver c k in
-      let all : All Short (c .countries) =
-      all-map {Q = Short} (λ k h. omega (arith, entries-short c k, changes-few xs z)) (c .countries) (own-few 0 (c .countries) 20000 (switches-few xs z)) in
-      all-sort (λ (a b : Country). leb (initialOf a .0) (initialOf b .0)) Short (keep listed (c .countries)) (all-keep Short listed (c .countries) all)
+      let all : All FewEntries (c .countries) =
+      all-map {Q = FewEntries} (λ k h. omega (arith, all-entries-short c k, changes-few xs z)) (c .countries) (own-few 0 (c .countries) mostSwitches (switches-few xs z)) in
+      all-sort (λ (a b : Country). leb (initialOf a .0) (initialOf b .0)) FewEntries (keep listed (c .countries)) (all-keep FewEntries listed (c .countries) all)
 
   -- At most 20,000 switches and twice 60,000 others each.
   pub entries-few : length (joinOf (λ n. n .entries) (nationsOf c)) ≤ 280000000

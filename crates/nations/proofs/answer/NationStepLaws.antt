@@ -7,8 +7,9 @@ use lib.Dec.{leb}
 use lib.ListN.{length, getD, take, drop, replicate, length-map}
 use lib.Seq.{take-at}
 use Rattle.sorting.proofs.SortLaws.{length-sort}
-use Rattle.record.specs.Campaign.{Country}
+use Rattle.format.specs.Campaign.{Country}
 use Rattle.rules.specs.Lent.{written}
+use Rattle.nations.specs.Layout.{keyRows, keyNumbers, noChange}
 use Rattle.nations.specs.Countries.{tagWords, rowKeys, switchKeysFrom, switchKeys, Keyed, Tabled, Filled}
 use Rattle.nations.specs.Turning.{Fresh}
 use Rattle.nations.specs.Switches.{runsFrom, runKeys, targetWords}
@@ -52,7 +53,7 @@ module _ (ks : List Country) where
 
   -- What the functions that make them ask.
   module _ (runs targets : List ℕ) (few : FewSwitches ks runs targets) where
-    pub runs-asked : Keyed ks → ((length ks ≤ 2048) × (length (runsFrom 0 0 ks) ≤ 32768)) × (length (runsFrom 0 0 ks) ≤ length runs)
+    pub runs-asked : Keyed ks → ((length ks ≤ keyRows) × (length (runsFrom 0 0 ks) ≤ keyNumbers)) × (length (runsFrom 0 0 ks) ≤ length runs)
     runs-asked q =
         let n = runs-count in
         let a = few .few in
@@ -64,10 +65,10 @@ module _ (ks : List Country) where
 
 -- ## Cells that nothing stands in yet
 
-pub fresh-new : (f : ℕ → ℕ) (n x : ℕ) → f x ≡ 65535 → Fresh (map f (replicate n x))
+pub fresh-new : (f : ℕ → ℕ) (n x : ℕ) → f x ≡ noChange → Fresh (map f (replicate n x))
 fresh-new f n x e = record { none = go n }
   where
-    go : (m r : ℕ) → r < length (map f (replicate m x)) → getD (map f (replicate m x)) r 0 ≡ 65535
+    go : (m r : ℕ) → r < length (map f (replicate m x)) → getD (map f (replicate m x)) r 0 ≡ noChange
     go zero r h = absurd (omega arith)
     go (suc m) zero h = e
     go (suc m) (suc r) h = go m r (omega arith)

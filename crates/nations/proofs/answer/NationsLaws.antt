@@ -14,23 +14,24 @@ use Rattle.lists.proofs.ElementLaws.{at-within, cell-at}
 use Rattle.lists.proofs.ListLaws.{all-append, all-map, all-images, all-at, join-none, count-le, join-same}
 use Rattle.sorting.specs.Sort.{sortBy}
 use Rattle.sorting.specs.Steps.{into, mergeBy}
-use Rattle.sorting.proofs.KeyLaws.{sort-again}
+use Rattle.sorting.proofs.SortedKeyLaws.{sort-again}
 use Rattle.sorting.proofs.SortLaws.{length-sort}
-use Rattle.record.specs.declared.tag.CountryTag.{CountryTag}
-use Rattle.record.specs.declared.date.Eu4Date.{Eu4Date}
-use Rattle.record.specs.Tags.{sameTag}
-use Rattle.record.specs.Campaign.{Campaign, Country}
-use Rattle.record.specs.Sound.{GoodCountry}
+use Rattle.format.specs.declared.tag.CountryTag.{CountryTag}
+use Rattle.format.specs.declared.date.Eu4Date.{Eu4Date}
+use Rattle.format.specs.Tags.{sameTag}
+use Rattle.format.specs.Campaign.{Campaign, Country}
+use Rattle.format.specs.Sound.{GoodCountry}
 use Rattle.rules.specs.Chronicle.{Entry, Nation}
 use Rattle.rules.specs.Nations.{initialOf, switchEntries, matches, isMapped, startHolders, Turn, turnsOf, turnEntries, turnCount, livesFrom, livesOf, entriesOf, kindTarget, targets, nationOf, heldEver, nationsOf}
+use Rattle.nations.specs.Layout.{keyRows, keyTags, rowKeySpan, half, noChange}
 use Rattle.nations.specs.Lookup.{rowIn, lastWithin}
 use Rattle.nations.specs.Countries.{tagWords, initialWords, wordKeys, rowKeys}
 use Rattle.nations.specs.Switches.{runsFrom, runKeys, targetWords, switchIn}
 use Rattle.nations.specs.Entries.{latestTag}
 use Rattle.nations.specs.Turning.{byDate, firstAt, rowTag, rowTurn, rowTurnsOf, Lived, livedLeft, firstLives}
-use Rattle.nations.specs.Listing.{Cells, runOf, livedOf, entriesAt, nationOfKey, keyNations, nationsAt, Readable, CampaignCells}
+use Rattle.nations.specs.Listing.{Cells, runOf, livedOf, rowEntries, nationOfKey, keyNations, nationsAt, Readable, CampaignCells}
 use Rattle.rules.proofs.CampaignLaws.{length-start}
-use Rattle.nations.proofs.tables.CountryLaws.{length-keys}
+use Rattle.nations.proofs.tables.CountryLaws.{length-word-keys}
 use Rattle.nations.proofs.answer.EntryLaws.{turn-all, entries-merge}
 use Rattle.nations.proofs.tables.KeyedLaws.{tag-small}
 use Rattle.nations.proofs.slots.LivesLaws.{count-turns, chained, walk-lives}
@@ -126,7 +127,7 @@ module _ (c : Campaign) (w : Cells) (q : CampaignCells c w) (run : RunEntries c 
       q .gains .firsts row (omega (arith, inside, q .gainRows)) ∙ ap (firstAt row 0) (q .rowed .newRows)
 
   -- There are few turns.
-  turns : length (rowTurnsOf c) ≤ 65535
+  turns : length (rowTurnsOf c) ≤ noChange
   turns =
       let e =
       count-turns (w .keys) (q .oldRows) (q .newRows) (w .olds) (w .news) (w .losses) (w .gains) (rowTurnsOf c) (q .rowed) (omega (arith, q .few))
@@ -134,9 +135,9 @@ module _ (c : Campaign) (w : Cells) (q : CampaignCells c w) (run : RunEntries c 
       omega (arith, q .few, e)
 
   -- By these the row held a slot ever if the country did.
-  held-here : (ltb 0 (getD (w .started) row 0) || ltb (getD (w .gains) row 0) 65535) ≡ heldEver c k
+  held-here : (ltb 0 (getD (w .started) row 0) || ltb (getD (w .gains) row 0) noChange) ≡ heldEver c k
   held-here =
-      ap₂ (λ (a b : ℕ). ltb 0 a || ltb b 65535) started-here gain-here
+      ap₂ (λ (a b : ℕ). ltb 0 a || ltb b noChange) started-here gain-here
       ∙ sym (held-ever c k row (sym tag-here) (q .once) (omega (arith, inside, rows)) (omega (arith, rows, q .keyed .few)) turns)
 
   -- Its walk tells the country's lives, and merged with the switches its entries.
@@ -149,15 +150,15 @@ module _ (c : Campaign) (w : Cells) (q : CampaignCells c w) (run : RunEntries c 
       (omega (arith, inside, rows)) (omega (arith, inside, q .lossRows)) (omega (arith, inside, q .gainRows)))
       ∙ ap (λ (t : ℕ). livesOf c (record { 0 = t })) tag-here
 
-  entries-here : entriesAt w row ≡ entriesOf c k
+  entries-here : rowEntries w row ≡ entriesOf c k
   entries-here =
       ap₂ (λ (a b : List Entry). mergeBy byDate a b) (run row k (here .there)) lives-here ∙ sym (entries-merge c k)
 
   -- The last of the row's switches has the country's latest tag.
-  initial-here : record { 0 = key / 2048 } ≡ initialOf k
+  initial-here : record { 0 = key / keyRows } ≡ initialOf k
   initial-here = ap (λ (i : ℕ). record { 0 = i }) (here .initial)
 
-  latest-here : latestTag (w .targets) (runOf (w .runs) row) (record { 0 = key / 2048 }) ≡ nationOf c k .latest
+  latest-here : latestTag (w .targets) (runOf (w .runs) row) (record { 0 = key / keyRows }) ≡ nationOf c k .latest
   latest-here =
       ap₂ (λ (i : CountryTag) (es : List Entry). lastOr i (targets es)) initial-here (run row k (here .there))
       ∙ ap (λ (ts : List CountryTag). lastOr (initialOf k) ts) (sym (entry-targets c k))
@@ -168,12 +169,12 @@ module _ (c : Campaign) (w : Cells) (q : CampaignCells c w) (run : RunEntries c 
   -- So the key gives the country's nation, and gives it if the country is listed.
   nation-here : nationOfKey w key ≡ nationOf c k
   nation-here =
-      ap₂ (λ (i l : CountryTag). tagNation i l (getD (w .tags) row 0) (entriesAt w row)) initial-here latest-here
+      ap₂ (λ (i l : CountryTag). tagNation i l (getD (w .tags) row 0) (rowEntries w row)) initial-here latest-here
       ∙ ap₂ (λ (s : ℕ) (es : List Entry). tagNation (initialOf k) (nationOf c k .latest) s es) stored-here entries-here
 
-  mapped-here : eqb (lastWithin (key / 2048 * 2048) (key / 2048 * 2048 + 2048) (w .initials)) row ≡ isMapped (c .countries) k
+  mapped-here : eqb (lastWithin (key / keyRows * keyRows) (key / keyRows * keyRows + keyRows) (w .initials)) row ≡ isMapped (c .countries) k
   mapped-here =
-      ap (λ (l : List ℕ). eqb (lastWithin (key / 2048 * 2048) (key / 2048 * 2048 + 2048) l) row) (q .initials)
+      ap (λ (l : List ℕ). eqb (lastWithin (key / keyRows * keyRows) (key / keyRows * keyRows + keyRows) l) row) (q .initials)
       ∙ mapped-key (c .countries) (q .keyed .few) (q .once) key here
 
   key-here : keyNations w key ≡ cond (listed c k) (nationOf c k ∷ []) []
@@ -185,7 +186,7 @@ module _ (c : Campaign) (w : Cells) (q : CampaignCells c w) (run : RunEntries c 
 pub cells-nations : (c : Campaign) (w : Cells) → CampaignCells c w → RunEntries c w → nationsAt w (w .initials) ≡ nationsOf c
 cells-nations c w q run =
     let keys : List ℕ = rowKeys (initialWords (c .countries)) in
-    let few : length (c .countries) ≤ 2048 = q .keyed .few in
+    let few : length (c .countries) ≤ keyRows = q .keyed .few in
     ap (joinOf (keyNations w)) (q .initials)
     ∙ join-same (keyNations w) (λ key. cond (listed c (countryIn (c .countries) key)) (nationOf c (countryIn (c .countries) key) ∷ []) []) keys
     (all-map (λ key here. key-here c w q run key here) keys (initial-keys (c .countries) few))
@@ -194,7 +195,7 @@ cells-nations c w q run =
 -- ## Cells of a campaign can be read
 
 -- A key with an initial of 24 bits above its row.
-small-key : (n i : ℕ) → n / 2048 ≡ i → i < 16777216 → n < 8796093022208
+small-key : (n i : ℕ) → n / keyRows ≡ i → i < keyTags → n < rowKeySpan
 small-key n i e h = omega arith
 
 module _ (c : Campaign) (w : Cells) (q : CampaignCells c w) where
@@ -207,7 +208,7 @@ module _ (c : Campaign) (w : Cells) (q : CampaignCells c w) where
       all-map (λ key here. omega (arith, at-within (c .countries) (rowIn key) (countryIn (c .countries) key) (here .there))) (w .initials) keys-all
 
   -- The initial of a key is a tag.
-  key-small : (key : ℕ) → InitialKey (c .countries) key → key < 8796093022208
+  key-small : (key : ℕ) → InitialKey (c .countries) key → key < rowKeySpan
   key-small key here =
       let x : Country = countryIn (c .countries) key in
       let g : GoodCountry x = all-at GoodCountry (c .countries) (rowIn key) x (here .there) (q .sound .countries) in
@@ -218,14 +219,14 @@ module _ (c : Campaign) (w : Cells) (q : CampaignCells c w) where
 pub cells-readable : (c : Campaign) (w : Cells) → CampaignCells c w → Readable w
 cells-readable c w q =
     let ks : List Country = c .countries in
-    let few : length (w .keys) ≤ 65535 = omega (arith, q .few) in
+    let few : length (w .keys) ≤ noChange = omega (arith, q .few) in
     let count : Country → ℕ = λ k. countOf (matches (k .tag)) (startHolders c) in
     let all-tags : length (w .tags) ≡ length ks = ap length (q .tags) ∙ length-map ks (λ k. k .tag .0) in
     let all-started : length (w .started) ≡ length ks = ap length (q .started) ∙ length-map ks count in
     let all-initials : length (w .initials) ≡ length ks =
     ap length (q .initials)
     ∙ length-sort leb (wordKeys 0 (initialWords ks))
-    ∙ length-keys 0 (initialWords ks)
+    ∙ length-word-keys 0 (initialWords ks)
     ∙ length-map ks (λ k. initialOf k .0) in
     record {
       chained =
@@ -241,5 +242,5 @@ cells-readable c w q =
       words = all-map (key-small c w q) (w .initials) (keys-all c w q);
       started =
           rw (q .started)
-          (all-images (λ n. n ≤ 65536) count (λ k. omega (arith, count-le (matches (k .tag)) (startHolders c), length-start c, q .slots)) ks);
+          (all-images (λ n. n ≤ half) count (λ k. omega (arith, count-le (matches (k .tag)) (startHolders c), length-start c, q .slots)) ks);
     }

@@ -14,15 +14,16 @@ use Rattle.lists.specs.Lists.{countOf}
 use Rattle.lists.proofs.BoolLaws.{and-left, and-right}
 use Rattle.sorting.specs.Sort.{sortBy}
 use Rattle.record.specs.declared.cursors.Provinces.{Provinces}
-use Rattle.record.specs.declared.date.Eu4Date.{Eu4Date}
-use Rattle.record.specs.Campaign.{Campaign, campaignOf}
-use Rattle.record.specs.Refusal.{refusal}
+use Rattle.format.specs.declared.date.Eu4Date.{Eu4Date}
+use Rattle.format.specs.Campaign.{Campaign, campaignOf}
+use Rattle.format.specs.Refusal.{refusal}
 use Rattle.rules.specs.Chronicle.{Nation}
 use Rattle.rules.specs.Lent.{fits, written}
-use Rattle.rules.specs.Changes.{changesOf, changeRows}
-use Rattle.owner_changes.specs.ChangeSteps.{Ready, entered, keysFrom}
+use Rattle.rules.specs.Changes.{changesOf, changeRows, changeWidth}
+use Rattle.owner_changes.specs.ChangeSteps.{AtFirstProvince, entered, changeKeysFrom}
 use Rattle.rules.specs.Nations.{nationsOf, matches, slotsOf, movesOf, lastHolder, holdersOf, heldOf}
 use Rattle.rules.proofs.CampaignLaws.{length-slots}
+use Rattle.nations.specs.Layout.{half}
 use Rattle.nations.specs.Countries.{tagWords}
 use Rattle.nations.specs.Holders.{slotCell, SlotsPut}
 use Rattle.nations.proofs.slots.HoldersLaws.{holder-words, held-counted}
@@ -53,7 +54,7 @@ pub record AllRoom (c : Campaign) (nations₀ entries₀ holders₀ held₀ chan
   pub entries : length (entryWords (nationsOf c)) ≤ length entries₀
   pub holders : length (map holderWord (holdersOf c)) ≤ length holders₀
   pub held : length (heldOf c) ≤ length held₀
-  pub changes : 4 * length (changesOf c) ≤ length changes₀
+  pub changes : changeWidth * length (changesOf c) ≤ length changes₀
 
 module _ (c : Campaign) (nations₀ entries₀ holders₀ held₀ changes₀ : List ℕ) where
   pub all-room : allFit (cellsOf (answersOf c)) (nationCells nations₀ entries₀ holders₀ held₀ changes₀) ≡ true
@@ -132,7 +133,7 @@ module _ (xs : List ℕ) (words initials runs targets firsts started keys turns 
 
   -- There is room for the words of holders, and for the slots held.
   pub slots-asked : (nations₀ entries₀ holders₀ held₀ changes₀ : List ℕ) → AllRoom c nations₀ entries₀ holders₀ held₀ changes₀
-      → (length slots ≤ length holders₀) × (length words ≤ length held₀) × (length slots ≤ 65536)
+      → (length slots ≤ length holders₀) × (length words ≤ length held₀) × (length slots ≤ half)
   unfolding heldOf holdersOf
   slots-asked nations₀ entries₀ holders₀ held₀ changes₀ room =
       let a = slots-there in
@@ -147,10 +148,10 @@ module _ (xs : List ℕ) (words initials runs targets firsts started keys turns 
       (omega arith, omega arith, omega arith)
 
   -- What the writing of changes asks.
-  pub sorted-asked : (provinces : Provinces) → Ready xs provinces → (nations₀ entries₀ holders₀ held₀ changes₀ : List ℕ)
+  pub sorted-asked : (provinces : Provinces) → AtFirstProvince xs provinces → (nations₀ entries₀ holders₀ held₀ changes₀ : List ℕ)
       → AllRoom c nations₀ entries₀ holders₀ held₀ changes₀
-      → (Ready xs provinces × (keys ≡ sortBy leb (keysFrom 0 (entered xs))))
-      × ((length (take (length keys - 0) targets) ≡ length keys) × (4 * length keys ≤ length changes₀))
+      → (AtFirstProvince xs provinces × (keys ≡ sortBy leb (changeKeysFrom 0 (entered xs))))
+      × ((length (take (length keys - 0) targets) ≡ length keys) × (changeWidth * length keys ≤ length changes₀))
   sorted-asked provinces ready nations₀ entries₀ holders₀ held₀ changes₀ room =
       let count : length keys ≡ length (changesOf c) = sorted-count xs keys (q .sorted) in
       let tags : length (take (length keys - 0) targets) ≡ length keys =

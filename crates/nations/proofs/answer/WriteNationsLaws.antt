@@ -10,11 +10,11 @@ use Rattle.lists.proofs.ListLaws.{join-append, length-join}
 use Rattle.lists.proofs.WriteLaws.{Behind, Writing, writing-none, writing-more, writing-done}
 use Rattle.nations.specs.declared.listing.Listed.{Listed}
 use Rattle.rules.specs.Chronicle.{Entry, Nation}
-use Rattle.rules.specs.NationRows.{NationRow, nationWidth, nationRowWords, nationRowsFrom, entryRow, entryRowWords, nationWords, entryWords}
+use Rattle.rules.specs.NationRows.{NationRow, nationWidth, nationRowWords, nationRowsFrom, entryRow, entryRowWords, nationWords, entryWords, entryWidth}
 use Rattle.nations.specs.Listing.{Cells, keyNations, nationsAt, listedOf}
 use Rattle.nations.specs.Listing.{Readable, NationsRoom, NationsWritten}
 use Rattle.rules.proofs.RowLaws.{allEntries, length-rowsFrom, length-nationWords, length-entryWords}
-use Rattle.nations.proofs.answer.ListingLaws.{key-short, nations-next, nations-end}
+use Rattle.nations.proofs.answer.ListingLaws.{key-short, key-nations-next, nations-end}
 
 -- The words of the rows of nations, the first of whose entries has a number.
 abbrev pub rowsWords : ℕ → List Nation → List ℕ
@@ -40,9 +40,9 @@ words-append first xs ys =
     ∙ join-append nationRowWords (nationRowsFrom first xs) (nationRowsFrom (first + length (allEntries xs)) ys)
 
 -- A row has five words.
-length-words : (first : ℕ) (ns : List Nation) → length (rowsWords first ns) ≡ 5 * length ns
-length-words first ns =
-    length-join nationWidth nationRowWords (λ r. refl) (nationRowsFrom first ns) ∙ ap (λ (n : ℕ). 5 * n) (length-rowsFrom first ns)
+length-rows-words : (first : ℕ) (ns : List Nation) → length (rowsWords first ns) ≡ nationWidth * length ns
+length-rows-words first ns =
+    length-join nationWidth nationRowWords (λ r. refl) (nationRowsFrom first ns) ∙ ap (λ (n : ℕ). nationWidth * n) (length-rowsFrom first ns)
 
 -- The words of entries, one behind the other.
 entries-append : (xs ys : List Nation) → entryWords (xs ++ ys) ≡ entryWords xs ++ entryWords ys
@@ -55,8 +55,8 @@ entries-append xs ys =
 pub record Listing (w : Cells) (rows₀ entries₀ : List ℕ) (i n first : ℕ) (rows entries : List ℕ) : Type 0 where
   pub inside : i ≤ length (w .initials)
   pub short : first ≤ 163840 * i
-  pub nations : Writing (nationWords (nationsAt w (w .initials))) (rowsWords first (nationsAt w (drop i (w .initials)))) rows₀ (5 * n) rows
-  pub lives : Writing (entryWords (nationsAt w (w .initials))) (entryWords (nationsAt w (drop i (w .initials)))) entries₀ (3 * first) entries
+  pub nations : Writing (nationWords (nationsAt w (w .initials))) (rowsWords first (nationsAt w (drop i (w .initials)))) rows₀ (nationWidth * n) rows
+  pub lives : Writing (entryWords (nationsAt w (w .initials))) (entryWords (nationsAt w (drop i (w .initials)))) entries₀ (entryWidth * first) entries
 
 module _ (w : Cells) where
   -- At first nothing is written.
@@ -80,18 +80,18 @@ module _ (w : Cells) where
 
       -- What is left begins with the nation of the key at i.
       next : nationsAt w (drop i (w .initials)) ≡ here ++ rest
-      next = nations-next w (w .initials) i h
+      next = key-nations-next w (w .initials) i h
 
       -- So do the words of the rows.
       row-words : rowsWords first (nationsAt w (drop i (w .initials))) ≡ rowsWords first here ++ rowsWords (first + length (allEntries here)) rest
       row-words = ap (rowsWords first) next ∙ words-append first here rest
 
       -- So do the words of the entries.
-      entry-words : entryWords (nationsAt w (drop i (w .initials))) ≡ entryWords here ++ entryWords rest
-      entry-words = ap entryWords next ∙ entries-append here rest
+      entry-words-next : entryWords (nationsAt w (drop i (w .initials))) ≡ entryWords here ++ entryWords rest
+      entry-words-next = ap entryWords next ∙ entries-append here rest
 
       -- The next nation finds room.
-      pub rows-fit : 5 * n + length (rowsWords first here) ≤ length rows
+      pub rows-fit : nationWidth * n + length (rowsWords first here) ≤ length rows
       rows-fit =
           omega (
             arith,
@@ -102,46 +102,46 @@ module _ (w : Cells) where
           )
 
       -- Its entries find room.
-      pub entries-fit : 3 * first + length (entryWords here) ≤ length entries
+      pub entries-fit : entryWidth * first + length (entryWords here) ≤ length entries
       entries-fit =
-          omega (arith, l .lives .fits, l .lives .long, ap length entry-words, length-append (entryWords here) (entryWords rest))
+          omega (arith, l .lives .fits, l .lives .long, ap length entry-words-next, length-append (entryWords here) (entryWords rest))
 
       -- The numbers stay in the slices.
-      pub nations-inside : (r : Listed) → r ≡ listedOf here → 5 * (n + r .nations) ≤ length rows
-      nations-inside r e = rw e (omega (arith, rows-fit, length-words first here))
+      pub nations-inside : (r : Listed) → r ≡ listedOf here → nationWidth * (n + r .nations) ≤ length rows
+      nations-inside r e = rw e (omega (arith, rows-fit, length-rows-words first here))
 
-      pub entries-inside : (r : Listed) → r ≡ listedOf here → 3 * (first + r .entries) ≤ length entries
+      pub entries-inside : (r : Listed) → r ≡ listedOf here → entryWidth * (first + r .entries) ≤ length entries
       entries-inside r e = rw e (omega (arith, entries-fit, length-entryWords here))
 
       -- So the tails that are lent have room.
-      pub listing-room : NationsRoom here (take (length rows - 5 * n) (drop (5 * n) rows)) (take (length entries - 3 * first) (drop (3 * first) entries))
+      pub listing-room : NationsRoom here (take (length rows - nationWidth * n) (drop (nationWidth * n) rows)) (take (length entries - entryWidth * first) (drop (entryWidth * first) entries))
       listing-room =
-          let row-tail = length-take-le (length rows - 5 * n) (drop (5 * n) rows) (omega (arith, length-drop (5 * n) rows)) in
+          let row-tail = length-take-le (length rows - nationWidth * n) (drop (nationWidth * n) rows) (omega (arith, length-drop (nationWidth * n) rows)) in
           let entry-tail =
-          length-take-le (length entries - 3 * first) (drop (3 * first) entries) (omega (arith, length-drop (3 * first) entries)) in
+          length-take-le (length entries - entryWidth * first) (drop (entryWidth * first) entries) (omega (arith, length-drop (entryWidth * first) entries)) in
           record {
-            rows = omega (arith, row-tail, rows-fit, length-words first here, length-nationWords here);
+            rows = omega (arith, row-tail, rows-fit, length-rows-words first here, length-nationWords here);
             entries = omega (arith, entry-tail, entries-fit);
           }
 
       -- It is written behind the others.
       pub listing-more : Readable w → (r : Listed) → r ≡ listedOf here → (rows′ entries′ : List ℕ)
-          → Behind rows (rowsWords first here) (5 * n) rows′ → Behind entries (entryWords here) (3 * first) entries′
+          → Behind rows (rowsWords first here) (nationWidth * n) rows′ → Behind entries (entryWords here) (entryWidth * first) entries′
           → Listing w rows₀ entries₀ (i + 1) (n + r .nations) (first + r .entries) rows′ entries′
       listing-more readable r e rows′ entries′ a b =
-          let nations-more : 5 * (n + length here) ≡ 5 * n + length (rowsWords first here) = omega (arith, length-words first here) in
-          let entries-more : 3 * (first + length (allEntries here)) ≡ 3 * first + length (entryWords here) = omega (arith, length-entryWords here) in
+          let nations-more : nationWidth * (n + length here) ≡ nationWidth * n + length (rowsWords first here) = omega (arith, length-rows-words first here) in
+          let entries-more : entryWidth * (first + length (allEntries here)) ≡ entryWidth * first + length (entryWords here) = omega (arith, length-entryWords here) in
           rw e
           (record {
             inside = omega arith;
             short = omega (arith, l .short, key-short w readable (getD (w .initials) i 0));
             nations =
                 rw nations-more
-                (writing-more _ _ (rowsWords (first + length (allEntries here)) rest) _ (rowsWords first here) rows rows′ (5 * n) row-words
+                (writing-more _ _ (rowsWords (first + length (allEntries here)) rest) _ (rowsWords first here) rows rows′ (nationWidth * n) row-words
                 (l .nations) a);
             lives =
                 rw entries-more
-                (writing-more _ _ (entryWords rest) _ (entryWords here) entries entries′ (3 * first) entry-words (l .lives) b);
+                (writing-more _ _ (entryWords rest) _ (entryWords here) entries entries′ (entryWidth * first) entry-words-next (l .lives) b);
           })
 
     -- All nations are written.
@@ -150,6 +150,6 @@ module _ (w : Cells) where
     listing-done h =
         let none : nationsAt w (drop i (w .initials)) ≡ [] = nations-end w (w .initials) i h in
         record {
-          rows = writing-done _ rows₀ rows (5 * n) (rw none at (l .nations));
-          entries = writing-done _ entries₀ entries (3 * first) (rw none at (l .lives));
+          rows = writing-done _ rows₀ rows (nationWidth * n) (rw none at (l .nations));
+          entries = writing-done _ entries₀ entries (entryWidth * first) (rw none at (l .lives));
         }

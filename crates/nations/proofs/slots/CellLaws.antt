@@ -14,14 +14,15 @@ use Rattle.lists.proofs.BoolLaws.{cases}
 use Rattle.lists.proofs.FillLaws.{Filling}
 use Rattle.lists.proofs.ListLaws.{length-numbers, numbers-at, count-append, count-le}
 use Rattle.rules.specs.Lent.{written}
-use Rattle.nations.specs.Turning.{lows}
+use Rattle.nations.specs.Layout.{half}
+use Rattle.nations.specs.Turning.{lowHalves}
 use Rattle.nations.specs.Holders.{slotCounts}
 
 -- ## Lists
 
 -- A front of elements before others, found by its length.
-pub front : {A : Type 0} (n : ℕ) (part all rest : List A) → part ≡ all → length all ≡ n → take n (part ++ rest) ≡ all
-front n part all rest e l = take-at part rest n (ap length e ∙ l) ∙ e
+pub front-is : {A : Type 0} (n : ℕ) (part all rest : List A) → part ≡ all → length all ≡ n → take n (part ++ rest) ≡ all
+front-is n part all rest e l = take-at part rest n (ap length e ∙ l) ∙ e
 
 -- A cell that is not yet written is as it was.
 pub filling-kept : {A : Type 0} (all rest before : List A) (k : ℕ) (now : List A) (d : A) → Filling all rest before k now → getD now k d ≡ getD before k d
@@ -36,12 +37,12 @@ filling-kept all rest before k now d f =
 -- ## Counting the slots of each row
 
 -- No slot is counted yet.
-zeros : (a : ℕ) (l : List ℕ) → map {B = ℕ} (λ _. 0) l ≡ map {B = ℕ} (λ _. 0) (numbersFrom a (length l))
-zeros a [] = refl
-zeros a (x ∷ l) = ap (λ (m : List ℕ). 0 ∷ m) (zeros (suc a) l)
+cleared-counts : (a : ℕ) (l : List ℕ) → map {B = ℕ} (λ _. 0) l ≡ map {B = ℕ} (λ _. 0) (numbersFrom a (length l))
+cleared-counts a [] = refl
+cleared-counts a (x ∷ l) = ap (λ (m : List ℕ). 0 ∷ m) (cleared-counts (suc a) l)
 
 pub counts-none : (l : List ℕ) → map (λ _. 0) l ≡ slotCounts [] (length l)
-counts-none l = zeros 0 l
+counts-none l = cleared-counts 0 l
 
 -- A cell for each row.
 pub length-counts : (rows : List ℕ) (n : ℕ) → length (slotCounts rows n) ≡ n
@@ -54,8 +55,8 @@ count-at rows n r h =
     numbers-at (λ i. countOf (λ x. eqb x i) rows) 0 0 n r h ∙ ap (λ (i : ℕ). countOf (λ x. eqb x i) rows) sum
 
 -- A row has no more slots than there are.
-pub count-small : (rows : List ℕ) (n r : ℕ) → r < n → getD (slotCounts rows n) r 0 ≤ length rows
-count-small rows n r h = omega (arith, count-at rows n r h, count-le (λ x. eqb x r) rows)
+pub slot-count-small : (rows : List ℕ) (n r : ℕ) → r < n → getD (slotCounts rows n) r 0 ≤ length rows
+slot-count-small rows n r h = omega (arith, count-at rows n r h, count-le (λ x. eqb x r) rows)
 
 -- One slot more: its row has one more, if it is one.
 counts-more : (rows : List ℕ) (x n : ℕ) → set (slotCounts rows n) x (getD (slotCounts rows n) x 0 + 1) ≡ slotCounts (rows ++ (x ∷ [])) n
@@ -101,11 +102,11 @@ counts-written rows before counts n h e =
 -- The slots before i are counted, by the rows in their cells.
 pub record SlotsCounting (slots counts₀ counts : List ℕ) (i : ℕ) : Type 0 where
   pub inside : i ≤ length slots
-  pub cells : counts ≡ slotCounts (take i (lows slots)) (length counts₀)
+  pub cells : counts ≡ slotCounts (take i (lowHalves slots)) (length counts₀)
 
 -- Cells of 0 count no slot.
-pub counting-none : (slots before counts : List ℕ) → counts ≡ map (λ _. 0) before → SlotsCounting slots counts counts 0
-counting-none slots before counts e =
+pub slots-counting-none : (slots before counts : List ℕ) → counts ≡ map (λ _. 0) before → SlotsCounting slots counts counts 0
+slots-counting-none slots before counts e =
     record {
       inside = omega arith;
       cells = e ∙ counts-none before ∙ ap (slotCounts []) (sym (ap length e ∙ length-map before (λ _. 0)));
@@ -113,54 +114,54 @@ counting-none slots before counts e =
 
 module _ (slots counts₀ counts : List ℕ) (i : ℕ) (q : SlotsCounting slots counts₀ counts i) where
   -- As many cells as at first.
-  pub counting-long : length counts ≡ length counts₀
-  counting-long = ap length (q .cells) ∙ length-counts (take i (lows slots)) (length counts₀)
+  pub slots-counting-long : length counts ≡ length counts₀
+  slots-counting-long = ap length (q .cells) ∙ length-counts (take i (lowHalves slots)) (length counts₀)
 
   -- As many rows as slots.
-  rows-long : length (lows slots) ≡ length slots
-  rows-long = length-map slots (λ x. x % 65536)
+  rows-long : length (lowHalves slots) ≡ length slots
+  rows-long = length-map slots (λ x. x % half)
 
   module _ (h : i < length slots) where
     -- The row in the next slot's cell.
-    row-here : getD (lows slots) i 0 ≡ getD slots i 0 % 65536
-    row-here = List·getD-map (λ x. x % 65536) slots i 0
+    row-low-half : getD (lowHalves slots) i 0 ≡ getD slots i 0 % half
+    row-low-half = List·getD-map (λ x. x % half) slots i 0
 
     -- So few that one more has room.
-    pub counting-few : (row : ℕ) → row < length counts → getD counts row 0 ≤ i
-    counting-few row l =
+    pub slots-counting-few : (row : ℕ) → row < length counts → getD counts row 0 ≤ i
+    slots-counting-few row l =
         let r = rows-long in
         let n = q .inside in
         omega (
           arith,
           ap (λ (l : List ℕ). getD l row 0) (q .cells),
-          count-small (take i (lows slots)) (length counts₀) row (omega (arith, counting-long)),
-          length-take-le i (lows slots) (omega arith),
+          slot-count-small (take i (lowHalves slots)) (length counts₀) row (omega (arith, slots-counting-long)),
+          length-take-le i (lowHalves slots) (omega arith),
         )
 
     -- The next slot is counted.
-    pub counting-next : SlotsCounting slots counts₀ (set counts (getD slots i 0 % 65536) (getD counts (getD slots i 0 % 65536) 0 + 1)) (i + 1)
-    counting-next =
+    pub slots-counting-next : SlotsCounting slots counts₀ (set counts (getD slots i 0 % half) (getD counts (getD slots i 0 % half) 0 + 1)) (i + 1)
+    slots-counting-next =
         let r = rows-long in
         record {
           inside = omega arith;
           cells =
-              ap (λ (n : ℕ). set counts n (getD counts n 0 + 1)) (sym row-here)
-              ∙ ap (λ (l : List ℕ). set l (getD (lows slots) i 0) (getD l (getD (lows slots) i 0) 0 + 1)) (q .cells)
-              ∙ counts-next (lows slots) i (length counts₀) (omega arith);
+              ap (λ (n : ℕ). set counts n (getD counts n 0 + 1)) (sym row-low-half)
+              ∙ ap (λ (l : List ℕ). set l (getD (lowHalves slots) i 0) (getD l (getD (lowHalves slots) i 0) 0 + 1)) (q .cells)
+              ∙ counts-next (lowHalves slots) i (length counts₀) (omega arith);
         }
 
     -- It has no row.
-    pub counting-past : length counts ≤ getD slots i 0 % 65536 → SlotsCounting slots counts₀ counts (i + 1)
-    counting-past l =
+    pub slots-counting-past : length counts ≤ getD slots i 0 % half → SlotsCounting slots counts₀ counts (i + 1)
+    slots-counting-past l =
         let r = rows-long in
-        let e = row-here in
+        let e = row-low-half in
         record {
           inside = omega arith;
-          cells = q .cells ∙ counts-outside (lows slots) i (length counts₀) (omega arith) (omega (arith, counting-long));
+          cells = q .cells ∙ counts-outside (lowHalves slots) i (length counts₀) (omega arith) (omega (arith, slots-counting-long));
         }
 
   -- All slots are counted.
-  pub counting-done : (before : List ℕ) → counts₀ ≡ map (λ _. 0) before → length slots ≤ i → counts ≡ slotCounts (lows slots) (length before)
-  counting-done before e h =
+  pub slots-counting-done : (before : List ℕ) → counts₀ ≡ map (λ _. 0) before → length slots ≤ i → counts ≡ slotCounts (lowHalves slots) (length before)
+  slots-counting-done before e h =
       let r = rows-long in
-      q .cells ∙ ap₂ slotCounts (take-all i (lows slots) (omega arith)) (ap length e ∙ length-map before (λ _. 0))
+      q .cells ∙ ap₂ slotCounts (take-all i (lowHalves slots) (omega arith)) (ap length e ∙ length-map before (λ _. 0))

@@ -10,18 +10,19 @@ use lib.Dec.{ltb, eqb}
 use lib.ListN.{length, getD, set, take, drop, length-set, length-map, length-take, List·getD-append, List·getD-map}
 use lib.Seq.{take-length, drop-length, take-suc, drop-cons, append-snoc, set-at, length-take-le, getD-take, getD-drop, drop-drop, getD-set-same, getD-set-other, map-set-same, set-out}
 use Rattle.lists.proofs.BoolLaws.{cases}
-use Rattle.nations.specs.Turning.{highs, lows, firstAt, linksFrom, Fresh, Linked, TurnsLinked, Pushed, LossPushed, GainPushed}
+use Rattle.nations.specs.Layout.{wordSpan, half, noChange}
+use Rattle.nations.specs.Turning.{highHalves, lowHalves, firstAt, linksFrom, Fresh, Linked, TurnsLinked, Pushed, LossPushed, GainPushed}
 
 -- ## Linking
 
 pub record Linking (rows links heads : List ℕ) (k : ℕ) : Type 0 where
   pub inside : k ≤ length rows
-  pub few : length rows ≤ 65535
+  pub few : length rows ≤ noChange
   pub long : length links ≡ length rows
   pub cells : links ≡ take k rows ++ linksFrom (length heads) k (drop k rows)
   pub firsts : (r : ℕ) → r < length heads → getD heads r 0 ≡ firstAt r k (drop k rows)
 
-pub linking-none : (rows heads : List ℕ) → length rows ≤ 65535 → Fresh heads → Linking rows rows heads (length rows)
+pub linking-none : (rows heads : List ℕ) → length rows ≤ noChange → Fresh heads → Linking rows rows heads (length rows)
 unfolding firstAt linksFrom
 linking-none rows heads few fresh =
     record {
@@ -45,7 +46,7 @@ module _ (rows links heads : List ℕ) (j r : ℕ) (after : List ℕ) (inside : 
       ap (λ (l : List ℕ). getD l j 0) (i .cells)
       ∙ (List·getD-append (take (suc j) rows) (linksFrom (length heads) (suc j) (drop (suc j) rows)) 0 j l ∙ getD-take (suc j) rows j 0 (omega arith))
 
-  linked : r ≡ cond (ltb (getD rows j 0) (length heads)) (firstAt (getD rows j 0) (suc j) (drop (suc j) rows)) 65535
+  linked : r ≡ cond (ltb (getD rows j 0) (length heads)) (firstAt (getD rows j 0) (suc j) (drop (suc j) rows)) noChange
   linked =
       p .next
       ∙ rw row-kept
@@ -101,10 +102,10 @@ map-set f (x ∷ l) zero v = refl
 map-set f (x ∷ l) (suc i) v = ap (λ (m : List _). f x ∷ m) (map-set f l i v)
 
 -- The two halves of a cell.
-half-high : (a b : ℕ) → b < 65536 → (a * 65536 + b) / 65536 ≡ a
+half-high : (a b : ℕ) → b < half → (a * half + b) / half ≡ a
 half-high a b h = omega arith
 
-half-low : (a b : ℕ) → b < 65536 → (a * 65536 + b) % 65536 ≡ b
+half-low : (a b : ℕ) → b < half → (a * half + b) % half ≡ b
 half-low a b h = omega arith
 
 module _ (firsts : List ℕ) (row k : ℕ) where
@@ -112,16 +113,16 @@ module _ (firsts : List ℕ) (row k : ℕ) where
   cell = getD firsts row 0
 
   -- No row has this number: nothing is pushed.
-  none-pushed : (f : ℕ → ℕ) → length firsts ≤ row → Pushed (map f firsts) row k 65535 (map f firsts)
+  none-pushed : (f : ℕ → ℕ) → length firsts ≤ row → Pushed (map f firsts) row k noChange (map f firsts)
   none-pushed f h =
       let past : length (map f firsts) ≤ row = omega (arith, length-map firsts f) in
       record { next = simp (le-ltb row (length (map f firsts)) past); cells = sym (set-out (map f firsts) row k past) }
 
-  pub loss-outside : length firsts ≤ row → LossPushed firsts row k 65535 firsts
-  loss-outside h = record { loss = none-pushed (λ x. x / 65536) h; gain = refl; small = omega arith }
+  pub loss-outside : length firsts ≤ row → LossPushed firsts row k noChange firsts
+  loss-outside h = record { loss = none-pushed (λ x. x / half) h; gain = refl; small = omega arith }
 
-  pub gain-outside : length firsts ≤ row → GainPushed firsts row k 65535 firsts
-  gain-outside h = record { gain = none-pushed (λ x. x % 65536) h; loss = refl; small = omega arith }
+  pub gain-outside : length firsts ≤ row → GainPushed firsts row k noChange firsts
+  gain-outside h = record { gain = none-pushed (λ x. x % half) h; loss = refl; small = omega arith }
 
   -- A row has it: its half of the cell is pushed.
   half-pushed : (f : ℕ → ℕ) (v : ℕ) → f 0 ≡ 0 → f v ≡ k → row < length firsts → Pushed (map f firsts) row k (f cell) (map f (set firsts row v))
@@ -134,38 +135,38 @@ module _ (firsts : List ℕ) (row k : ℕ) where
         cells = map-set f firsts row v ∙ ap (set (map f firsts) row) e;
       }
 
-  pub loss-inside : row < length firsts → cell < 4294967296 → LossPushed firsts row k (cell / 65536) (set firsts row (k * 65536 + cell % 65536))
+  pub loss-inside : row < length firsts → cell < wordSpan → LossPushed firsts row k (cell / half) (set firsts row (k * half + cell % half))
   loss-inside h small =
-      let v : ℕ = k * 65536 + cell % 65536 in
+      let v : ℕ = k * half + cell % half in
       record {
-        loss = half-pushed (λ x. x / 65536) v refl (half-high k (cell % 65536) (omega arith)) h;
-        gain = map-set-same (λ x. x % 65536) firsts row v 0 (half-low k (cell % 65536) (omega arith));
+        loss = half-pushed (λ x. x / half) v refl (half-high k (cell % half) (omega arith)) h;
+        gain = map-set-same (λ x. x % half) firsts row v 0 (half-low k (cell % half) (omega arith));
         small = omega arith;
       }
 
-  pub gain-inside : row < length firsts → k < 65536 → GainPushed firsts row k (cell % 65536) (set firsts row (cell / 65536 * 65536 + k))
+  pub gain-inside : row < length firsts → k < half → GainPushed firsts row k (cell % half) (set firsts row (cell / half * half + k))
   gain-inside h small =
-      let v : ℕ = cell / 65536 * 65536 + k in
+      let v : ℕ = cell / half * half + k in
       record {
-        gain = half-pushed (λ x. x % 65536) v refl (half-low (cell / 65536) k small) h;
-        loss = map-set-same (λ x. x / 65536) firsts row v 0 (half-high (cell / 65536) k small);
+        gain = half-pushed (λ x. x % half) v refl (half-low (cell / half) k small) h;
+        loss = map-set-same (λ x. x / half) firsts row v 0 (half-high (cell / half) k small);
         small = omega arith;
       }
 
 -- Both chains are linked from change k on.
 pub record BothLinking (turns₀ firsts₀ turns firsts : List ℕ) (k : ℕ) : Type 0 where
-  pub losses : Linking (highs turns₀) (highs turns) (highs firsts) k
-  pub gains : Linking (lows turns₀) (lows turns) (lows firsts) k
+  pub losses : Linking (highHalves turns₀) (highHalves turns) (highHalves firsts) k
+  pub gains : Linking (lowHalves turns₀) (lowHalves turns) (lowHalves firsts) k
   pub inside : k ≤ length turns₀
   pub long : length turns ≡ length turns₀
   pub rows : length firsts ≡ length firsts₀
 
-pub both-none : (turns firsts : List ℕ) → length turns ≤ 65535 → Fresh (highs firsts) → Fresh (lows firsts)
+pub both-none : (turns firsts : List ℕ) → length turns ≤ noChange → Fresh (highHalves firsts) → Fresh (lowHalves firsts)
     → BothLinking turns firsts turns firsts (length turns)
 both-none turns firsts few loss gain =
     record {
-      losses = begin (λ x. x / 65536) loss;
-      gains = begin (λ x. x % 65536) gain;
+      losses = begin (λ x. x / half) loss;
+      gains = begin (λ x. x % half) gain;
       inside = omega arith;
       long = refl;
       rows = refl;
@@ -187,24 +188,24 @@ half-step f turns₀ turns firsts after k r v z e h i p =
 
 module _ (turns₀ firsts₀ turns firsts : List ℕ) (k : ℕ) (b : BothLinking turns₀ firsts₀ turns firsts k) where
   -- Both halves of change k - 1 are pushed.
-  pub both-step : 0 < k → (loss gain : ℕ) (after last : List ℕ) → LossPushed firsts (getD turns (k - 1) 0 / 65536) (k - 1) loss after
-      → GainPushed after (getD turns (k - 1) 0 % 65536) (k - 1) gain last → BothLinking turns₀ firsts₀ (set turns (k - 1) (loss * 65536 + gain)) last (k - 1)
+  pub both-step : 0 < k → (loss gain : ℕ) (after last : List ℕ) → LossPushed firsts (getD turns (k - 1) 0 / half) (k - 1) loss after
+      → GainPushed after (getD turns (k - 1) 0 % half) (k - 1) gain last → BothLinking turns₀ firsts₀ (set turns (k - 1) (loss * half + gain)) last (k - 1)
   both-step h loss gain after last p q =
-      let v : ℕ = loss * 65536 + gain in
+      let v : ℕ = loss * half + gain in
       record {
         losses =
             rw (q .loss)
-            (half-step (λ x. x / 65536) turns₀ turns (highs firsts) (highs after) k loss v refl (half-high loss gain (q .small)) h (b .losses) (p .loss));
+            (half-step (λ x. x / half) turns₀ turns (highHalves firsts) (highHalves after) k loss v refl (half-high loss gain (q .small)) h (b .losses) (p .loss));
         gains =
-            half-step (λ x. x % 65536) turns₀ turns (lows firsts) (lows last) k gain v refl (half-low loss gain (q .small)) h (b .gains)
+            half-step (λ x. x % half) turns₀ turns (lowHalves firsts) (lowHalves last) k gain v refl (half-low loss gain (q .small)) h (b .gains)
             (rw (p .gain) at (q .gain));
         inside = let i = b .inside in omega arith;
         long = length-set turns (k - 1) v ∙ b .long;
         rows =
-            let i = length-map last (λ x. x % 65536) in
-            let j = length-map after (λ x. x / 65536) in
-            let i′ = length-map after (λ x. x % 65536) in
-            let j′ = length-map firsts (λ x. x / 65536) in
+            let i = length-map last (λ x. x % half) in
+            let j = length-map after (λ x. x / half) in
+            let i′ = length-map after (λ x. x % half) in
+            let j′ = length-map firsts (λ x. x / half) in
             let x = pushed-long _ _ _ _ _ (p .loss) in
             let y = pushed-long _ _ _ _ _ (q .gain) in
             let l = b .rows in
@@ -217,7 +218,7 @@ module _ (turns₀ firsts₀ turns firsts : List ℕ) (k : ℕ) (b : BothLinking
 -- ## Links
 
 -- What is found from k on is not before k.
-pub first-from : (x k : ℕ) (ys : List ℕ) → k + length ys ≤ 65535 → k ≤ firstAt x k ys
+pub first-from : (x k : ℕ) (ys : List ℕ) → k + length ys ≤ noChange → k ≤ firstAt x k ys
 unfolding firstAt
 first-from x k [] h = omega arith
 first-from x k (y ∷ ys) h =
@@ -228,7 +229,7 @@ unfolding linksFrom
 length-links m k [] = refl
 length-links m k (x ∷ xs) = ap suc (length-links m (suc k) xs)
 
-pub links-rise : (m k : ℕ) (rows : List ℕ) (i : ℕ) → k + length rows ≤ 65535 → i < length rows → k + i < getD (linksFrom m k rows) i 0
+pub links-rise : (m k : ℕ) (rows : List ℕ) (i : ℕ) → k + length rows ≤ noChange → i < length rows → k + i < getD (linksFrom m k rows) i 0
 unfolding linksFrom
 links-rise m k [] i h l = absurd (omega arith)
 links-rise m k (x ∷ xs) zero h l =
@@ -241,7 +242,7 @@ links-rise m k (x ∷ xs) (suc i) h l = omega (arith, links-rise m (suc k) xs i 
 pub record OnChain (links : List ℕ) (m r k : ℕ) (rows : List ℕ) (at : ℕ) : Type 0 where
   pub cells : drop k links ≡ linksFrom m k rows
   pub next : at ≡ firstAt r k rows
-  pub few : k + length rows ≤ 65535
+  pub few : k + length rows ≤ noChange
 
 module _ (links : List ℕ) (m r k x : ℕ) (rows : List ℕ) (at : ℕ) (on : OnChain links m r k (x ∷ rows) at) where
   -- Change k is the next one if it is of that row.
@@ -254,7 +255,7 @@ module _ (links : List ℕ) (m r k x : ℕ) (rows : List ℕ) (at : ℕ) (on : O
       let g : at ≡ firstAt r (suc k) rows = on .next ∙ simp e in
       ne-eqb at k (λ w. omega arith) ∙ sym e)
 
-  link-here : getD links k 0 ≡ cond (ltb x m) (firstAt x (suc k) rows) 65535
+  link-here : getD links k 0 ≡ cond (ltb x m) (firstAt x (suc k) rows) noChange
   unfolding linksFrom
   link-here =
       let e : k + 0 ≡ k = omega arith in

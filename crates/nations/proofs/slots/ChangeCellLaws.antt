@@ -14,18 +14,19 @@ use Rattle.lists.proofs.BoolLaws.{cases}
 use Rattle.lists.proofs.ElementLaws.{at-inside, at-end, map-same, same-each}
 use Rattle.lists.proofs.ListLaws.{all-map, all-join, map-then}
 use Rattle.sorting.specs.Sort.{sortBy}
-use Rattle.sorting.proofs.KeyLaws.{sort-again}
+use Rattle.sorting.proofs.SortedKeyLaws.{sort-again}
 use Rattle.sorting.proofs.SortLaws.{all-sort, length-sort}
-use Rattle.record.specs.declared.tag.CountryTag.{CountryTag}
-use Rattle.record.specs.Campaign.{Country, campaignOf}
-use Rattle.record.specs.Refusal.{refusal}
-use Rattle.record.proofs.BoundLaws.{small-provinces}
+use Rattle.format.specs.declared.tag.CountryTag.{CountryTag}
+use Rattle.format.specs.Campaign.{Country, campaignOf}
+use Rattle.format.specs.Refusal.{refusal}
+use Rattle.format.proofs.BoundLaws.{small-provinces}
 use Rattle.rules.specs.Chronicle.{Change}
 use Rattle.rules.specs.Changes.{provinceChanges, byDateAndId}
 use Rattle.rules.specs.Lent.{written}
 use Rattle.rules.specs.Nations.{allSwitches, settles, moveOf}
 use Rattle.rules.specs.NationRows.{holderWord}
-use Rattle.owner_changes.specs.ChangeSteps.{entered, changeKey, keysFrom, tagsOf, changeAt}
+use Rattle.owner_changes.specs.ChangeSteps.{entered, changeKey, changeKeysFrom, tagsOf, changeAt, perId, perDate}
+use Rattle.nations.specs.Layout.{keyRows, keyDates, keyTags, cellRows}
 use Rattle.nations.specs.Lookup.{noRow, FirstSorted}
 use Rattle.nations.specs.Countries.{tagAtRow, tagWords, placesOf, wordKeys, rowOf, rowKeys, Keyed}
 use Rattle.nations.specs.Settling.{orTag, settledRow, RowHolds}
@@ -33,8 +34,8 @@ use Rattle.nations.specs.Turning.{firstAt, holderRow}
 use Rattle.nations.specs.Holders.{Switching, Settler, slotCell, holderCell, Step, stepAt, stepsOf}
 use Rattle.rules.proofs.CampaignLaws.{all-changes}
 use Rattle.owner_changes.proofs.ChangeLaws.{Narrow}
-use Rattle.owner_changes.proofs.KeyLaws.{changes-back, keys-sorted}
-use Rattle.nations.proofs.tables.CountryLaws.{length-keys as length-row-keys}
+use Rattle.owner_changes.proofs.ChangeKeyLaws.{changes-back, keys-sorted}
+use Rattle.nations.proofs.tables.CountryLaws.{length-word-keys}
 use Rattle.nations.proofs.tables.MappedLaws.{row-single}
 use Rattle.nations.proofs.tables.SettlingLaws.{settled-row}
 use Rattle.nations.proofs.slots.TurningLaws.{stepOf}
@@ -60,7 +61,7 @@ holder-word (k ∷ ks) zero = refl
 holder-word (k ∷ ks) (suc row) = holder-word ks row
 
 -- A row that is a country's, or none at all, is the row of its holder.
-pub row-back : (ks : List Country) → length ks ≤ 2048 → twice (tagWords ks) ≡ false → (row : ℕ) → ((row ≡ noRow → ⊥) → row < length ks)
+pub row-back : (ks : List Country) → length ks ≤ keyRows → twice (tagWords ks) ≡ false → (row : ℕ) → ((row ≡ noRow → ⊥) → row < length ks)
     → holderRow (tagWords ks) (tagAtRow ks row) ≡ row
 row-back ks few once row inside =
     cases (ltb row (length ks))
@@ -78,8 +79,8 @@ row-back ks few once row inside =
 
 -- A change whose date and tag have room in the keys of switches.
 pub record Small (x : Change) : Type 0 where
-  pub date : x .date .0 < 134217728
-  pub to : x .to .0 < 16777216
+  pub date : x .date .0 < keyDates
+  pub to : x .to .0 < keyTags
 
 -- All changes of an accepted record are small.
 pub entered-small : (xs : List ℕ) → refusal xs ≡ 0 → All Small (entered xs)
@@ -103,7 +104,7 @@ tag-at-small bound (k ∷ ks) (suc row) t q h = tag-at-small bound ks row t (q .
 
 -- Countries whose tags are words of three bytes.
 abbrev pub Short : List Country → Type 0
-Short ks = All (λ k. k .tag .0 < 16777216) ks
+Short ks = All (λ k. k .tag .0 < keyTags) ks
 
 -- The keys of a table, all of them, are in order.
 pub all-sorted : (xs keys : List ℕ) → keys ≡ sortBy leb xs → FirstSorted (length keys) keys
@@ -120,7 +121,7 @@ first-sorted xs keys n h e = record { inside = h; sorted = ap (sortBy leb) e ∙
 module _ (ks : List Country) (ws ts ss : List ℕ) (q : Settler ks ws ts ss) (x : Change) (small : Small x) (row : ℕ)
     (found : RowHolds (take (length ws) ts) (take (length ss) ss) (x .to) (x .date) row) where
   -- The row that was found and the word that stands there make the cell of the change.
-  pub cell-made : (to : ℕ) → to ≡ x .to .0 → getD ws row to * 65536 + row ≡ holderCell ks x
+  pub cell-made : (to : ℕ) → to ≡ x .to .0 → getD ws row to * cellRows + row ≡ holderCell ks x
   unfolding holderCell
   cell-made to e =
       let keyed = q .switching .keyed in
@@ -130,7 +131,7 @@ module _ (ks : List Country) (ws ts ss : List ℕ) (q : Settler ks ws ts ss) (x 
       let r : row ≡ rowOf ks whom = found .holds ks x keyed once (q .tags) switches refl refl (small .date) in
       let t = found .holder ks x keyed once (q .tags) switches refl refl (small .date) in
       let w : getD ws row to ≡ whom .0 = rw (q .switching .words, e) (word-at ks row (x .to)) ∙ ap (λ (t : CountryTag). t .0) (sym t) in
-      ap₂ (λ (a b : ℕ). a * 65536 + b) w (r ∙ sym (first-places (whom .0) 0 (tagWords ks)))
+      ap₂ (λ (a b : ℕ). a * cellRows + b) w (r ∙ sym (first-places (whom .0) 0 (tagWords ks)))
 
 -- The keys of the tags stand at the front of their cells.
 pub settler-made : (ks : List Country) (ws ss before keys : List ℕ) → Switching ks ws ss → length ws ≤ length before
@@ -138,7 +139,7 @@ pub settler-made : (ks : List Country) (ws ss before keys : List ℕ) → Switch
 settler-made ks ws ss before keys q room e =
     let same : rowKeys (take (length ws) ws) ≡ rowKeys (tagWords ks) = ap rowKeys (take-length ws ∙ q .words) in
     let long : length (rowKeys (take (length ws) ws)) ≡ length ws =
-    ap length same ∙ length-sort leb (wordKeys 0 (tagWords ks)) ∙ length-row-keys 0 (tagWords ks) ∙ ap length (sym (q .words)) in
+    ap length same ∙ length-sort leb (wordKeys 0 (tagWords ks)) ∙ length-word-keys 0 (tagWords ks) ∙ ap length (sym (q .words)) in
     record {
       switching = q;
       room =
@@ -149,31 +150,31 @@ settler-made ks ws ss before keys q room e =
 
 module _ (ks : List Country) where
   -- So is the tag that a change settles to.
-  pub settled-small : Keyed ks → Short ks → (x : Change) → Small x → settles (allSwitches ks) x .0 < 16777216
+  pub settled-small : Keyed ks → Short ks → (x : Change) → Small x → settles (allSwitches ks) x .0 < keyTags
   settled-small keyed short x s =
       let q = settled-row ks keyed x (s .date) in
-      omega (arith, ap (λ (t : CountryTag). t .0) (q .holder), tag-at-small 16777216 ks (settledRow ks (x .to) (x .date .0)) (x .to) short (s .to))
+      omega (arith, ap (λ (t : CountryTag). t .0) (q .holder), tag-at-small keyTags ks (settledRow ks (x .to) (x .date .0)) (x .to) short (s .to))
 
   -- ## Steps
 
   -- A key with the cell of its change tells the step of the change's move.
-  step-back : (k : ℕ) (x : Change) → k < 65536 → Narrow x → (cells : List ℕ) → getD cells k 0 ≡ holderCell ks x
+  step-back : (k : ℕ) (x : Change) → k < perId → Narrow x → (cells : List ℕ) → getD cells k 0 ≡ holderCell ks x
       → stepAt cells (changeKey k x) ≡ stepOf (tagWords ks) (moveOf (allSwitches ks) x)
   unfolding holderCell
   step-back k x h n cells g =
-      let number : changeKey k x % 65536 ≡ k = omega arith in
-      let date : changeKey k x / 4294967296 ≡ x .date .0 = omega (arith, n .id) in
-      let slot : changeKey k x / 65536 % 65536 ≡ x .id .0 =
-      let q : changeKey k x / 65536 ≡ x .date .0 * 65536 + x .id .0 = omega arith in rw q (omega (arith, n .id)) in
-      let here : getD cells (changeKey k x % 65536) 0 ≡ slotCell (tagWords ks) (some (settles (allSwitches ks) x)) =
+      let number : changeKey k x % perId ≡ k = omega arith in
+      let date : changeKey k x / perDate ≡ x .date .0 = omega (arith, n .id) in
+      let slot : changeKey k x / perId % perId ≡ x .id .0 =
+      let q : changeKey k x / perId ≡ x .date .0 * perId + x .id .0 = omega arith in rw q (omega (arith, n .id)) in
+      let here : getD cells (changeKey k x % perId) 0 ≡ slotCell (tagWords ks) (some (settles (allSwitches ks) x)) =
       ap (λ (i : ℕ). getD cells i 0) number ∙ g in
       rw (date, slot, here)
 
   -- So do all keys, with the cells at their numbers.
-  steps-back : (cells : List ℕ) (k : ℕ) (cs : List Change) → All Narrow cs → k + length cs ≤ 65536
+  steps-back : (cells : List ℕ) (k : ℕ) (cs : List Change) → All Narrow cs → k + length cs ≤ perId
       → drop k cells ≡ map (holderCell ks) cs
-      → map (stepAt cells) (keysFrom k cs) ≡ map (λ x. stepOf (tagWords ks) (moveOf (allSwitches ks) x)) cs
-  unfolding keysFrom
+      → map (stepAt cells) (changeKeysFrom k cs) ≡ map (λ x. stepOf (tagWords ks) (moveOf (allSwitches ks) x)) cs
+  unfolding changeKeysFrom
   steps-back cells k [] n h e = refl
   steps-back cells k (x ∷ cs) n h e =
       let zero-more : k ≡ k + 0 = omega arith in
@@ -185,10 +186,10 @@ module _ (ks : List Country) where
       (steps-back cells (k + 1) cs (n .1) (omega arith) behind)
 
   -- The sorted keys and the cells stand for the moves of the changes in their order.
-  pub steps-sorted : (cs : List Change) (cells : List ℕ) → length cs ≤ 65536 → All Narrow cs → cells ≡ map (holderCell ks) cs
-      → stepsOf cells (sortBy leb (keysFrom 0 cs)) ≡ map (stepOf (tagWords ks)) (map (moveOf (allSwitches ks)) (sortBy byDateAndId cs))
+  pub steps-sorted : (cs : List Change) (cells : List ℕ) → length cs ≤ perId → All Narrow cs → cells ≡ map (holderCell ks) cs
+      → stepsOf cells (sortBy leb (changeKeysFrom 0 cs)) ≡ map (stepOf (tagWords ks)) (map (moveOf (allSwitches ks)) (sortBy byDateAndId cs))
   steps-sorted cs cells few n e =
-      let keys = keysFrom 0 cs in
+      let keys = changeKeysFrom 0 cs in
       let pairs = map tagsOf cs in
       let told : Change → Step = λ x. stepOf (tagWords ks) (moveOf (allSwitches ks) x) in
       let back : map (changeAt pairs) keys ≡ cs = changes-back pairs 0 cs n (omega arith) refl in

@@ -16,35 +16,36 @@ use Rattle.lists.proofs.ElementLaws.{map-same}
 use Rattle.lists.proofs.ListLaws.{all-map, all-images, all-of-map, all-keep, all-last, map-then, length-numbers}
 use Rattle.sorting.specs.Sort.{sortBy}
 use Rattle.sorting.proofs.SortLaws.{all-sort, length-sort}
-use Rattle.record.specs.declared.tag.CountryTag.{CountryTag}
+use Rattle.format.specs.declared.tag.CountryTag.{CountryTag}
 use Rattle.record.specs.declared.cursors.Provinces.{Provinces}
-use Rattle.record.specs.Tags.{sameTag}
+use Rattle.format.specs.Tags.{sameTag}
 use Rattle.record.specs.Cursors.{provincesLeft}
-use Rattle.record.specs.Campaign.{Campaign, Country, Province, campaignOf}
-use Rattle.record.specs.Refusal.{refusal}
-use Rattle.record.proofs.SoundLaws.{sound}
+use Rattle.format.specs.Campaign.{Campaign, Country, Province, campaignOf}
+use Rattle.format.specs.Refusal.{refusal}
+use Rattle.format.proofs.SoundLaws.{sound}
 use Rattle.rules.specs.Changes.{byDateAndId, changesOf}
 use Rattle.rules.specs.Nations.{initialOf, matches, mapsTo, slotsOf, startTag, startHolder, startHolders, allSwitches, moveOf, movesOf, holdersOf, heldOf}
 use Rattle.rules.specs.NationRows.{holderWord}
 use Rattle.rules.proofs.CampaignLaws.{holders-of}
-use Rattle.owner_changes.specs.ChangeSteps.{entered, Ready, keysFrom, KeysFilled}
+use Rattle.owner_changes.specs.ChangeSteps.{entered, AtFirstProvince, changeKeysFrom, KeysFilled}
+use Rattle.nations.specs.Layout.{keyRows, keyTags, wordSpan, noChange, cellRows}
 use Rattle.nations.specs.Lookup.{noRow}
 use Rattle.nations.specs.Countries.{tagAtRow, tagWords, initialWords, rowKeys, initialRow}
 use Rattle.nations.specs.Starting.{ownerIn, slotRows, Slotted, Started}
-use Rattle.nations.specs.Turning.{highs, lows, rowTurnsOf, Rowed}
+use Rattle.nations.specs.Turning.{highHalves, lowHalves, rowTurnsOf, Rowed}
 use Rattle.nations.specs.Holders.{rowCell, slotCell, slotCells, cellWord, slotCounts, holderCell, stepAt, stepsOf}
 use Rattle.nations.specs.Holders.{turnsAlong, cellsAlong, turnCell, Passed, Began, Stepped, Held}
 use Rattle.owner_changes.proofs.ChangeLaws.{entered-few, entered-narrow}
-use Rattle.owner_changes.proofs.KeyLaws.{length-keys}
+use Rattle.owner_changes.proofs.ChangeKeyLaws.{length-change-keys}
 use Rattle.nations.proofs.tables.KeyedLaws.{tag-small, accepted-keyed, accepted-slotted}
 use Rattle.nations.proofs.tables.MappedLaws.{row-mapped}
-use Rattle.nations.proofs.slots.PassLaws.{length-along, passed-rows}
+use Rattle.nations.proofs.slots.SlotPassLaws.{length-along, passed-rows}
 use Rattle.nations.proofs.slots.ChangeCellLaws.{holder-word, row-back, Small, entered-small, Short, settled-small, steps-sorted}
 use Rattle.nations.proofs.slots.TurningLaws.{stepsIn, cell-parts, cell-rows, cell-words, all-after, row-turns, holder-cells, counts-held}
 
 -- ## The start
 
-module _ (c : Campaign) (few : length (c .countries) ≤ 2048) (once : twice (tagWords (c .countries)) ≡ false) (keys : List ℕ)
+module _ (c : Campaign) (few : length (c .countries) ≤ keyRows) (once : twice (tagWords (c .countries)) ≡ false) (keys : List ℕ)
     (initials : keys ≡ rowKeys (initialWords (c .countries))) (before rows : List ℕ) (size : length before ≡ suc (length (c .provinces)))
     (s : Started keys (c .provinces) (length before) before rows) where
   abbrev ks : List Country
@@ -67,12 +68,12 @@ module _ (c : Campaign) (few : length (c .countries) ≤ 2048) (once : twice (ta
   slot-holders = s .holders c refl size few initials
 
   -- The cells of these rows are those of the start holders.
-  pub start-cells : map (rowCell (tagWords ks)) (lows rows) ≡ map (slotCell (tagWords ks)) (startHolders c)
+  pub start-cells : map (rowCell (tagWords ks)) (lowHalves rows) ≡ map (slotCell (tagWords ks)) (startHolders c)
   start-cells =
-      ap (λ (l : List ℕ). map (rowCell (tagWords ks)) (lows l)) all-slots
-      ∙ map-then (λ x. x % 65536) (rowCell (tagWords ks)) slots
-      ∙ map-same (λ r. rowCell (tagWords ks) (r % 65536)) (λ r. slotCell (tagWords ks) (tagAtRow ks r)) slots
-      (all-images (λ r. rowCell (tagWords ks) (r % 65536) ≡ slotCell (tagWords ks) (tagAtRow ks r))
+      ap (λ (l : List ℕ). map (rowCell (tagWords ks)) (lowHalves l)) all-slots
+      ∙ map-then (λ x. x % cellRows) (rowCell (tagWords ks)) slots
+      ∙ map-same (λ r. rowCell (tagWords ks) (r % cellRows)) (λ r. slotCell (tagWords ks) (tagAtRow ks r)) slots
+      (all-images (λ r. rowCell (tagWords ks) (r % cellRows) ≡ slotCell (tagWords ks) (tagAtRow ks r))
       (λ n. initialRow keys (ownerIn (c .provinces) (record { 0 = n })))
       (λ n. let t = ownerIn (c .provinces) (record { 0 = n }) in
       one-cell (initialRow keys t) (row-mapped keys t (t .0) (initialRow keys t) refl refl .inside ks few initials))
@@ -80,19 +81,19 @@ module _ (c : Campaign) (few : length (c .countries) ≤ 2048) (once : twice (ta
       ∙ sym (map-then (tagAtRow ks) (slotCell (tagWords ks)) slots)
       ∙ ap (map (slotCell (tagWords ks))) slot-holders
     where
-      one-cell : (r : ℕ) → ((r ≡ noRow → ⊥) → r < length ks) → rowCell (tagWords ks) (r % 65536) ≡ slotCell (tagWords ks) (tagAtRow ks r)
+      one-cell : (r : ℕ) → ((r ≡ noRow → ⊥) → r < length ks) → rowCell (tagWords ks) (r % cellRows) ≡ slotCell (tagWords ks) (tagAtRow ks r)
       one-cell r inside =
-          let small : r < 65536 =
+          let small : r < cellRows =
           cases (eqb r noRow)
           (λ g. omega (arith, eqb-true r noRow g))
           (λ g. let l = inside (eqb-false r noRow g) in omega arith) in
-          let same : r % 65536 ≡ r = omega arith in
+          let same : r % cellRows ≡ r = omega arith in
           ap (rowCell (tagWords ks)) same
-          ∙ ap₂ (λ (w p : ℕ). w * 65536 + p) (holder-word ks r) (sym (row-back ks few once r inside))
+          ∙ ap₂ (λ (w p : ℕ). w * cellRows + p) (holder-word ks r) (sym (row-back ks few once r inside))
           ∙ sym (cell-parts (tagWords ks) (tagAtRow ks r))
 
 -- The provinces of an accepted record are in the slots.
-pub slots-there : (xs : List ℕ) (c : Provinces) → Ready xs c → (slots : ℕ) → slots ≡ suc (length (campaignOf xs .provinces))
+pub slots-there : (xs : List ℕ) (c : Provinces) → AtFirstProvince xs c → (slots : ℕ) → slots ≡ suc (length (campaignOf xs .provinces))
     → Slotted slots (provincesLeft xs c)
 slots-there xs c ready slots e = subst (Slotted slots) (sym (ready .rows)) (accepted-slotted xs (ready .accepted) slots (omega arith))
 
@@ -106,17 +107,17 @@ module _ (xs : List ℕ) (z : refusal xs ≡ 0) where
   short : Short (campaign .countries)
   short = all-map (λ k g. tag-small (k .tag) (g .tag)) (campaign .countries) (sound xs z .countries)
 
-  few : length (campaign .countries) ≤ 2048
+  few : length (campaign .countries) ≤ keyRows
   few = accepted-keyed xs z .few
 
   once : twice (tagWords (campaign .countries)) ≡ false
   once = sound xs z .tagsOnce
 
-  few-tags : length (tagWords (campaign .countries)) ≤ 65535
+  few-tags : length (tagWords (campaign .countries)) ≤ noChange
   few-tags = let l = few in omega (arith, length-map (campaign .countries) (λ k. k .tag .0))
 
   -- The steps of the sorted keys are those of the campaign's moves.
-  campaign-steps : (cells keys : List ℕ) → cells ≡ map (holderCell (campaign .countries)) (entered xs) → keys ≡ sortBy leb (keysFrom 0 (entered xs))
+  campaign-steps : (cells keys : List ℕ) → cells ≡ map (holderCell (campaign .countries)) (entered xs) → keys ≡ sortBy leb (changeKeysFrom 0 (entered xs))
       → stepsOf cells keys ≡ stepsIn campaign
   unfolding movesOf changesOf
   campaign-steps cells keys e f =
@@ -125,7 +126,7 @@ module _ (xs : List ℕ) (z : refusal xs ≡ 0) where
 
   -- How many slots have each row is how many each country holds.
   counts-of : (holders : List (Option CountryTag)) (n : ℕ) → n ≡ length (campaign .countries)
-      → slotCounts (lows (slotCells campaign holders)) n ≡ map (λ k. countOf (matches (k .tag)) holders) (campaign .countries)
+      → slotCounts (lowHalves (slotCells campaign holders)) n ≡ map (λ k. countOf (matches (k .tag)) holders) (campaign .countries)
   counts-of holders n e =
       let tags = tagWords (campaign .countries) in
       let long : length tags ≡ length (campaign .countries) = length-map (campaign .countries) (λ k. k .tag .0) in
@@ -135,27 +136,27 @@ module _ (xs : List ℕ) (z : refusal xs ≡ 0) where
 
   -- By the cells of the slots after the last change each country holds as many as it does.
   pub held-counted : (slots counts : List ℕ) (n : ℕ) → slots ≡ slotCells campaign (holdersOf campaign) → n ≡ length (campaign .countries)
-      → counts ≡ slotCounts (lows slots) n → counts ≡ heldOf campaign
+      → counts ≡ slotCounts (lowHalves slots) n → counts ≡ heldOf campaign
   unfolding heldOf
-  held-counted slots counts n e c f = f ∙ ap (λ (l : List ℕ). slotCounts (lows l) n) e ∙ counts-of (holdersOf campaign) n c
+  held-counted slots counts n e c f = f ∙ ap (λ (l : List ℕ). slotCounts (lowHalves l) n) e ∙ counts-of (holdersOf campaign) n c
 
   -- The words of all holders have 32 bits.
-  small-start : All (λ h. holderWord h < 4294967296) (startHolders campaign)
+  small-start : All (λ h. holderWord h < wordSpan) (startHolders campaign)
   unfolding startHolders startHolder mapsTo
   small-start =
-      all-images (λ h. holderWord h < 4294967296) (startHolder campaign)
+      all-images (λ h. holderWord h < wordSpan) (startHolder campaign)
       (λ slot. last-small (keep (λ k. sameTag (initialOf k) (startTag campaign slot)) (campaign .countries))
-      (all-keep (λ k. k .tag .0 < 16777216) (λ k. sameTag (initialOf k) (startTag campaign slot)) (campaign .countries) short))
+      (all-keep (λ k. k .tag .0 < keyTags) (λ k. sameTag (initialOf k) (startTag campaign slot)) (campaign .countries) short))
       (slotsOf campaign)
     where
-      last-small : (ks : List Country) → Short ks → holderWord (Option·map (λ k. k .tag) (last ks)) < 4294967296
+      last-small : (ks : List Country) → Short ks → holderWord (Option·map (λ k. k .tag) (last ks)) < wordSpan
       last-small [] q = omega arith
-      last-small (k ∷ ks) q = let h = all-last (λ k. k .tag .0 < 16777216) ks k (q .1) (q .0) in omega arith
+      last-small (k ∷ ks) q = let h = all-last (λ k. k .tag .0 < keyTags) ks k (q .1) (q .0) in omega arith
 
-  small-moves : All (λ m. m .holder .0 < 4294967296) (movesOf campaign)
+  small-moves : All (λ m. m .holder .0 < wordSpan) (movesOf campaign)
   unfolding movesOf changesOf
   small-moves =
-      all-of-map (λ m. m .holder .0 < 4294967296) (moveOf (allSwitches (campaign .countries)))
+      all-of-map (λ m. m .holder .0 < wordSpan) (moveOf (allSwitches (campaign .countries)))
       (λ x s. let h = settled-small (campaign .countries) (accepted-keyed xs z) short x s in omega arith)
       (sortBy byDateAndId (entered xs)) (all-sort byDateAndId Small (entered xs) (entered-small xs z))
 
@@ -164,27 +165,27 @@ module _ (xs : List ℕ) (z : refusal xs ≡ 0) where
   holder-words slots e =
       ap (map cellWord) e
       ∙ cell-words (tagWords (campaign .countries)) few-tags (holdersOf campaign)
-      (subst (All (λ h. holderWord h < 4294967296)) (sym (holders-of campaign))
-      (all-after (λ h. holderWord h < 4294967296) (movesOf campaign) (startHolders campaign) small-moves small-start))
+      (subst (All (λ h. holderWord h < wordSpan)) (sym (holders-of campaign))
+      (all-after (λ h. holderWord h < wordSpan) (movesOf campaign) (startHolders campaign) small-moves small-start))
 
   -- What `start_slots` leaves.
   pub began : (ws is : List ℕ) (ps : List Province) → ps ≡ campaign .provinces → ws ≡ tagWords (campaign .countries)
       → is ≡ rowKeys (initialWords (campaign .countries)) → (before rows slots counts : List ℕ) (n : ℕ)
       → length before ≡ suc (length (campaign .provinces)) → n ≡ length (campaign .countries)
-      → Started (take (length is) is) ps (length before) before rows → slots ≡ map (rowCell ws) (lows rows) → counts ≡ slotCounts (lows slots) n
+      → Started (take (length is) is) ps (length before) before rows → slots ≡ map (rowCell ws) (lowHalves rows) → counts ≡ slotCounts (lowHalves slots) n
       → Began campaign slots counts
   began ws is ps p w i before rows slots counts n size e s f g =
       let s′ : Started is (campaign .provinces) (length before) before rows = rw (p, take-length is) at s in
       let cells : slots ≡ slotCells campaign (startHolders campaign) =
-      f ∙ ap (λ (l : List ℕ). map (rowCell l) (lows rows)) w ∙ start-cells campaign few once is i before rows size s′ in
-      record { slots = cells; started = g ∙ ap (λ (l : List ℕ). slotCounts (lows l) n) cells ∙ counts-of (startHolders campaign) n e }
+      f ∙ ap (λ (l : List ℕ). map (rowCell l) (lowHalves rows)) w ∙ start-cells campaign few once is i before rows size s′ in
+      record { slots = cells; started = g ∙ ap (λ (l : List ℕ). slotCounts (lowHalves l) n) cells ∙ counts-of (startHolders campaign) n e }
 
   -- What `sort_steps` leaves.
   pub stepped : (n : ℕ) (keys sorted cells keys′ : List ℕ) → KeysFilled xs n keys → sorted ≡ sortBy leb (take (n - 0) keys)
       → take n cells ≡ map (holderCell (campaign .countries)) (entered xs) → Stepped xs n (sorted ++ keys′) cells
   stepped n keys sorted cells keys′ k s f =
-      let all : sorted ≡ sortBy leb (keysFrom 0 (entered xs)) = s ∙ rw (sub-zero, k .cells) in
-      let long : length sorted ≡ n = ap length all ∙ length-sort leb (keysFrom 0 (entered xs)) ∙ length-keys 0 (entered xs) ∙ sym (k .counted) in
+      let all : sorted ≡ sortBy leb (changeKeysFrom 0 (entered xs)) = s ∙ rw (sub-zero, k .cells) in
+      let long : length sorted ≡ n = ap length all ∙ length-sort leb (changeKeysFrom 0 (entered xs)) ∙ length-change-keys 0 (entered xs) ∙ sym (k .counted) in
       record { counted = k .counted; sorted = take-at sorted keys′ n long ∙ all; filled = f }
 
   -- The pass over these steps, from that start.
@@ -193,9 +194,9 @@ module _ (xs : List ℕ) (z : refusal xs ≡ 0) where
     steps : stepsOf (take n cells) (take n keys) ≡ stepsIn campaign
     steps = campaign-steps (take n cells) (take n keys) (q .filled) (q .sorted)
 
-    told : Rowed (take n keys) (highs turns) (lows turns) (rowTurnsOf campaign)
+    told : Rowed (take n keys) (highHalves turns) (lowHalves turns) (rowTurnsOf campaign)
     told =
-        subst (Rowed (take n keys) (highs turns) (lows turns)) (ap₂ turnsAlong (b .slots) steps ∙ sym (row-turns campaign few-tags))
+        subst (Rowed (take n keys) (highHalves turns) (lowHalves turns)) (ap₂ turnsAlong (b .slots) steps ∙ sym (row-turns campaign few-tags))
         (passed-rows (take n keys) (take n cells) slots slots₁ turns p)
 
     -- As many turns as changes.
@@ -206,8 +207,8 @@ module _ (xs : List ℕ) (z : refusal xs ≡ 0) where
         ∙ length-along slots (stepsOf (take n cells) (take n keys))
         ∙ length-map (take n keys) (stepAt (take n cells))
         ∙ ap length (q .sorted)
-        ∙ length-sort leb (keysFrom 0 (entered xs))
-        ∙ length-keys 0 (entered xs)
+        ∙ length-sort leb (changeKeysFrom 0 (entered xs))
+        ∙ length-change-keys 0 (entered xs)
         ∙ sym (q .counted)
 
     held-all : (turns′ : List ℕ) → Held xs n keys slots₁ started (turns ++ turns′)

@@ -8,14 +8,15 @@ use native.Mathlib.Omega.{arith}
 use lib.Dec.{eqb}
 use lib.ListN.{length, getD, length-map}
 use Rattle.lists.specs.Lists.{countOf, twice}
-use Rattle.record.specs.declared.date.Eu4Date.{Eu4Date}
-use Rattle.record.specs.Campaign.{Campaign}
+use Rattle.format.specs.declared.date.Eu4Date.{Eu4Date}
+use Rattle.format.specs.Campaign.{Campaign}
+use Rattle.nations.specs.Layout.{noChange}
 use Rattle.nations.specs.declared.lives.Lives.{Lives}
 use Rattle.rules.specs.Nations.{matches, startHolders, turnEntries, turnCount, livesOf, heldOf}
 use Rattle.nations.specs.Countries.{tagWords}
 use Rattle.nations.specs.Turning.{firstAt, rowTag, RowTurn, rowTurnsOf, Rowed, before, rowLived, linksFrom, Linked, keyDate, pastChange, livedFrom, livedLeft, Chained, firstLives}
 use Rattle.nations.proofs.slots.ChainLaws.{length-links, links-rise, OnChain, chain-here, chain-next}
-use Rattle.record.specs.Sound.{Sound}
+use Rattle.format.specs.Sound.{Sound}
 use Rattle.nations.proofs.slots.TurningLaws.{row-lived}
 
 -- ## Along the turns
@@ -43,7 +44,7 @@ module _ (start : Eu4Date) (olds news : List ℕ) (m m′ r : ℕ) (inside : r <
 -- ## From the first changes
 
 module _ (keys oldRows newRows olds news losses gains : List ℕ) (xs : List RowTurn) (rowed : Rowed keys oldRows newRows xs)
-    (few : length keys ≤ 65535) (o : Linked oldRows olds losses) (n : Linked newRows news gains) where
+    (few : length keys ≤ noChange) (o : Linked oldRows olds losses) (n : Linked newRows news gains) where
   pub count-turns : length xs ≡ length keys
   count-turns = sym (length-map xs (λ x. x .date)) ∙ (sym (ap length (rowed .dates)) ∙ length-map keys keyDate)
 
@@ -81,8 +82,8 @@ module _ (keys oldRows newRows olds news losses gains : List ℕ) (xs : List Row
 
 -- Of a campaign: from its start slots on the walk of a row tells the lives of its country, and in the end the slots of its cell.
 pub walk-lives : (c : Campaign) (keys oldRows newRows olds news losses gains : List ℕ) (r : ℕ)
-    → Rowed keys oldRows newRows (rowTurnsOf c) → length keys ≤ 65535 → Linked oldRows olds losses → Linked newRows news gains
-    → twice (tagWords (c .countries)) ≡ false → length (tagWords (c .countries)) ≤ 65535 → Sound c
+    → Rowed keys oldRows newRows (rowTurnsOf c) → length keys ≤ noChange → Linked oldRows olds losses → Linked newRows news gains
+    → twice (tagWords (c .countries)) ≡ false → length (tagWords (c .countries)) ≤ noChange → Sound c
     → r < length (tagWords (c .countries)) → r < length losses → r < length gains
     → livedLeft (c .start) keys olds news (firstLives losses gains r (countOf (matches (rowTag c r)) (startHolders c)))
     ≡ record { entries = livesOf c (rowTag c r); held = getD (heldOf c) r 0 }

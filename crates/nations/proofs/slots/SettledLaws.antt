@@ -8,9 +8,11 @@ use lib.ListN.{length, take, replicate, length-replicate}
 use lib.Seq.{length-take-le}
 use Rattle.record.specs.declared.cursors.Countries.{Countries}
 use Rattle.record.specs.declared.cursors.Provinces.{Provinces}
-use Rattle.record.specs.Campaign.{Country, campaignOf}
+use Rattle.format.specs.Campaign.{Country, campaignOf}
 use Rattle.record.specs.Cursors.{countriesLeft, provincesLeft}
-use Rattle.record.proofs.SoundLaws.{sound}
+use Rattle.format.proofs.SoundLaws.{sound}
+use Rattle.owner_changes.specs.ChangeSteps.{mostChanges}
+use Rattle.nations.specs.Layout.{mostCountries, mostSwitches, mostSlots, half, noFirsts}
 use Rattle.nations.specs.declared.gathering.Sizes.{Sizes}
 use Rattle.nations.specs.Countries.{switchKeysFrom, Keyed}
 use Rattle.nations.specs.NationSteps.{Begun, TablesRoom, TablesFilled, SlotsReady}
@@ -34,15 +36,15 @@ module _ (xs : List ℕ) (countries₀ : Countries) (provinces₀ : Provinces) (
   told = countriesLeft xs countries₀
 
   -- There are not many.
-  told-few : length told ≤ 2000
-  told-few = subst (λ ks. length ks ≤ 2000) (sym (pre .countries)) (countries-few xs (pre .ready .accepted))
+  told-few : length told ≤ mostCountries
+  told-few = subst (λ ks. length ks ≤ mostCountries) (sym (pre .countries)) (countries-few xs (pre .ready .accepted))
 
   -- Nor many switches.
-  told-switches-few : length (switchKeysFrom 0 told) ≤ 20000
-  told-switches-few = subst (λ ks. length (switchKeysFrom 0 ks) ≤ 20000) (sym (pre .countries)) (switches-few xs (pre .ready .accepted))
+  told-switches-few : length (switchKeysFrom 0 told) ≤ mostSwitches
+  told-switches-few = subst (λ ks. length (switchKeysFrom 0 ks) ≤ mostSwitches) (sym (pre .countries)) (switches-few xs (pre .ready .accepted))
 
   -- What the tables ask.
-  pub tables-asked : (words initials switches : List ℕ) → length words ≡ 2000 → length initials ≡ 2000 → length switches ≡ 20000
+  pub tables-asked : (words initials switches : List ℕ) → length words ≡ mostCountries → length initials ≡ mostCountries → length switches ≡ mostSwitches
       → Keyed told × TablesRoom told words initials switches
   tables-asked words initials switches w i s =
       let a = told-few in
@@ -52,13 +54,13 @@ module _ (xs : List ℕ) (countries₀ : Countries) (provinces₀ : Provinces) (
       )
 
   -- The countries, the switches and the slots are within cells of the full size.
-  pub countries-within : (n m k : ℕ) → n ≡ length told → m ≡ k → k ≡ 2000 → n ≤ m
+  pub countries-within : (n m k : ℕ) → n ≡ length told → m ≡ k → k ≡ mostCountries → n ≤ m
   countries-within n m k e q z = let a = told-few in omega arith
 
-  pub switches-within : (n m k : ℕ) → n ≡ length (switchKeysFrom 0 told) → m ≡ k → k ≡ 20000 → n ≤ m
+  pub switches-within : (n m k : ℕ) → n ≡ length (switchKeysFrom 0 told) → m ≡ k → k ≡ mostSwitches → n ≤ m
   switches-within n m k e q z = let a = told-switches-few in omega arith
 
-  pub slots-within : (n m : ℕ) → n ≡ length (provincesLeft xs provinces₀) → m ≡ 8001 → n + 1 ≤ m
+  pub slots-within : (n m : ℕ) → n ≡ length (provincesLeft xs provinces₀) → m ≡ mostSlots → n + 1 ≤ m
   slots-within n m e z = let a = provinces-few xs (pre .ready .accepted) in let b = ap length (pre .ready .rows) in omega arith
 
   -- There is a slot more than provinces.
@@ -67,10 +69,10 @@ module _ (xs : List ℕ) (countries₀ : Countries) (provinces₀ : Provinces) (
 
   -- The fronts of the tables, and cells of the full size for the rest.
   pub slots-ready : (r : Sizes) (n : ℕ) (words initials switches : List ℕ) → TablesFilled told r words initials switches → n ≡ length (provincesLeft xs provinces₀)
-      → (keys cells slots started turns : List ℕ) → length keys ≡ 60000 → length cells ≡ 60000 → length slots ≡ 8001 → length started ≡ 2000
-      → length turns ≡ 60000
+      → (keys cells slots started turns : List ℕ) → length keys ≡ mostChanges → length cells ≡ mostChanges → length slots ≡ mostSlots → length started ≡ mostCountries
+      → length turns ≡ mostChanges
       → SlotsReady xs (take (r .countries - 0) words) (take (r .countries - 0) initials) (take (r .switches - 0) switches) keys cells
-      (take (n + 1 - 0) slots) (take (r .countries - 0) started) turns (replicate 2000 4294967295)
+      (take (n + 1 - 0) slots) (take (r .countries - 0) started) turns (replicate mostCountries noFirsts)
   slots-ready r n words initials switches f e keys cells slots started turns zk zc zs zt zu =
       let g : TablesFilled (campaignOf xs .countries) r words initials switches =
       subst (λ ks. TablesFilled ks r words initials switches) (pre .countries) f in
@@ -94,7 +96,7 @@ module _ (xs : List ℕ) (countries₀ : Countries) (provinces₀ : Provinces) (
               slots = length-first (n + 1) _ slots (slots-within n (length slots) e zs) (slot-count n e);
               started = length-first (r .countries) _ started (countries-within (r .countries) _ _ (f .countries) refl zt) (g .countries);
             };
-        losses = fresh-new (λ x. x / 65536) 2000 4294967295 refl;
-        gains = fresh-new (λ x. x % 65536) 2000 4294967295 refl;
-        firsts = length-replicate {A = ℕ} 2000 4294967295;
+        losses = fresh-new (λ x. x / half) mostCountries noFirsts refl;
+        gains = fresh-new (λ x. x % half) mostCountries noFirsts refl;
+        firsts = length-replicate {A = ℕ} mostCountries noFirsts;
       }

@@ -13,12 +13,13 @@ use Rattle.lists.specs.Lists.{keep, anyOf, allOf, twice, firstOr, numbersFrom}
 use Rattle.lists.proofs.BoolLaws.{cases, both, neither}
 use Rattle.lists.proofs.ElementLaws.{first-map}
 use Rattle.lists.proofs.ListLaws.{all-map, any-none, all-unmap, keep-none, map-then, length-numbers, numbers-at}
-use Rattle.record.specs.declared.tag.CountryTag.{CountryTag}
-use Rattle.record.specs.Tags.{NONE}
-use Rattle.record.specs.Campaign.{Campaign, Province}
+use Rattle.format.specs.declared.tag.CountryTag.{CountryTag}
+use Rattle.format.specs.Tags.{NONE}
+use Rattle.format.specs.Campaign.{Campaign, Province}
 use Rattle.rules.specs.Lent.{written}
-use Rattle.record.specs.Rows.{sameId}
+use Rattle.format.specs.Rows.{sameId}
 use Rattle.rules.specs.Nations.{mapsTo, slotsOf, startTag, startHolder, startHolders}
+use Rattle.nations.specs.Layout.{keyRows}
 use Rattle.nations.specs.Countries.{tagAtRow, initialWords, rowKeys, initialRow}
 use Rattle.nations.specs.Starting.{ownerIn, slotRows, putOwners, Slotted, Started}
 use Rattle.nations.proofs.tables.MappedLaws.{row-mapped}
@@ -87,15 +88,15 @@ module _ (f : CountryTag → ℕ) where
 -- ## The start
 
 module _ (keys : List ℕ) (ps : List Province) (slots : ℕ) (q : Slotted slots ps) where
-  length-slots : length (slotRows keys ps slots) ≡ slots
-  length-slots = length-map (numbersFrom 0 slots) (λ n. initialRow keys (ownerIn ps (record { 0 = n }))) ∙ length-numbers 0 slots
+  length-slot-rows : length (slotRows keys ps slots) ≡ slots
+  length-slot-rows = length-map (numbersFrom 0 slots) (λ n. initialRow keys (ownerIn ps (record { 0 = n }))) ∙ length-numbers 0 slots
 
   all-put : putOwners (initialRow keys) ps (replicate slots (initialRow keys NONE)) ≡ slotRows keys ps slots
   all-put =
       let f = initialRow keys in
       let start = replicate slots (f NONE) in
       let size : length start ≡ slots = length-replicate slots (f NONE) in
-      ext-getD 0 (putOwners f ps start) (slotRows keys ps slots) (length-put f ps start ∙ size ∙ sym length-slots)
+      ext-getD 0 (putOwners f ps start) (slotRows keys ps slots) (length-put f ps start ∙ size ∙ sym length-slot-rows)
       (λ i l. let l′ : i < slots = omega (arith, length-put f ps start, size) in
       let kept = keep (λ p. sameId (p .id) (record { 0 = i })) ps in
       let sum : 0 + i ≡ i = omega arith in
@@ -105,7 +106,7 @@ module _ (keys : List ℕ) (ps : List Province) (slots : ℕ) (q : Slotted slots
       ∙ sym (first-map f NONE (map (λ p. p .owner) kept))
       ∙ sym (numbers-at (λ n. f (ownerIn ps (record { 0 = n }))) 0 0 slots i l′ ∙ ap (λ (n : ℕ). f (ownerIn ps (record { 0 = n }))) sum))
 
-  start-holders : (c : Campaign) → c .provinces ≡ ps → slots ≡ suc (length ps) → length (c .countries) ≤ 2048
+  start-holders : (c : Campaign) → c .provinces ≡ ps → slots ≡ suc (length ps) → length (c .countries) ≤ keyRows
       → keys ≡ rowKeys (initialWords (c .countries)) → map (tagAtRow (c .countries)) (slotRows keys ps slots) ≡ startHolders c
   unfolding startHolders slotsOf startHolder startTag
   start-holders c e n few k =
@@ -129,7 +130,7 @@ module _ (keys : List ℕ) (ps : List Province) (slots : ℕ) (q : Slotted slots
             w
             ∙ ap (putOwners f ps) (e ∙ ap (λ (n : ℕ). written (replicate slots n) before) r)
             ∙ put-front f ps slots (replicate slots (f NONE)) (drop (length (replicate slots (f NONE))) before) size (q .ids)
-            ∙ ap₂ (λ (l : List ℕ) (n : ℕ). l ++ drop n before) all-put (size ∙ sym length-slots);
+            ∙ ap₂ (λ (l : List ℕ) (n : ℕ). l ++ drop n before) all-put (size ∙ sym length-slot-rows);
         holders = start-holders;
       }
 

@@ -10,8 +10,9 @@ use lib.Dec.{ltb, eqb}
 use lib.ListN.{length, getD, drop, length-append, length-map}
 use lib.Seq.{drop-cons, drop-length}
 use Rattle.lists.proofs.BoolLaws.{cases, neither}
-use Rattle.record.specs.declared.date.Eu4Date.{Eu4Date}
-use Rattle.record.specs.Dates.{earlier}
+use Rattle.format.specs.declared.date.Eu4Date.{Eu4Date}
+use Rattle.format.specs.Dates.{earlier}
+use Rattle.nations.specs.Layout.{half}
 use Rattle.nations.specs.declared.lives.Lives.{Lives}
 use Rattle.nations.specs.declared.lives.Turned.the-variants.{Silent, Told}
 use Rattle.nations.specs.declared.lives.NextLife.the-variants.{Life, End}
@@ -135,11 +136,11 @@ module _ (start : Eu4Date) (olds news : List ℕ) where
         ∙ (step k x xs c′ false false kept (ne-eqb (getD news k 0) k (λ e. omega arith)) ∙ step-none k x xs c′)))))
 
 -- There is a cell for each change.
-pub turn-inside : (keys turns : List ℕ) (news : List ℕ) → Chained keys (map (λ x. x / 65536) turns) news → (k : ℕ) → k < length keys → (k < length turns) × (k < length news)
+pub turn-inside : (keys turns : List ℕ) (news : List ℕ) → Chained keys (map (λ x. x / half) turns) news → (k : ℕ) → k < length keys → (k < length turns) × (k < length news)
 turn-inside keys turns news s k h =
     let a = s .allOlds in
     let b = s .allNews in
-    let l = length-map turns (λ x. x / 65536) in
+    let l = length-map turns (λ x. x / half) in
     (omega arith, omega arith)
 
 -- ## What a change tells

@@ -8,9 +8,9 @@ use lib.Dec.{leb}
 use lib.ListN.{length, getD, take, drop, drop-of-length-le, length-append, length-map}
 use lib.Seq.{drop-cons, getD-take, length-take-le, take-at}
 use Rattle.sorting.specs.Sort.{sortBy}
-use Rattle.sorting.proofs.KeyLaws.{sorted-front}
+use Rattle.sorting.proofs.SortedKeyLaws.{sorted-front}
 use Rattle.sorting.proofs.SortLaws.{length-sort}
-use Rattle.record.specs.Campaign.{Country}
+use Rattle.format.specs.Campaign.{Country}
 use Rattle.nations.specs.Countries.{tagWords, initialWords, wordKeys, rowKeys, switchKeysFrom, switchKeys, Tabled, Filled}
 use Rattle.nations.specs.Keys.{rowKey}
 use Rattle.rules.specs.Lent.{written}
@@ -19,10 +19,10 @@ use Rattle.nations.proofs.tables.LookupLaws.{Table, sorted-table}
 
 -- ## Keys of words
 
-pub length-keys : (row : ℕ) (ws : List ℕ) → length (wordKeys row ws) ≡ length ws
+pub length-word-keys : (row : ℕ) (ws : List ℕ) → length (wordKeys row ws) ≡ length ws
 unfolding wordKeys
-length-keys row [] = refl
-length-keys row (w ∷ ws) = ap suc (length-keys (suc row) ws)
+length-word-keys row [] = refl
+length-word-keys row (w ∷ ws) = ap suc (length-word-keys (suc row) ws)
 
 module _ (words : List ℕ) (n i : ℕ) (inside : n ≤ length words) where
   pub keys-next : i < n
@@ -54,7 +54,7 @@ word-table : (ws words₀ words keys₀ keys : List ℕ) (n : ℕ) → n ≡ len
     → Table (rowKeys ws) n keys
 word-table ws words₀ words keys₀ keys n l e k =
     let front : take n words ≡ ws = ap (take n) e ∙ take-at ws (drop (length ws) words₀) n (sym l) in
-    sorted-table (wordKeys 0 ws) keys₀ keys n (rw front at k) (l ∙ sym (length-keys 0 ws))
+    sorted-table (wordKeys 0 ws) keys₀ keys n (rw front at k) (l ∙ sym (length-word-keys 0 ws))
 
 module _ (ks : List Country) (n : ℕ) (tags₀ tags₁ initials₀ initials₁ : List ℕ) (q : Tabled ks n tags₀ tags₁ initials₀ initials₁) (keys₀ keys : List ℕ) where
   pub tag-table : keys ≡ written (rowKeys (take n tags₁)) keys₀ → Table (rowKeys (tagWords ks)) n keys

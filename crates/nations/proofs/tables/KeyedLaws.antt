@@ -9,17 +9,18 @@ use lib.Dec.{ltb}
 use lib.ListN.{length, length-append, length-map}
 use Rattle.lists.specs.Lists.{allOf, joinOf}
 use Rattle.lists.proofs.ListLaws.{all-allOf}
-use Rattle.record.specs.declared.rows.Switch.{Switch}
-use Rattle.record.specs.Campaign.{Country, campaignOf}
-use Rattle.record.specs.Refusal.{refusal}
-use Rattle.record.specs.Sound.{GoodSwitch, GoodCountry, GoodProvince}
-use Rattle.record.proofs.SoundLaws.{sound}
-pub use Rattle.record.proofs.BoundLaws.{tag-small, date-small}
+use Rattle.format.specs.declared.rows.Switch.{Switch}
+use Rattle.format.specs.Campaign.{Country, campaignOf}
+use Rattle.format.specs.Refusal.{refusal}
+use Rattle.format.specs.Sound.{GoodSwitch, GoodCountry, GoodProvince}
+use Rattle.format.proofs.SoundLaws.{sound}
+pub use Rattle.format.proofs.BoundLaws.{tag-small, date-small}
+use Rattle.nations.specs.Layout.{mostCountries, mostSwitches, keyDates, keyTags}
 use Rattle.nations.specs.Countries.{switchKey, switchKeysFrom, smallSwitch, Keyed}
 use Rattle.nations.specs.Starting.{Slotted}
 
 switch-small : (x : Switch) → GoodSwitch x → smallSwitch x ≡ true
-switch-small x q = simp (lt-ltb (x .from .0) 16777216 (tag-small (x .from) (q .from)), lt-ltb (x .date .0) 134217728 (date-small (x .date) (q .date)))
+switch-small x q = simp (lt-ltb (x .from .0) keyTags (tag-small (x .from) (q .from)), lt-ltb (x .date .0) keyDates (date-small (x .date) (q .date)))
 
 country-small : (k : Country) → GoodCountry k → allOf smallSwitch (k .switches) ≡ true
 country-small k q = all-allOf GoodSwitch smallSwitch switch-small (k .switches) (q .switches)
@@ -35,13 +36,13 @@ keys-length row (k ∷ ks) =
     ∙ sym (length-append (k .switches) (joinOf (λ j. j .switches) ks))
 
 module _ (xs : List ℕ) (h : refusal xs ≡ 0) where
-  pub countries-few : length (campaignOf xs .countries) ≤ 2000
+  pub countries-few : length (campaignOf xs .countries) ≤ mostCountries
   countries-few = sound xs h .fewCountries
 
   pub provinces-few : length (campaignOf xs .provinces) ≤ 8000
   provinces-few = sound xs h .fewProvinces
 
-  pub switches-few : length (switchKeysFrom 0 (campaignOf xs .countries)) ≤ 20000
+  pub switches-few : length (switchKeysFrom 0 (campaignOf xs .countries)) ≤ mostSwitches
   switches-few = rw keys-length (sound xs h .fewSwitches)
 
   pub accepted-keyed : Keyed (campaignOf xs .countries)

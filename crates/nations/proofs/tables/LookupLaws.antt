@@ -14,7 +14,7 @@ use Rattle.lists.proofs.ListLaws.{InOrder, count-le}
 use Rattle.lists.proofs.BoundLaws.{first-past, first-above, first-there, last-none, last-below, last-there}
 use Rattle.sorting.specs.Sort.{sortBy}
 use Rattle.sorting.proofs.SortLaws.{length-sort}
-use Rattle.sorting.proofs.KeyLaws.{sorted-up, sort-again}
+use Rattle.sorting.proofs.SortedKeyLaws.{sorted-up, sort-again}
 use Rattle.rules.specs.Lent.{written}
 use Rattle.nations.specs.Lookup.{noRow, rowIn, inRange, firstWithin, lastWithin, FirstSorted}
 

@@ -15,10 +15,11 @@ use Rattle.lists.proofs.ElementLaws.{first-map, last-map, last-some, first-has,
 use Rattle.lists.proofs.ListLaws.{all-at, all-map, any-none, map-at}
 use Rattle.lists.specs.Lists.{All}
 use Rattle.sorting.proofs.SortLaws.{Ordered, all-kept, keep-sort, sort-ordered, leb-total, leb-trans}
-use Rattle.record.specs.declared.tag.CountryTag.{CountryTag}
-use Rattle.record.specs.Tags.{sameTag}
-use Rattle.record.specs.Campaign.{Country}
+use Rattle.format.specs.declared.tag.CountryTag.{CountryTag}
+use Rattle.format.specs.Tags.{sameTag}
+use Rattle.format.specs.Campaign.{Country}
 use Rattle.rules.specs.Nations.{initialOf, mapsTo}
+use Rattle.nations.specs.Layout.{keyRows}
 use Rattle.nations.specs.Lookup.{noRow, rowIn, inRange, rowsWithin, firstWithin, lastWithin}
 use Rattle.nations.proofs.tables.LookupLaws.{begins-with}
 use Rattle.nations.specs.Countries.{tagAtRow, tagWords, initialWords, placesOf, rowOf, mappedRow, wordKeys, rowKeys, RowFound, RowMapped}
@@ -27,15 +28,15 @@ use Rattle.nations.specs.Countries.{tagAtRow, tagWords, initialWords, pl
 
 module _ (word : ℕ) where
   abbrev own : ℕ → Bool
-  own = inRange (word * 2048) (word * 2048 + 2048)
+  own = inRange (word * keyRows) (word * keyRows + keyRows)
 
-  own-key : (w row : ℕ) → row < 2048 → own (w * 2048 + row) ≡ eqb w word
-  own-key w row h = begins-with 2048 w row word h
+  own-key : (w row : ℕ) → row < keyRows → own (w * keyRows + row) ≡ eqb w word
+  own-key w row h = begins-with keyRows w row word h
 
-  own-row : (w row : ℕ) → row < 2048 → rowIn (w * 2048 + row) ≡ row
+  own-row : (w row : ℕ) → row < keyRows → rowIn (w * keyRows + row) ≡ row
   own-row w row h = omega arith
 
-  own-places : (row : ℕ) (ws : List ℕ) → row + length ws ≤ 2048 → map rowIn (keep own (wordKeys row ws)) ≡ placesOf word row ws
+  own-places : (row : ℕ) (ws : List ℕ) → row + length ws ≤ keyRows → map rowIn (keep own (wordKeys row ws)) ≡ placesOf word row ws
   unfolding wordKeys placesOf
   own-places row [] h = refl
   own-places row (w ∷ ws) h =
@@ -45,32 +46,32 @@ module _ (word : ℕ) where
       (λ g. simp (k, g, r) (ap (λ (l : List ℕ). row ∷ l) (own-places (suc row) ws (omega arith))))
       (λ g. simp (k, g) (own-places (suc row) ws (omega arith)))
 
-  own-from : (row : ℕ) (ws : List ℕ) → row + length ws ≤ 2048 → All (λ k. word * 2048 + row ≤ k) (keep own (wordKeys row ws))
+  own-from : (row : ℕ) (ws : List ℕ) → row + length ws ≤ keyRows → All (λ k. word * keyRows + row ≤ k) (keep own (wordKeys row ws))
   unfolding wordKeys
   own-from row [] h = tt
   own-from row (w ∷ ws) h =
       let k = own-key w row (omega arith) in
-      let rest : All (λ j. word * 2048 + row ≤ j) (keep own (wordKeys (suc row) ws)) =
+      let rest : All (λ j. word * keyRows + row ≤ j) (keep own (wordKeys (suc row) ws)) =
       all-map (λ j l. omega arith) (keep own (wordKeys (suc row) ws)) (own-from (suc row) ws (omega arith)) in
       cases (eqb w word)
       (λ g. let e = eqb-true w word g in simp (k, g) (omega arith, rest))
       (λ g. simp (k, g) rest)
 
-  own-order : (row : ℕ) (ws : List ℕ) → row + length ws ≤ 2048 → Ordered leb (keep own (wordKeys row ws))
+  word-keys-order : (row : ℕ) (ws : List ℕ) → row + length ws ≤ keyRows → Ordered leb (keep own (wordKeys row ws))
   unfolding wordKeys
-  own-order row [] h = tt
-  own-order row (w ∷ ws) h =
+  word-keys-order row [] h = tt
+  word-keys-order row (w ∷ ws) h =
       let k = own-key w row (omega arith) in
-      let rest = own-order (suc row) ws (omega arith) in
+      let rest = word-keys-order (suc row) ws (omega arith) in
       cases (eqb w word)
       (λ g. let e = eqb-true w word g in
-      simp (k, g) (all-map (λ j l. le-leb (w * 2048 + row) j (omega arith)) (keep own (wordKeys (suc row) ws)) (own-from (suc row) ws (omega arith)), rest))
+      simp (k, g) (all-map (λ j l. le-leb (w * keyRows + row) j (omega arith)) (keep own (wordKeys (suc row) ws)) (own-from (suc row) ws (omega arith)), rest))
       (λ g. simp (k, g) rest)
 
-  pub places-within : (ws : List ℕ) → length ws ≤ 2048 → rowsWithin (word * 2048) (word * 2048 + 2048) (rowKeys ws) ≡ placesOf word 0 ws
+  pub places-within : (ws : List ℕ) → length ws ≤ keyRows → rowsWithin (word * keyRows) (word * keyRows + keyRows) (rowKeys ws) ≡ placesOf word 0 ws
   places-within ws h =
       ap (map rowIn)
-      (keep-sort leb leb-total leb-trans own (wordKeys 0 ws) ∙ sort-ordered leb (keep own (wordKeys 0 ws)) (own-order 0 ws (omega arith)))
+      (keep-sort leb leb-total leb-trans own (wordKeys 0 ws) ∙ sort-ordered leb (keep own (wordKeys 0 ws)) (word-keys-order 0 ws (omega arith)))
       ∙ own-places 0 ws (omega arith)
 
 -- ## Places and the countries that stand there
@@ -95,7 +96,7 @@ module _ (all : List Country) (word : Country → ℕ) (w : ℕ) where
 
 -- ## The country that an initial maps to
 
-module _ (ks : List Country) (few : length ks ≤ 2048) (t : CountryTag) where
+module _ (ks : List Country) (few : length ks ≤ keyRows) (t : CountryTag) where
   nobody : getElem? ks noRow ≡ none
   nobody = at-end ks noRow (omega arith)
 
@@ -149,7 +150,7 @@ first-place w (x ∷ ws) j (suc i) d o h =
     clash (eqb x x) (eq-eqb x x refl) (all-at (λ y. eqb x y ≡ false) ws i x there (any-none (eqb x) ws (once .0))))
     (λ g. simp g (first-place w ws (suc j) i d (once .1) h ∙ sum))
 
-module _ (ks : List Country) (few : length ks ≤ 2048) (once : twice (tagWords ks) ≡ false) (i : ℕ) (k : Country) (there : getElem? ks i ≡ some k) where
+module _ (ks : List Country) (few : length ks ≤ keyRows) (once : twice (tagWords ks) ≡ false) (i : ℕ) (k : Country) (there : getElem? ks i ≡ some k) where
   pub row-single : rowOf ks (k .tag) ≡ i
   row-single =
       let sum : 0 + i ≡ i = omega arith in
@@ -166,7 +167,7 @@ module _ (ks : List Country) (few : length ks ≤ 2048) (once : twice (tagWords 
 -- ## What the keys find
 
 module _ (keys : List ℕ) (t : CountryTag) (word row : ℕ) (same : word ≡ t .0) where
-  pub row-found : row ≡ firstWithin (word * 2048) (word * 2048 + 2048) keys → RowFound keys t row
+  pub row-found : row ≡ firstWithin (word * keyRows) (word * keyRows + keyRows) keys → RowFound keys t row
   unfolding firstWithin
   row-found e =
       record {
@@ -174,10 +175,10 @@ module _ (keys : List ℕ) (t : CountryTag) (word row : ℕ) (same : word ≡ t 
             e ∙ rw (same, q) (ap (firstOr noRow) (places-within (t .0) (tagWords ks) (omega (arith, length-map ks (λ k. k .tag .0)))));
       }
 
-  pub row-mapped : row ≡ lastWithin (word * 2048) (word * 2048 + 2048) keys → RowMapped keys t row
+  pub row-mapped : row ≡ lastWithin (word * keyRows) (word * keyRows + keyRows) keys → RowMapped keys t row
   unfolding lastWithin
   row-mapped e =
-      let mapped : (ks : List Country) → length ks ≤ 2048 → keys ≡ rowKeys (initialWords ks) → row ≡ mappedRow ks t =
+      let mapped : (ks : List Country) → length ks ≤ keyRows → keys ≡ rowKeys (initialWords ks) → row ≡ mappedRow ks t =
       λ ks few q.
       e ∙ rw (same, q) (ap (lastOr noRow) (places-within (t .0) (initialWords ks) (omega (arith, length-map ks (λ k. initialOf k .0))))) in
       record {

@@ -13,9 +13,10 @@ use Rattle.lists.proofs.BoolLaws.{and-left, and-right}
 use Rattle.lists.proofs.ListLaws.{InOrder, all-map, all-append, map-append}
 use Rattle.lists.proofs.FillLaws.{Filling, filling-new, filling-more, filling-count, filling-written}
 use Rattle.sorting.specs.Sort.{sortBy}
-use Rattle.record.specs.declared.rows.Switch.{Switch}
-use Rattle.record.specs.Campaign.{Country}
-use Rattle.record.specs.Dates.{notAfter}
+use Rattle.format.specs.declared.rows.Switch.{Switch}
+use Rattle.format.specs.Campaign.{Country}
+use Rattle.format.specs.Dates.{notAfter}
+use Rattle.nations.specs.Layout.{keyRows, keyDates, keyNumbers, keyTags}
 use Rattle.nations.specs.declared.switches.SwitchOrder.{SwitchOrder}
 use Rattle.nations.specs.declared.switches.SwitchOrder.the-variants.{ByFrom, ByRow}
 use Rattle.nations.specs.Countries.{switchKey, switchKeysFrom, switchKeys, smallSwitch, Keyed, Filled, FilledFrom}
@@ -28,11 +29,11 @@ abbrev pub placedByDate : PlacedSwitch → PlacedSwitch → Bool
 placedByDate a b = notAfter (a .made .date) (b .made .date)
 
 -- A switch's from and its date have room in its key.
-pub small-from : (x : Switch) → smallSwitch x ≡ true → x .from .0 < 16777216
-small-from x h = ltb-true (x .from .0) 16777216 (and-left (ltb (x .from .0) 16777216) (ltb (x .date .0) 134217728) h)
+pub small-from : (x : Switch) → smallSwitch x ≡ true → x .from .0 < keyTags
+small-from x h = ltb-true (x .from .0) keyTags (and-left (ltb (x .from .0) keyTags) (ltb (x .date .0) keyDates) h)
 
-pub small-date : (x : Switch) → smallSwitch x ≡ true → x .date .0 < 134217728
-small-date x h = ltb-true (x .date .0) 134217728 (and-right (ltb (x .from .0) 16777216) (ltb (x .date .0) 134217728) h)
+pub small-date : (x : Switch) → smallSwitch x ≡ true → x .date .0 < keyDates
+small-date x h = ltb-true (x .date .0) keyDates (and-right (ltb (x .from .0) keyTags) (ltb (x .date .0) keyDates) h)
 
 -- ## One country's switches
 
@@ -107,10 +108,10 @@ rows-rise row k (x ∷ ks) =
 -- The countries that are left, from a row on, still have to give their keys, from k on.
 pub record Keying (order : SwitchOrder) (all left : List Country) (before : List ℕ) (row k : ℕ) (now : List ℕ) : Type 0 where
   pub cells : Filling (map (keyBy order) (allPlaced 0 0 all)) (map (keyBy order) (allPlaced row k left)) before k now
-  pub rows : row + length left ≤ 2048
+  pub rows : row + length left ≤ keyRows
   pub room : All (KeyFits order) (allPlaced row k left)
 
-pub keying-start : (order : SwitchOrder) (all : List Country) (before : List ℕ) → length all ≤ 2048 → length (allPlaced 0 0 all) ≤ length before
+pub keying-start : (order : SwitchOrder) (all : List Country) (before : List ℕ) → length all ≤ keyRows → length (allPlaced 0 0 all) ≤ length before
     → All (KeyFits order) (allPlaced 0 0 all) → Keying order all all before 0 0 before
 keying-start order all before r h q =
     record { cells = filling-new _ _ (omega (arith, length-map (allPlaced 0 0 all) (keyBy order))); rows = omega arith; room = q }
@@ -137,7 +138,7 @@ module _ (order : SwitchOrder) (all left : List Country) (before : List ℕ) (ro
     fitting : All (KeyFits order) own × All (KeyFits order) others
     fitting = all-parts (KeyFits order) own others (rw placed-split at (q .room))
 
-    pub keying-here : (row < 2048) × (k + length (x .switches) ≤ length now) × All (KeyFits order) own
+    pub keying-here : (row < keyRows) × (k + length (x .switches) ≤ length now) × All (KeyFits order) own
     keying-here =
         let r = q .rows in
         let f = q .cells .fits in
@@ -189,7 +190,7 @@ switches-small ks q =
     all-map (λ k h. allOf-all smallSwitch (k .switches) h) ks (allOf-all (λ k. allOf smallSwitch (k .switches)) ks (q .switches))
 
 pub from-asked : (ks : List Country) (n : ℕ) → Keyed ks → length (switchKeysFrom 0 ks) ≤ n
-    → ((length ks ≤ 2048) × (length (allPlaced 0 0 ks) ≤ n)) × All (KeyFits ByFrom) (allPlaced 0 0 ks)
+    → ((length ks ≤ keyRows) × (length (allPlaced 0 0 ks) ≤ n)) × All (KeyFits ByFrom) (allPlaced 0 0 ks)
 from-asked ks n q h =
     let size = from-length 0 0 ks in (
       (q .few, omega (arith, size)),
@@ -210,12 +211,12 @@ row-keys row k ks = refl
 pub row-length : (row k : ℕ) (ks : List Country) → length (runsFrom row k ks) ≡ length (allPlaced row k ks)
 row-length row k ks = ap length (row-keys row k ks) ∙ length-map (allPlaced row k ks) (keyBy ByRow)
 
-pub row-asked : (ks : List Country) (n : ℕ) → length ks ≤ 2048 → length (runsFrom 0 0 ks) ≤ 32768 → length (runsFrom 0 0 ks) ≤ n
-    → ((length ks ≤ 2048) × (length (allPlaced 0 0 ks) ≤ n)) × All (KeyFits ByRow) (allPlaced 0 0 ks)
+pub row-asked : (ks : List Country) (n : ℕ) → length ks ≤ keyRows → length (runsFrom 0 0 ks) ≤ keyNumbers → length (runsFrom 0 0 ks) ≤ n
+    → ((length ks ≤ keyRows) × (length (allPlaced 0 0 ks) ≤ n)) × All (KeyFits ByRow) (allPlaced 0 0 ks)
 row-asked ks n r f h =
     let size = row-length 0 0 ks in (
       (r, omega (arith, size)),
-      placed-all (KeyFits ByRow) (λ x. Unit {0}) (length ks) 32768 (λ row i x a b s. b) 0 0 ks (omega arith) (omega (arith, size))
+      placed-all (KeyFits ByRow) (λ x. Unit {0}) (length ks) keyNumbers (λ row i x a b s. b) 0 0 ks (omega arith) (omega (arith, size))
           (all-each (λ k. all-each (λ x. tt) (k .switches)) ks),
     )
 

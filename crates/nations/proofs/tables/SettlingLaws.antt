@@ -14,16 +14,17 @@ use Rattle.lists.proofs.BoolLaws.{cases, both}
 use Rattle.lists.proofs.ElementLaws.{first-map, first-has, at-drop, at-end, at-inside, keep-map, map-same, keep-same, order-keep}
 use Rattle.lists.proofs.ListLaws.{all-both, all-map, all-keep, all-of-map, map-append, map-then}
 use Rattle.sorting.specs.Sort.{sortBy}
-use Rattle.sorting.proofs.KeyLaws.{agrees-always}
+use Rattle.sorting.proofs.SortedKeyLaws.{agrees-always}
 use Rattle.sorting.proofs.SortLaws.{all-sort, all-kept, keep-sort, map-sort, leb-total, leb-trans}
-use Rattle.record.specs.declared.tag.CountryTag.{CountryTag}
-use Rattle.record.specs.declared.date.Eu4Date.{Eu4Date}
-use Rattle.record.specs.declared.rows.Switch.{Switch}
-use Rattle.record.specs.Tags.{sameTag}
-use Rattle.record.specs.Dates.{notAfter}
-use Rattle.record.specs.Campaign.{Country}
+use Rattle.format.specs.declared.tag.CountryTag.{CountryTag}
+use Rattle.format.specs.declared.date.Eu4Date.{Eu4Date}
+use Rattle.format.specs.declared.rows.Switch.{Switch}
+use Rattle.format.specs.Tags.{sameTag}
+use Rattle.format.specs.Dates.{notAfter}
+use Rattle.format.specs.Campaign.{Country}
 use Rattle.rules.specs.Chronicle.{Change}
 use Rattle.rules.specs.Nations.{CountrySwitch, ownSwitches, allSwitches, settles}
+use Rattle.nations.specs.Layout.{keyRows, keyDates}
 use Rattle.nations.specs.declared.switches.SwitchOrder.the-variants.{ByFrom}
 use Rattle.nations.specs.Keys.{rowIn, settlingKey}
 use Rattle.nations.specs.Lookup.{noRow, inRange, firstWithin}
@@ -57,28 +58,28 @@ module _ (all : List Country) (d : CountryTag) where
 
 -- The date has room in a key, and the row is below a bound.
 abbrev Fit : ℕ → PlacedSwitch → Type 0
-Fit bound p = (p .made .date .0 < 134217728) × (p .row < bound)
+Fit bound p = (p .made .date .0 < keyDates) × (p .row < bound)
 
-rows-fit : (bound : ℕ) (ks : List Country) → Keyed ks → length ks ≤ bound → All (Fit bound) (allPlaced 0 0 ks)
-rows-fit bound ks q h =
+placed-fit : (bound : ℕ) (ks : List Country) → Keyed ks → length ks ≤ bound → All (Fit bound) (allPlaced 0 0 ks)
+placed-fit bound ks q h =
     placed-all (Fit bound) (λ x. smallSwitch x ≡ true) bound (length (allPlaced 0 0 ks)) (λ row i x a b s. (small-date x s, a)) 0 0 ks
     (omega arith) (omega arith) (switches-small ks q)
 
 -- ## The keys from a tag and a date on
 
-module _ (to : CountryTag) (date : Eu4Date) (early : date .0 < 134217728) where
+module _ (to : CountryTag) (date : Eu4Date) (early : date .0 < keyDates) where
   abbrev low : ℕ
   low = settlingKey (to .0) (date .0) 0
 
   abbrev high : ℕ
   high = settlingKey (to .0 + 1) 0 0
 
-  abbrev asked : PlacedSwitch → Bool
-  asked r = sameTag (r .made .from) to && notAfter date (r .made .date)
+  abbrev switchAsked : PlacedSwitch → Bool
+  switchAsked r = sameTag (r .made .from) to && notAfter date (r .made .date)
 
   -- The test of the key is the test of the switch.
-  asked-key : (r : PlacedSwitch) → Fit 2048 r → inRange low high (keyBy ByFrom r) ≡ asked r
-  asked-key r h =
+  in-range-asked : (r : PlacedSwitch) → Fit keyRows r → inRange low high (keyBy ByFrom r) ≡ switchAsked r
+  in-range-asked r h =
       cases (eqb (r .made .from .0) (to .0))
       (λ g. let e = eqb-true (r .made .from .0) (to .0) g in
       cases (leb (date .0) (r .made .date .0))
@@ -91,7 +92,7 @@ module _ (to : CountryTag) (date : Eu4Date) (early : date .0 < 134217728) where
       (λ a. simp (g, a)))
 
   -- Of two switches from the tag the keys compare as the dates, if the later one's row is not smaller.
-  dates-agree : (a b : PlacedSwitch) → Fit 2048 a × (asked a ≡ true) → Fit 2048 b × (asked b ≡ true) → a .row ≤ b .row
+  dates-agree : (a b : PlacedSwitch) → Fit keyRows a × (switchAsked a ≡ true) → Fit keyRows b × (switchAsked b ≡ true) → a .row ≤ b .row
       → placedByDate a b ≡ leb (keyBy ByFrom a) (keyBy ByFrom b)
   dates-agree a b f g l =
       let d = eqb-true (a .made .from .0) (to .0) (both (sameTag (a .made .from) to) (notAfter date (a .made .date)) (f .1) .0) in
@@ -106,31 +107,31 @@ module _ (to : CountryTag) (date : Eu4Date) (early : date .0 < 134217728) where
 
     -- The switches from the tag, not dated before the date: in row order, and by date.
     abbrev fitting : List PlacedSwitch
-    fitting = keep asked rows
+    fitting = keep switchAsked rows
 
     abbrev first-ones : List PlacedSwitch
     first-ones = sortBy placedByDate fitting
 
-    fit : All (Fit 2048) rows
-    fit = rows-fit 2048 ks keyed (keyed .few)
+    fit : All (Fit keyRows) rows
+    fit = placed-fit keyRows ks keyed (keyed .few)
 
     kept-keys : keep (inRange low high) (switchKeysFrom 0 ks) ≡ map (keyBy ByFrom) fitting
     kept-keys =
         ap (keep (inRange low high)) (from-keys 0 0 ks)
         ∙ keep-map (inRange low high) (keyBy ByFrom) rows
-        ∙ ap (map (keyBy ByFrom)) (keep-same (λ r. inRange low high (keyBy ByFrom r)) asked rows (all-map (λ r h. asked-key r h) rows fit))
+        ∙ ap (map (keyBy ByFrom)) (keep-same (λ r. inRange low high (keyBy ByFrom r)) switchAsked rows (all-map (λ r h. in-range-asked r h) rows fit))
 
     sorted-keys : keep (inRange low high) (switchKeys ks) ≡ map (keyBy ByFrom) first-ones
     sorted-keys =
         keep-sort leb leb-total leb-trans (inRange low high) (switchKeysFrom 0 ks)
         ∙ ap (sortBy leb) kept-keys
         ∙ sym (map-sort placedByDate leb (keyBy ByFrom) fitting
-        (agrees-in-order placedByDate leb (keyBy ByFrom) (λ r. Fit 2048 r × (asked r ≡ true)) (λ r. r .row) dates-agree fitting
-        (order-keep (λ r. r .row) asked rows (rows-rise 0 0 ks .1))
-        (all-both (Fit 2048) (λ r. asked r ≡ true) fitting (all-keep (Fit 2048) asked rows fit) (all-kept asked rows))))
+        (agrees-in-order placedByDate leb (keyBy ByFrom) (λ r. Fit keyRows r × (switchAsked r ≡ true)) (λ r. r .row) dates-agree fitting
+        (order-keep (λ r. r .row) switchAsked rows (rows-rise 0 0 ks .1))
+        (all-both (Fit keyRows) (λ r. switchAsked r ≡ true) fitting (all-keep (Fit keyRows) switchAsked rows fit) (all-kept switchAsked rows))))
 
-    sorted-fit : All (Fit 2048) first-ones
-    sorted-fit = all-sort placedByDate (Fit 2048) fitting (all-keep (Fit 2048) asked rows fit)
+    sorted-fit : All (Fit keyRows) first-ones
+    sorted-fit = all-sort placedByDate (Fit keyRows) fitting (all-keep (Fit keyRows) switchAsked rows fit)
 
     settled-first : settledRow ks to (date .0) ≡ firstOr noRow (map (λ r. r .row) first-ones)
     unfolding firstWithin
@@ -148,7 +149,7 @@ module _ (to : CountryTag) (date : Eu4Date) (early : date .0 < 134217728) where
         ap (λ (l : List CountrySwitch). keep test (sortBy earlier l)) (row-countries ks to 0 0 ks refl)
         ∙ ap (keep test) (sym (map-sort placedByDate earlier (withCountry ks to) rows (agrees-always placedByDate earlier (withCountry ks to) (λ a b. refl) rows)))
         ∙ keep-map test (withCountry ks to) (sortBy placedByDate rows)
-        ∙ ap (map (withCountry ks to)) (keep-sort placedByDate (λ a b. leb-total (a .made .date .0) (b .made .date .0)) (λ a b c. leb-trans (a .made .date .0) (b .made .date .0) (c .made .date .0)) asked rows)
+        ∙ ap (map (withCountry ks to)) (keep-sort placedByDate (λ a b. leb-total (a .made .date .0) (b .made .date .0)) (λ a b c. leb-trans (a .made .date .0) (b .made .date .0) (c .made .date .0)) switchAsked rows)
 
     first-country : firstOr to (map (λ x. x .country) (keep (λ x. sameTag (x .from) to && notAfter date (x .date)) (allSwitches ks)))
         ≡ orTag to (tagAtRow ks (settledRow ks to (date .0)))
@@ -166,12 +167,12 @@ module _ (to : CountryTag) (date : Eu4Date) (early : date .0 < 134217728) where
     settled-inside h =
         let inside : All (λ n. n < length ks) (map (λ r. r .row) first-ones) =
         all-of-map {P = Fit (length ks)} (λ n. n < length ks) (λ r. r .row) (λ r f. f .1) first-ones
-        (all-sort placedByDate (Fit (length ks)) fitting (all-keep (Fit (length ks)) asked rows (rows-fit (length ks) ks keyed (omega arith)))) in
+        (all-sort placedByDate (Fit (length ks)) fitting (all-keep (Fit (length ks)) switchAsked rows (placed-fit (length ks) ks keyed (omega arith)))) in
         rw settled-first (first-has (λ n. n < length ks) noRow (map (λ r. r .row) first-ones) inside (λ e. h (settled-first ∙ e)))
 
 -- ## A change
 
-module _ (ks : List Country) (keyed : Keyed ks) (x : Change) (early : x .date .0 < 134217728) where
+module _ (ks : List Country) (keyed : Keyed ks) (x : Change) (early : x .date .0 < keyDates) where
   pub settled-row : Settled ks x (settledRow ks (x .to) (x .date .0))
   unfolding settles
   settled-row =
@@ -184,13 +185,13 @@ pub row-settled : (keys : List ℕ) (to : CountryTag) (date : Eu4Date) (low high
 row-settled keys to date low high row l h e =
     record {
       settled = λ ks x keyed q t d early.
-          let early′ : x .date .0 < 134217728 = rw d early in
+          let early′ : x .date .0 < keyDates = rw d early in
           let same : row ≡ settledRow ks (x .to) (x .date .0) = e ∙ rw (l, h, q, t, d) in
           rw same (settled-row ks keyed x early′);
     }
 
 -- The country in the row of a tag has that tag, so a tag's own row tells the tag again.
-own-tag : (ks : List Country) → length ks ≤ 2048 → (t : CountryTag) (o : Option Country) → getElem? ks (rowOf ks t) ≡ o
+own-tag : (ks : List Country) → length ks ≤ keyRows → (t : CountryTag) (o : Option Country) → getElem? ks (rowOf ks t) ≡ o
     → orTag t (Option·map (λ k. k .tag) o) ≡ t
 own-tag ks few t none e = refl
 own-tag ks few t (some k) e = ap (λ (w : ℕ). tagged w) (row-has ks few t (rowOf ks t) refl k e)
@@ -225,7 +226,7 @@ module _ (tags switches : List ℕ) (to : CountryTag) (date : Eu4Date) (row : �
             ∙ ap (λ (r : ℕ). orTag (x .to) (tagAtRow ks r)) (sym here);
       }
     where
-      whom : (ks : List Country) (x : Change) → Keyed ks → switches ≡ switchKeys ks → x .to ≡ to → x .date ≡ date → date .0 < 134217728
+      whom : (ks : List Country) (x : Change) → Keyed ks → switches ≡ switchKeys ks → x .to ≡ to → x .date ≡ date → date .0 < keyDates
           → settles (allSwitches ks) x ≡ x .to
       whom ks x keyed b t d early =
           let q = settled .settled ks x keyed b t d early in

@@ -18,14 +18,15 @@ use Rattle.lists.proofs.ListLaws.{all-both, all-keep, all-map, at-split, join-a
 use Rattle.lists.proofs.ElementLaws.{keep-map, keep-same}
 use Rattle.sorting.specs.Sort.{sortBy}
 use Rattle.sorting.proofs.SortLaws.{map-sort, length-sort, keep-sort, leb-total, leb-trans, keys-in-order}
-use Rattle.record.specs.declared.tag.CountryTag.{CountryTag}
-use Rattle.record.specs.declared.rows.Switch.{Switch}
-use Rattle.record.specs.Campaign.{Country, campaignOf}
-use Rattle.record.specs.Refusal.{refusal}
+use Rattle.format.specs.declared.tag.CountryTag.{CountryTag}
+use Rattle.format.specs.declared.rows.Switch.{Switch}
+use Rattle.format.specs.Campaign.{Country, campaignOf}
+use Rattle.format.specs.Refusal.{refusal}
 use Rattle.rules.specs.Chronicle.{switch, Entry}
 use Rattle.rules.specs.Nations.{lastTarget, switchChain, switchEntries}
 use Rattle.nations.specs.declared.switches.SwitchOrder.the-variants.{ByRow}
-use Rattle.nations.specs.Keys.{runKey, rowSpan, dateIn, numberIn}
+use Rattle.nations.specs.Keys.{runKey, dateIn, numberIn}
+use Rattle.nations.specs.Layout.{rowSpan, mostSwitches, keyDates, keyNumbers, wordSpan}
 use Rattle.nations.specs.Countries.{switchKeysFrom, smallSwitch, Keyed}
 use Rattle.nations.specs.Lookup.{inRange}
 use Rattle.nations.specs.Switches.{PlacedSwitch, placed, ownPlaced, allPlaced, keyBy, runsFrom, runKeys, runStart}
@@ -38,7 +39,7 @@ use Rattle.sorting.proofs.AgreeLaws.{agrees-in-order}
 use Rattle.nations.proofs.tables.KeyedLaws.{switches-few}
 use Rattle.nations.proofs.tables.LookupLaws.{begins-with}
 use Rattle.nations.proofs.tables.PlacedLaws.{placedByDate, small-date, switches-small, own-each, own-order, placed-all, rows-rise, from-length, row-keys, row-length}
-use Rattle.nations.proofs.tables.TargetLaws.{length-words}
+use Rattle.nations.proofs.tables.TargetLaws.{length-target-words}
 pub use Rattle.nations.proofs.tables.TargetLaws.{length-chain, targets-small}
 
 -- ## How many
@@ -48,41 +49,41 @@ pub length-runs : (row k : ℕ) (ks : List Country) → length (runsFrom row k k
 length-runs row k ks = row-length row k ks ∙ sym (from-length row k ks)
 
 -- An accepted record has at most 20,000.
-pub runs-few : (xs : List ℕ) → refusal xs ≡ 0 → length (runsFrom 0 0 (campaignOf xs .countries)) ≤ 20000
+pub runs-few : (xs : List ℕ) → refusal xs ≡ 0 → length (runsFrom 0 0 (campaignOf xs .countries)) ≤ mostSwitches
 runs-few xs h = omega (arith, length-runs 0 0 (campaignOf xs .countries), switches-few xs h)
 
 -- As many words of targets.
 pub length-targets : (row k : ℕ) (ks : List Country) → length (targetWords ks) ≡ length (runsFrom row k ks)
-length-targets row k ks = length-words row k ks ∙ sym (row-length row k ks)
+length-targets row k ks = length-target-words row k ks ∙ sym (row-length row k ks)
 
 -- ## One key
 
-module _ (row date k : ℕ) (small : date < 134217728) (few : k < 32768) where
+module _ (row date k : ℕ) (small : date < keyDates) (few : k < keyNumbers) where
   -- A key tells the number of its switch.
   number-in : numberIn (runKey row date k) ≡ k
   number-in = omega arith
 
   -- It tells the date.
   date-in : dateIn (runKey row date k) ≡ date
-  date-in = let q : runKey row date k / 32768 ≡ row * 134217728 + date = omega arith in rw q (omega arith)
+  date-in = let q : runKey row date k / keyNumbers ≡ row * keyDates + date = omega arith in rw q (omega arith)
 
   -- It lies between those of its row and of no other.
   row-in : (r : ℕ) → inRange (r * rowSpan) (suc r * rowSpan) (runKey row date k) ≡ eqb row r
   row-in r =
-      let key : runKey row date k ≡ row * rowSpan + (date * 32768 + k) = omega arith in
+      let key : runKey row date k ≡ row * rowSpan + (date * keyNumbers + k) = omega arith in
       let high : suc r * rowSpan ≡ r * rowSpan + rowSpan = omega arith in
-      ap₂ (inRange (r * rowSpan)) high key ∙ begins-with rowSpan row (date * 32768 + k) r (omega arith)
+      ap₂ (inRange (r * rowSpan)) high key ∙ begins-with rowSpan row (date * keyNumbers + k) r (omega arith)
 
 -- Of two keys of one row the dates decide, and on one day the numbers.
-keys-agree : (row date k day j : ℕ) → k ≤ j → j < 32768 → leb date day ≡ leb (runKey row date k) (runKey row day j)
-keys-agree row date k day j h l =
+run-keys-agree : (row date k day j : ℕ) → k ≤ j → j < keyNumbers → leb date day ≡ leb (runKey row date k) (runKey row day j)
+run-keys-agree row date k day j h l =
     cases (leb date day)
     (λ a. let b = leb-true date day a in a ∙ sym (le-leb (runKey row date k) (runKey row day j) (omega arith)))
     (λ a. let b = leb-false date day a in a ∙ sym (lt-leb (runKey row date k) (runKey row day j) (omega arith)))
 
 -- A switch's date and number have room in its key.
 abbrev RunFits : PlacedSwitch → Type 0
-RunFits p = (p .made .date .0 < 134217728) × (p .number < 32768)
+RunFits p = (p .made .date .0 < keyDates) × (p .number < keyNumbers)
 
 -- ## The switches of one row
 
@@ -122,13 +123,13 @@ own-kept r row k (y ∷ ks) (suc i) x e t =
 
 module _ (words : List ℕ) where
   -- The entry that a switch's key tells.
-  abbrev entryOf : PlacedSwitch → Entry
-  entryOf p = switchIn words (keyBy ByRow p)
+  abbrev placedEntry : PlacedSwitch → Entry
+  placedEntry p = switchIn words (keyBy ByRow p)
 
   -- With the words of its targets at their numbers, a country's keys tell its switch entries.
   entries-back : (row k : ℕ) (end : CountryTag) (ss : List Switch) (others : List ℕ) → All RunFits (ownPlaced row k ss)
-      → All (λ w. w < 4294967296) (chainWords end ss) → drop k words ≡ chainWords end ss ++ others
-      → map entryOf (ownPlaced row k ss) ≡ switchChain end ss
+      → All (λ w. w < wordSpan) (chainWords end ss) → drop k words ≡ chainWords end ss ++ others
+      → map placedEntry (ownPlaced row k ss) ≡ switchChain end ss
   unfolding ownPlaced switchChain
   entries-back row k end [] others q w e = refl
   entries-back row k end (x ∷ ss) others q w e =
@@ -140,13 +141,13 @@ module _ (words : List ℕ) where
       ap (λ (i : ℕ). getD words i 0) zero-more ∙ sym (getD-drop k words 0 0) ∙ ap (λ (l : List ℕ). getD l 0 0) e in
       let behind : drop (suc k) words ≡ chainWords end ss ++ others =
       ap (λ (n : ℕ). drop n words) (sym (add-one k)) ∙ sym (drop-drop 1 k words) ∙ ap (drop 1) e in
-      let small : target .0 % 4294967296 ≡ target .0 = mod-eq-of-lt (w .0) in
-      let first : entryOf (placed row k x) ≡ record { date = x .date; kind = switch target } = simp (number, date, here, small) in
+      let small : target .0 % wordSpan ≡ target .0 = mod-eq-of-lt (w .0) in
+      let first : placedEntry (placed row k x) ≡ record { date = x .date; kind = switch target } = simp (number, date, here, small) in
       simp (first, entries-back row (suc k) end ss others (q .1) (w .1) behind)
 
   -- A country's keys in order are its switches by date, ties in row order, and so are the entries that they tell.
   entries-sorted : (row k : ℕ) (ss : List Switch) → All RunFits (ownPlaced row k ss)
-      → map (switchIn words) (sortBy leb (map (keyBy ByRow) (ownPlaced row k ss))) ≡ sortBy byDate (map entryOf (ownPlaced row k ss))
+      → map (switchIn words) (sortBy leb (map (keyBy ByRow) (ownPlaced row k ss))) ≡ sortBy byDate (map placedEntry (ownPlaced row k ss))
   entries-sorted row k ss q =
       let own = ownPlaced row k ss in
       let rising = own-order (λ p. p .number) row k ss (λ i j x y l. l) in
@@ -156,20 +157,20 @@ module _ (words : List ℕ) where
       (agrees-in-order placedByDate leb (keyBy ByRow) (λ p. (p .row ≡ row) × RunFits p) (λ p. p .number) (by-key row) own rising
       (all-both (λ p. p .row ≡ row) RunFits own rows q))))
       ∙ map-then (keyBy ByRow) (switchIn words) (sortBy placedByDate own)
-      ∙ map-sort placedByDate byDate entryOf own (agrees-in-order placedByDate byDate entryOf RunFits (λ p. p .number) by-entry own rising q)
+      ∙ map-sort placedByDate byDate placedEntry own (agrees-in-order placedByDate byDate placedEntry RunFits (λ p. p .number) by-entry own rising q)
     where
       by-key : (row : ℕ) (a b : PlacedSwitch) → (a .row ≡ row) × RunFits a → (b .row ≡ row) × RunFits b → a .number ≤ b .number
           → placedByDate a b ≡ leb (keyBy ByRow a) (keyBy ByRow b)
       by-key row a b f g l =
-          rw (f .0, g .0) (keys-agree row (a .made .date .0) (a .number) (b .made .date .0) (b .number) l (g .1 .1))
+          rw (f .0, g .0) (run-keys-agree row (a .made .date .0) (a .number) (b .made .date .0) (b .number) l (g .1 .1))
 
-      by-entry : (a b : PlacedSwitch) → RunFits a → RunFits b → a .number ≤ b .number → placedByDate a b ≡ byDate (entryOf a) (entryOf b)
+      by-entry : (a b : PlacedSwitch) → RunFits a → RunFits b → a .number ≤ b .number → placedByDate a b ≡ byDate (placedEntry a) (placedEntry b)
       by-entry a b f g l =
           rw (date-in (a .row) (a .made .date .0) (a .number) (f .0) (f .1), date-in (b .row) (b .made .date .0) (b .number) (g .0) (g .1))
 
 -- The part of the keys that a country's row has tells its switch entries by date, ties in row order.
-pub run-entries : (ks : List Country) (row : ℕ) (k : Country) → getElem? ks row ≡ some k → Keyed ks → length (runKeys ks) ≤ 20000
-    → All (λ w. w < 4294967296) (targetWords ks)
+pub run-entries : (ks : List Country) (row : ℕ) (k : Country) → getElem? ks row ≡ some k → Keyed ks → length (runKeys ks) ≤ mostSwitches
+    → All (λ w. w < wordSpan) (targetWords ks)
     → map (switchIn (targetWords ks))
     (take (runStart (suc row) (runKeys ks) - runStart row (runKeys ks)) (drop (runStart row (runKeys ks)) (runKeys ks)))
     ≡ sortBy byDate (switchEntries k)
@@ -184,11 +185,11 @@ run-entries ks row k there q few small =
     let own-part = take (runStart (suc row) (runKeys ks) - runStart row (runKeys ks)) (drop (runStart row (runKeys ks)) (runKeys ks)) in
     let split : words ≡ before ++ (ownTargets k ++ behind) =
     ap targetWords (at-split ks row k there) ∙ join-append ownTargets (take row ks) (k ∷ drop (suc row) ks) in
-    let own-words : All (λ w. w < 4294967296) (ownTargets k) =
-    all-parts (λ w. w < 4294967296) (ownTargets k) behind
-    (all-parts (λ w. w < 4294967296) before (ownTargets k ++ behind) (subst (λ (l : List ℕ). All (λ w. w < 4294967296) l) split small) .1) .0 in
+    let own-words : All (λ w. w < wordSpan) (ownTargets k) =
+    all-parts (λ w. w < wordSpan) (ownTargets k) behind
+    (all-parts (λ w. w < wordSpan) before (ownTargets k ++ behind) (subst (λ (l : List ℕ). All (λ w. w < wordSpan) l) split small) .1) .0 in
     let fit : All RunFits all =
-    placed-all RunFits (λ x. smallSwitch x ≡ true) (length ks) 32768 (λ r i x a b s. (small-date x s, b)) 0 0 ks (omega arith)
+    placed-all RunFits (λ x. smallSwitch x ≡ true) (length ks) keyNumbers (λ r i x a b s. (small-date x s, b)) 0 0 ks (omega arith)
     (omega (arith, length-sort leb (runsFrom 0 0 ks), row-length 0 0 ks)) (switches-small ks q) in
     let counted : 0 + first ≡ first = omega arith in
     let kept : keep (λ p. eqb (p .row) row) all ≡ own =

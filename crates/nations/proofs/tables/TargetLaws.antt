@@ -8,11 +8,12 @@ use lib.Seq.{getD-drop}
 use Rattle.lists.specs.Lists.{All, firstOr}
 use Rattle.lists.proofs.ListLaws.{all-map, all-getD, all-join}
 use Rattle.lists.proofs.FillLaws.{Filling, filling-more}
-use Rattle.record.specs.declared.tag.CountryTag.{CountryTag}
-use Rattle.record.specs.declared.rows.Switch.{Switch}
-use Rattle.record.specs.Campaign.{Country, Campaign}
-use Rattle.record.specs.Sound.{GoodTag, GoodCountry, Sound}
+use Rattle.format.specs.declared.tag.CountryTag.{CountryTag}
+use Rattle.format.specs.declared.rows.Switch.{Switch}
+use Rattle.format.specs.Campaign.{Country, Campaign}
+use Rattle.format.specs.Sound.{GoodTag, GoodCountry, Sound}
 use Rattle.rules.specs.Nations.{initialFrom, lastTarget, switchChain}
+use Rattle.nations.specs.Layout.{wordSpan}
 use Rattle.nations.specs.Countries.{FilledFrom}
 use Rattle.nations.specs.Switches.{ownPlaced, allPlaced, chainWords, ownTargets, targetWords}
 use Rattle.nations.proofs.tables.KeyedLaws.{tag-small}
@@ -28,9 +29,9 @@ pub initial-previous : {ss : List Switch} {ps rest : List CountryTag} {p : Count
 unfolding initialFrom
 initial-previous t e f = rw (e, f)
 
-pub initial-own : {ss : List Switch} {ps : List CountryTag} (t : CountryTag) → ss ≡ [] → ps ≡ [] → t ≡ initialFrom ss ps t
+pub first-own : {ss : List Switch} {ps : List CountryTag} (t : CountryTag) → ss ≡ [] → ps ≡ [] → t ≡ initialFrom ss ps t
 unfolding initialFrom
-initial-own t e f = rw (e, f)
+first-own t e f = rw (e, f)
 
 -- ## The words of targets
 
@@ -46,10 +47,10 @@ target-chained ps t end ss w f e = w ∙ ap (λ (x : CountryTag). x .0) (f ∙ c
     chained ps (s ∷ ss) e = refl
 
 -- The first word of a chain and the others.
-pub chain-next : {ss rest : List Switch} {x : Switch} (end : CountryTag) → ss ≡ x ∷ rest
+pub targets-next : {ss rest : List Switch} {x : Switch} (end : CountryTag) → ss ≡ x ∷ rest
     → chainWords end ss ≡ firstOr end (map (λ y. y .from) rest) .0 ∷ chainWords end rest
 unfolding switchChain
-chain-next end e = rw e
+targets-next end e = rw e
 
 -- No switch has no word.
 pub chain-end : {ss : List Switch} (end : CountryTag) → ss ≡ [] → chainWords end ss ≡ []
@@ -69,17 +70,17 @@ length-chain end [] = refl
 length-chain end (x ∷ ss) = ap suc (length-chain end ss)
 
 -- As many words as switches.
-pub length-words : (row k : ℕ) (ks : List Country) → length (targetWords ks) ≡ length (allPlaced row k ks)
+pub length-target-words : (row k : ℕ) (ks : List Country) → length (targetWords ks) ≡ length (allPlaced row k ks)
 unfolding allPlaced
-length-words row k [] = refl
-length-words row k (x ∷ ks) =
+length-target-words row k [] = refl
+length-target-words row k (x ∷ ks) =
     omega (
       arith,
       length-append (ownTargets x) (targetWords ks),
       length-append (ownPlaced row k (x .switches)) (allPlaced (suc row) (k + length (x .switches)) ks),
       length-chain (lastTarget x) (x .switches),
       length-own row k (x .switches),
-      length-words (suc row) (k + length (x .switches)) ks,
+      length-target-words (suc row) (k + length (x .switches)) ks,
     )
 
 -- The words of the countries that are left still have to be written, from k on.
@@ -113,13 +114,13 @@ chain-small bound end (x ∷ []) h q = (h, tt)
 chain-small bound end (x ∷ y ∷ ss) h q = (q .1 .0, chain-small bound end (y ∷ ss) h (q .1))
 
 -- The targets of a good country are words of 32 bits.
-country-targets : (k : Country) → GoodCountry k → All (λ w. w < 4294967296) (ownTargets k)
+country-targets : (k : Country) → GoodCountry k → All (λ w. w < wordSpan) (ownTargets k)
 country-targets k q =
     let last : GoodTag (lastTarget k) = all-getD GoodTag (k .previous) (length (k .switches)) (k .tag) (q .previous) (q .tag) in
-    let small : (t : CountryTag) → GoodTag t → t .0 < 4294967296 = λ t g. omega (arith, tag-small t g) in
-    chain-small 4294967296 (lastTarget k) (k .switches) (small (lastTarget k) last)
+    let small : (t : CountryTag) → GoodTag t → t .0 < wordSpan = λ t g. omega (arith, tag-small t g) in
+    chain-small wordSpan (lastTarget k) (k .switches) (small (lastTarget k) last)
     (all-map (λ s g. small (s .from) (g .from)) (k .switches) (q .switches))
 
 -- The targets of a sound campaign are words of 32 bits.
-pub targets-small : (c : Campaign) → Sound c → All (λ w. w < 4294967296) (targetWords (c .countries))
-targets-small c q = all-join (λ w. w < 4294967296) ownTargets country-targets (c .countries) (q .countries)
+pub targets-small : (c : Campaign) → Sound c → All (λ w. w < wordSpan) (targetWords (c .countries))
+targets-small c q = all-join (λ w. w < wordSpan) ownTargets country-targets (c .countries) (q .countries)

@@ -8,7 +8,7 @@ use lib.ListN.{drop}
 use Rattle.lists.specs.Lists.{allOf}
 use Rattle.rules.specs.NationRows.{entryRowsIn, entryShaped}
 use Rattle.chronicle_rows.proofs.RowAtLaws.{entries-next}
-use Rattle.chronicle_rows.proofs.ShapeLaws.{all-pass, all-stop, all-end}
+use Rattle.chronicle_rows.proofs.LentShapeLaws.{all-pass, all-stop, all-end}
 use Rattle.chronicle_rows.proofs.shape.entries_shaped.Statement.{statement}
 use Rattle.chronicle_rows.proofs.shape.entries_shaped.Tie as tie
 

@@ -1,6 +1,6 @@
 -- By what the test of the word answers.
 use mathlib.Core.Path.{sym}
-use Rattle.record.proofs.ToldLaws.{date-told, no-date-told}
+use Rattle.format.proofs.DateLaws.{date-told, no-date-told}
 use borrow.Author.Needs.{needs}
 use Rattle.chronicle_rows.proofs.shape.is_date.Statement.{statement}
 use Rattle.chronicle_rows.proofs.shape.is_date.Tie as tie

@@ -1,6 +1,6 @@
 -- By what the test of the word answers.
 use mathlib.Core.Path.{sym}
-use Rattle.chronicle_rows.proofs.ShapeLaws.{tag-told, no-tag-told}
+use Rattle.chronicle_rows.proofs.LentShapeLaws.{tag-told, no-tag-told}
 use borrow.Author.Needs.{needs}
 use Rattle.chronicle_rows.proofs.shape.is_tag.Statement.{statement}
 use Rattle.chronicle_rows.proofs.shape.is_tag.Tie as tie

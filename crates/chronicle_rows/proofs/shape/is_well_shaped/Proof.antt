@@ -1,6 +1,6 @@
 -- The parts of the test in turn.
 use mathlib.Core.Path.{_∙_}
-use Rattle.chronicle_rows.proofs.ShapeLaws.{torn, not-following, by-entries}
+use Rattle.chronicle_rows.proofs.LentShapeLaws.{torn, not-following, by-entries}
 use borrow.Author.Needs.{needs}
 use Rattle.chronicle_rows.proofs.shape.is_well_shaped.Statement.{statement}
 use Rattle.chronicle_rows.proofs.shape.is_well_shaped.Tie as tie

@@ -1,6 +1,6 @@
 -- By the kind's word.
 use mathlib.Core.Path.{_∙_}
-use Rattle.chronicle_rows.proofs.ShapeLaws.{switch-shaped, life-shaped}
+use Rattle.chronicle_rows.proofs.LentShapeLaws.{switch-shaped, life-shaped}
 use borrow.Author.Needs.{needs}
 use Rattle.chronicle_rows.proofs.shape.kind_shaped.Statement.{statement}
 use Rattle.chronicle_rows.proofs.shape.kind_shaped.Tie as tie

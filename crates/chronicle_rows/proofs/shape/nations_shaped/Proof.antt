@@ -7,7 +7,7 @@ use mathlib.Core.Path.{_≡_, refl}
 use Prim.Native.Nat.{_+_, _-_}
 use Rattle.rules.specs.NationRows.{nationRowsIn}
 use Rattle.chronicle_rows.proofs.RowAtLaws.{nations-next}
-use Rattle.chronicle_rows.proofs.ShapeLaws.{Following, follow-pass, follow-stop, follow-end}
+use Rattle.chronicle_rows.proofs.LentShapeLaws.{Following, follow-pass, follow-stop, follow-end}
 use Rattle.chronicle_rows.proofs.shape.nations_shaped.Statement.{statement}
 use Rattle.chronicle_rows.proofs.shape.nations_shaped.Tie as tie
 

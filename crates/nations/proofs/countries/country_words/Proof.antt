@@ -7,7 +7,7 @@ use borrow.Author.Needs.{needs}
 use lib.ListN.{length-map, length}
 use Rattle.lists.proofs.FillLaws.{Filling, filling-new, filling-room, filling-put, filling-count, filling-written}
 use Rattle.record.specs.Cursors.{countryOf, countriesLeft, countryTold}
-use Rattle.record.proofs.CampaignLaws.{told-row, told-length, told-end}
+use Rattle.format.proofs.CampaignLaws.{told-row, told-length, told-end}
 use Rattle.nations.specs.Countries.{tagWords, initialWords}
 use Rattle.nations.proofs.countries.country_words.Statement.{statement}
 use Rattle.nations.proofs.countries.country_words.Tie as tie
@@ -45,8 +45,8 @@ next-requires c κs = search needs
 enum-known-row : tie.Need-enum-known-row Inv-loop μ-loop
 enum-known-row c = search needs
 
-initial-requires : tie.Need-initial-requires Inv-loop μ-loop
-initial-requires c κs = search needs
+initial-of-requires : tie.Need-initial-of-requires Inv-loop μ-loop
+initial-of-requires c κs = search needs
 
 word-requires : tie.Need-word-requires Inv-loop μ-loop
 word-requires c κs = search needs
@@ -79,7 +79,7 @@ loop-again c =
     let t = c .before .before .before .before in
     let l = t .before .before .before .before .loop in (
       filling-put _ _ _ _ _ (l .inv .0) _ _ (ap tagWords (told t)) _ (c .before .word .ensures),
-      filling-put _ _ _ _ _ (l .inv .1) _ _ (ap initialWords (told t)) _ (c .word2 .ensures ∙ ap (λ x. x .0) (c .before .before .initial .ensures)),
+      filling-put _ _ _ _ _ (l .inv .1) _ _ (ap initialWords (told t)) _ (c .word2 .ensures ∙ ap (λ x. x .0) (c .before .before .initial-of .ensures)),
     )
 
 enum-told : tie.Need-enum-told Inv-loop μ-loop
@@ -110,7 +110,7 @@ country-words-spec =
     loop-holds
     next-requires
     enum-known-row
-    initial-requires
+    initial-of-requires
     word-requires
     mul-tags
     slice-write-tags

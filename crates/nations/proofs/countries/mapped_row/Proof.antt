@@ -1,4 +1,4 @@
--- The keys of an initial are those from its word times 2048 on, below the next word's.
+-- The keys of an initial are those from its word times keyRows on, below the next word's.
 use borrow.Author.Needs.{needs}
 use Rattle.nations.proofs.tables.MappedLaws.{row-mapped}
 use Rattle.nations.proofs.countries.mapped_row.Statement.{statement}

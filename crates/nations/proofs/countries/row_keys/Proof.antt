@@ -6,9 +6,9 @@ use borrow.Author.Needs.{needs}
 use lib.Seq.{length-take-le}
 use lib.ListN.{length, take, drop}
 use Rattle.lists.proofs.FillLaws.{Filling, filling-new, filling-put, filling-count, filling-written}
-use Rattle.sorting.proofs.KeyLaws.{sorted-front}
+use Rattle.sorting.proofs.SortedKeyLaws.{sorted-front}
 use Rattle.nations.specs.Countries.{wordKeys}
-use Rattle.nations.proofs.tables.CountryLaws.{length-keys, keys-next, keys-end}
+use Rattle.nations.proofs.tables.CountryLaws.{length-word-keys, keys-next, keys-end}
 use Rattle.nations.proofs.countries.row_keys.Statement.{statement}
 use Rattle.nations.proofs.countries.row_keys.Tie as tie
 
@@ -22,13 +22,16 @@ abbrev μ-loop : tie.MeasureT-loop
 loop-holds : tie.Need-loop-holds Inv-loop μ-loop
 loop-holds c =
     let s0 = c .before .before .before in
-    (search needs, filling-new _ _ (rw length-keys (omega (arith, length-take-le (s0 .args .n) (s0 .args .words .now) (s0 .pre .1)))))
+    (search needs, filling-new _ _ (rw length-word-keys (omega (arith, length-take-le (s0 .args .n) (s0 .args .words .now) (s0 .pre .1)))))
 
-mul-row-key : tie.Need-mul-row-key Inv-loop μ-loop
-mul-row-key c = search needs
+mul-kept : tie.Need-mul-kept Inv-loop μ-loop
+mul-kept c = search needs
 
-shared-slice-read-row-key : tie.Need-shared-slice-read-row-key Inv-loop μ-loop
-shared-slice-read-row-key c = search needs
+shared-slice-read-kept : tie.Need-shared-slice-read-kept Inv-loop μ-loop
+shared-slice-read-kept c = search needs
+
+kept-requires : tie.Need-kept-requires Inv-loop μ-loop
+kept-requires c κs = search needs
 
 row-key-requires : tie.Need-row-key-requires Inv-loop μ-loop
 row-key-requires c κs = search needs
@@ -47,9 +50,10 @@ loop-less c = search needs
 
 loop-again : tie.Need-loop-again Inv-loop μ-loop
 loop-again c =
-    let s0 = c .before .before .before .before .before .before .before in
-    let l = c .before .before .before .loop in
-    (search needs, filling-put _ _ _ _ _ (l .inv .1) _ _ (keys-next (s0 .args .words .now) (s0 .args .n) (l .i) (s0 .pre .1) (c .before .before .loop-test .taken)) _ (c .row-key .ensures))
+    let kept = c .before in
+    let s0 = kept .before .before .before .before .before .before .before in
+    let l = kept .before .before .before .loop in
+    (search needs, filling-put _ _ _ _ _ (l .inv .1) _ _ (keys-next (s0 .args .words .now) (s0 .args .n) (l .i) (s0 .pre .1) (kept .before .before .loop-test .taken)) _ (rw (kept .kept .ensures) at (c .row-key .ensures)))
 
 sub-sort-keys : tie.Need-sub-sort-keys Inv-loop μ-loop
 sub-sort-keys c = search needs
@@ -85,8 +89,9 @@ row-keys-spec =
     Inv-loop
     μ-loop
     loop-holds
-    mul-row-key
-    shared-slice-read-row-key
+    mul-kept
+    shared-slice-read-kept
+    kept-requires
     row-key-requires
     mul-keys
     slice-write-keys

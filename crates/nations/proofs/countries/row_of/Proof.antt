@@ -1,4 +1,4 @@
--- The keys of a tag are those from its word times 2048 on, below the next word's.
+-- The keys of a tag are those from its word times keyRows on, below the next word's.
 use borrow.Author.Needs.{needs}
 use Rattle.nations.proofs.tables.MappedLaws.{row-found}
 use Rattle.nations.proofs.countries.row_of.Statement.{statement}

@@ -5,8 +5,8 @@ use Prim.Native.Nat.{_+_, _*_, _≤_, _<_}
 use borrow.Author.Needs.{needs}
 use lib.ListN.{length, getD}
 use Rattle.lists.proofs.WriteLaws.{behind}
-use Rattle.rules.specs.NationRows.{entryRow, entryRowWords}
-use Rattle.nations.specs.Turning.{highs, lows, lifeEntry}
+use Rattle.rules.specs.NationRows.{entryRow, entryRowWords, entryWidth}
+use Rattle.nations.specs.Turning.{highHalves, lowHalves, lifeEntry}
 use Rattle.nations.specs.Switches.{switchIn}
 use Rattle.nations.proofs.answer.MergeEntryLaws.{entriesAhead, switch-inside, Merging, merging-none, merging-done}
 use Rattle.nations.proofs.answer.MergeEntryLaws.{switch-room, switch-less, switch-more, life-room, life-light, life-less, life-more}
@@ -14,10 +14,10 @@ use Rattle.nations.proofs.entries.write_entries.Statement.{statement}
 use Rattle.nations.proofs.entries.write_entries.Tie as tie
 
 abbrev Inv-loop : tie.InvT-loop
-Inv-loop run targets keys turns start out₀ life₀ i₀ k₀ out life i k = Merging targets run start keys (highs turns) (lows turns) life₀ out₀ life i k out
+Inv-loop run targets keys turns start out₀ life₀ i₀ k₀ out life i k = Merging targets run start keys (highHalves turns) (lowHalves turns) life₀ out₀ life i k out
 
 abbrev μ-loop : tie.MeasureT-loop
-μ-loop run targets keys turns start out₀ life₀ i₀ k₀ out life i k = length (entriesAhead targets run start keys (highs turns) (lows turns) i life)
+μ-loop run targets keys turns start out₀ life₀ i₀ k₀ out life i k = length (entriesAhead targets run start keys (highHalves turns) (lowHalves turns) i life)
 
 -- The start, seen from the loop.
 abbrev start : tie.At-loop Inv-loop μ-loop → tie.Start Inv-loop μ-loop
@@ -28,12 +28,12 @@ module _ (c : tie.Then1 Inv-loop μ-loop) where
   inside : c .before .before .loop .i < length (start (c .before .before) .args .run .now)
   inside = switch-inside _ _ _ (sym (c .before .switch-first .ensures) ∙ c .if1 .taken)
 
-  room : 3 * c .before .before .loop .k + 3 ≤ length (c .before .before .loop .out)
+  room : entryWidth * c .before .before .loop .k + entryWidth ≤ length (c .before .before .loop .out)
   room = switch-room _ _ _ _ _ _ _ _ _ _ _ _ (c .before .before .loop .inv) (sym (c .before .switch-first .ensures) ∙ c .if1 .taken)
 
 -- The told life finds room.
 module _ (c : tie.After-life Inv-loop μ-loop) where
-  told-room : 3 * c .before .before .before .before .loop .k + 3 ≤ length (c .before .before .before .before .loop .out)
+  told-room : entryWidth * c .before .before .before .before .loop .k + entryWidth ≤ length (c .before .before .before .before .loop .out)
   told-room =
       let test = c .before .before .before in
       let none = sym (test .switch-first .ensures) ∙ c .before .before .if1 .left in
@@ -117,7 +117,7 @@ loop-again c =
     let a = start (turn .before .before) .args in
     let row = entryRowWords (entryRow (switchIn (a .targets .now) (getD (a .run .now) (l .i) 0))) in
     let wrote =
-    behind (l .out) row (put .put-entry .last .1 .1 .0) (3 * l .k) (room turn)
+    behind (l .out) row (put .put-entry .last .1 .1 .0) (entryWidth * l .k) (room turn)
     (rw (date .switch-date .ensures, date .before .switch-target .ensures) at (put .put-entry .ensures)) in
     switch-more _ _ _ _ _ _ _ _ _ _ _ _ (l .inv) (sym (turn .before .switch-first .ensures) ∙ turn .if1 .taken) _ wrote
 
@@ -175,7 +175,7 @@ loop-again-2 c =
     let none = sym (test .switch-first .ensures) ∙ turn .before .before .if1 .left in
     let row = entryRowWords (entryRow (lifeEntry (turn .life .given .0 .0) (turn .life .given .0 .1 .0))) in
     let wrote =
-    behind (l .out) row (put .put-entry2 .last .1 .1 .0) (3 * l .k) (told-room turn)
+    behind (l .out) row (put .put-entry2 .last .1 .1 .0) (entryWidth * l .k) (told-room turn)
     (rw (put .before .before .life-kind .ensures) at (put .put-entry2 .ensures)) in
     life-more _ _ _ _ _ _ _ _ _ _ _ _ (l .inv) none _ _ _ (turn .life .given .1) _ (c .next2 .ensures) _ wrote
 

@@ -3,6 +3,7 @@ use mathlib.Core.Path.{_≡_, sym, _∙_}
 use Prim.Native.Nat.{ℕ}
 use native.Mathlib.Omega.{arith}
 use lib.ListN.{length, replicate, length-replicate}
+use Rattle.nations.specs.Layout.{mostCountries}
 use Rattle.nations.proofs.answer.NationStepLaws.{tables-filled}
 use Rattle.nations.proofs.gathering.fill_tables.Statement.{statement}
 use Rattle.nations.proofs.gathering.fill_tables.Tie as tie
@@ -12,20 +13,20 @@ made : (n : ℕ) → length {A = ℕ} (replicate n 0) ≡ n
 made n = length-replicate {A = ℕ} n 0
 
 slice-aggregate-country-words : tie.Need-slice-aggregate-country-words
-slice-aggregate-country-words c = sym (made 2000)
+slice-aggregate-country-words c = sym (made mostCountries)
 
 country-words-requires : tie.Need-country-words-requires
-country-words-requires c κs = let p = c .before .before .before .before .before .before .before .pre .1 in (p .words, omega (arith, p .few, made 2000))
+country-words-requires c κs = let p = c .before .before .before .before .before .before .before .pre .1 in (p .words, omega (arith, p .few, made mostCountries))
 
 slice-aggregate-row-keys : tie.Need-slice-aggregate-row-keys
-slice-aggregate-row-keys c = sym (c .before .before .before .before .country-words .kept .1 .1 .1 .0 ∙ made 2000)
+slice-aggregate-row-keys c = sym (c .before .before .before .before .country-words .kept .1 .1 .1 .0 ∙ made mostCountries)
 
 row-keys-requires : tie.Need-row-keys-requires
 row-keys-requires c κs =
     let p = c .before .before .before .before .before .before .before .before .before .before .before .before .before .before .pre .1 in
     let words = c .before .before .before .before .before .before .country-words in
     let n = words .ensures .counted in
-    (omega (arith, n, p .few), omega (arith, n, p .few, words .kept .1 .1 .1 .0, made 2000), omega (arith, n, p .initials))
+    (omega (arith, n, p .few), omega (arith, n, p .few, words .kept .1 .1 .1 .0, made mostCountries), omega (arith, n, p .initials))
 
 switch-keys-requires : tie.Need-switch-keys-requires
 switch-keys-requires c κs = let p = c .before .before .before .before .before .before .before .before .before .before .before .before .before .before .before .before .before .before .before .before .before .pre in (p .0, p .1 .switches)

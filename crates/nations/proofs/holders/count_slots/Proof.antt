@@ -3,7 +3,7 @@ use mathlib.Core.Logic.{⊎-elim}
 use Prim.Native.Nat.{_-_}
 use native.Mathlib.Omega.{arith}
 use lib.ListN.{length}
-use Rattle.nations.proofs.slots.CellLaws.{SlotsCounting, counting-none, counting-long, counting-few, counting-next, counting-past, counting-done}
+use Rattle.nations.proofs.slots.CellLaws.{SlotsCounting, slots-counting-none, slots-counting-long, slots-counting-few, slots-counting-next, slots-counting-past, slots-counting-done}
 use borrow.Author.Needs.{needs}
 use Rattle.nations.proofs.holders.count_slots.Statement.{statement}
 use Rattle.nations.proofs.holders.count_slots.Tie as tie
@@ -17,11 +17,11 @@ abbrev μ-loop : tie.MeasureT-loop
 abbrev begin : tie.At-loop Inv-loop μ-loop → tie.Start Inv-loop μ-loop
 begin c = c .before .before .before .before .before .before .before
 
-clear-requires : tie.Need-clear-requires Inv-loop μ-loop
-clear-requires c κs = search needs
+clear-counts-requires : tie.Need-clear-counts-requires Inv-loop μ-loop
+clear-counts-requires c κs = search needs
 
 loop-holds : tie.Need-loop-holds Inv-loop μ-loop
-loop-holds c = counting-none _ (c .before .before .before .before .before .before .args .counts .now) _ (c .before .before .clear .ensures)
+loop-holds c = slots-counting-none _ (c .before .before .before .before .before .before .args .counts .now) _ (c .before .before .clear-counts .ensures)
 
 mul-row : tie.Need-mul-row Inv-loop μ-loop
 mul-row c = search needs
@@ -39,7 +39,7 @@ add-counts : tie.Need-add-counts Inv-loop μ-loop
 add-counts c =
     let more = c .before .before .before .loop-test .taken in
     let l = c .before .before .before .before .loop in
-    omega (arith, counting-few _ _ _ _ (l .inv) more _ (c .before .if1 .taken), begin (c .before .before .before .before) .pre, more)
+    omega (arith, slots-counting-few _ _ _ _ (l .inv) more _ (c .before .if1 .taken), begin (c .before .before .before .before) .pre, more)
 
 slice-write-counts : tie.Need-slice-write-counts Inv-loop μ-loop
 slice-write-counts c = search needs
@@ -55,19 +55,19 @@ loop-again c =
     let l = c .before .before .before .loop in
     let more = c .before .before .loop-test .taken in
     ⊎-elim
-    (λ w. rw (w .2) (counting-next _ _ (l .counts) (l .i) (l .inv) more))
-    (λ w. rw (w .1) (counting-past _ _ (l .counts) (l .i) (l .inv) more (w .0 .left)))
+    (λ w. rw (w .2) (slots-counting-next _ _ (l .counts) (l .i) (l .inv) more))
+    (λ w. rw (w .1) (slots-counting-past _ _ (l .counts) (l .i) (l .inv) more (w .0 .left)))
     (c .if1 .came)
 
 same-length : tie.Need-same-length Inv-loop μ-loop
 same-length c =
     let l = c .before .loop in
-    omega (arith, counting-long _ _ _ _ (l .inv), c .before .before .before .before .clear .kept)
+    omega (arith, slots-counting-long _ _ _ _ (l .inv), c .before .before .before .before .clear-counts .kept)
 
 returns : tie.Need-returns Inv-loop μ-loop
 returns c =
     let l = c .before .loop in
-    counting-done _ _ _ _ (l .inv) (begin (c .before) .args .counts .now) (c .before .before .before .before .clear .ensures) (c .loop-test .left)
+    slots-counting-done _ _ _ _ (l .inv) (begin (c .before) .args .counts .now) (c .before .before .before .before .clear-counts .ensures) (c .loop-test .left)
 
 pub count-slots-spec : {M : Type 1} → statement M
 count-slots-spec =
@@ -75,7 +75,7 @@ count-slots-spec =
     (tie.spec
     Inv-loop
     μ-loop
-    clear-requires
+    clear-counts-requires
     loop-holds
     mul-row
     shared-slice-read-row

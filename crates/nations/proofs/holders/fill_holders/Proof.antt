@@ -6,12 +6,12 @@ use native.Mathlib.Omega.{arith}
 use lib.ListN.{length, length-set}
 use lib.Seq.{take-all}
 use Rattle.lists.specs.Lists.{All}
-use Rattle.record.specs.Campaign.{campaignOf}
-use Rattle.record.proofs.CampaignLaws.{told-row, told-end}
+use Rattle.format.specs.Campaign.{campaignOf}
+use Rattle.format.proofs.CampaignLaws.{told-row, told-end}
 use Rattle.owner_changes.specs.ChangeSteps.{changeOf, changesLeft, changeTold}
 use Rattle.nations.specs.Countries.{tagWords, wordKeys, switchKeysFrom}
 use Rattle.nations.specs.Holders.{holderCell}
-use Rattle.owner_changes.proofs.FillLaws.{Filling, walk-start, filling-none, filling-next, filling-more, filling-done}
+use Rattle.owner_changes.proofs.EnteringLaws.{Entering, all-entered, entering-none, entering-next, entering-more, entering-done}
 use Rattle.nations.proofs.slots.ChangeCellLaws.{Small, entered-small, small-next, all-sorted, first-sorted, cell-made}
 use borrow.Author.Needs.{needs}
 use Rattle.nations.proofs.holders.fill_holders.Statement.{statement}
@@ -20,7 +20,7 @@ use Rattle.nations.proofs.holders.fill_holders.Tie as tie
 abbrev Inv-loop : tie.InvT-loop
 Inv-loop s tag-words tag-keys switch-keys cells₀ at₀ n₀ cells at n =
     (length cells ≡ length cells₀)
-    × Filling (λ _. map (holderCell (campaignOf s .countries))) s (changesLeft s at) n cells
+    × Entering (λ _. map (holderCell (campaignOf s .countries))) s (changesLeft s at) n cells
     × All Small (changesLeft s at)
 
 abbrev μ-loop : tie.MeasureT-loop
@@ -42,9 +42,9 @@ loop-holds : tie.Need-loop-holds Inv-loop μ-loop
 loop-holds c =
     let s0 = c .before .before .before .before .before .before in
     let cell = holderCell (campaignOf (s0 .args .s .now) .countries) in
-    let all = walk-start _ (s0 .args .provinces) (c .next .result) (s0 .pre .0) (c .next .ensures) in (
+    let all = all-entered _ (s0 .args .provinces) (c .next .result) (s0 .pre .0) (c .next .ensures) in (
       refl,
-      filling-none (λ _. map cell) _ (s0 .args .provinces) _ _ (s0 .pre .0) all (omega (arith, s0 .pre .1 .0)),
+      entering-none (λ _. map cell) _ (s0 .args .provinces) _ _ (s0 .pre .0) all (omega (arith, s0 .pre .1 .0)),
       rw all (entered-small _ (s0 .pre .0 .accepted)),
     )
 
@@ -62,9 +62,6 @@ holder-row-requires c κs =
     let small = small-next (more x) (x .before .before .before .loop .inv .2) .0 in
     (first-sorted (wordKeys 0 (tagWords ks)) _ _ (q .room) (q .tags), all-sorted (switchKeysFrom 0 ks) _ (q .switching .switches), small .to)
 
-word-requires : tie.Need-word-requires Inv-loop μ-loop
-word-requires c κs = search needs
-
 cell-of-requires : tie.Need-cell-of-requires Inv-loop μ-loop
 cell-of-requires c κs = search needs
 
@@ -73,32 +70,32 @@ mul-cells c = search needs
 
 slice-write-cells : tie.Need-slice-write-cells Inv-loop μ-loop
 slice-write-cells c =
-    let x = c .before .before .before .before .before in
+    let x = c .before .before .before .before in
     let l = x .before .before .before .loop in
     let cell = holderCell (campaignOf (start x .args .s .now) .countries) in
-    filling-next (λ _. map cell) _ (l .n) (l .cells) (l .inv .1) (more x) .0
+    entering-next (λ _. map cell) _ (l .n) (l .cells) (l .inv .1) (more x) .0
 
 add-n : tie.Need-add-n Inv-loop μ-loop
 add-n c =
-    let x = c .before .before .before .before .before in
+    let x = c .before .before .before .before in
     let l = x .before .before .before .loop in
     let cell = holderCell (campaignOf (start x .args .s .now) .countries) in
-    omega (arith, filling-next (λ _. map cell) _ (l .n) (l .cells) (l .inv .1) (more x) .1)
+    omega (arith, entering-next (λ _. map cell) _ (l .n) (l .cells) (l .inv .1) (more x) .1)
 
 loop-less : tie.Need-loop-less Inv-loop μ-loop
-loop-less c = omega (arith, ap length (more (c .before .before .before .before .before)))
+loop-less c = omega (arith, ap length (more (c .before .before .before .before)))
 
 loop-again : tie.Need-loop-again Inv-loop μ-loop
 loop-again c =
-    let x = c .before .before .before .before .before in
+    let x = c .before .before .before .before in
     let l = x .before .before .before .loop in
     let s0 = start x in
     let cell = holderCell (campaignOf (s0 .args .s .now) .countries) in
     let small = small-next (more x) (l .inv .2) in
-    let row = c .before .before .holder-row in
-    let made = cell-made _ _ _ _ (s0 .pre .1 .1) (changeOf (x .x .given .0 .0)) (small .0) (row .result) (row .ensures) _ (c .before .word .ensures) in (
+    let row = c .before .holder-row in
+    let made = cell-made _ _ _ _ (s0 .pre .1 .1) (changeOf (x .x .given .0 .0)) (small .0) (row .result) (row .ensures) _ refl in (
       simp length-set (l .inv .0),
-      filling-more (λ _. map cell) _ (l .n) (l .cells) (l .inv .1) (more x) (c .cell-of .result) (rw (c .cell-of .ensures ∙ made)),
+      entering-more (λ _. map cell) _ (l .n) (l .cells) (l .inv .1) (more x) (c .cell-of .result) (rw (c .cell-of .ensures ∙ made)),
       small .1,
     )
 
@@ -114,7 +111,7 @@ returns c =
     let s0 = c .before .before .before .before .before .before .before .before .before .before in
     let cell = holderCell (campaignOf (s0 .args .s .now) .countries) in
     let end = told-end (changeTold _) (c .before .before .next-change .ensures) (c .enum-told .given .1) refl in
-    let done = filling-done (λ _. map cell) _ _ (l .n) (l .cells) (l .inv .1) end refl in
+    let done = entering-done (λ _. map cell) _ _ (l .n) (l .cells) (l .inv .1) end refl in
     sym (take-all (l .n) (l .cells) (omega (arith, done .0, l .inv .0, s0 .pre .1 .0))) ∙ done .1
 
 pub fill-holders-spec : {M : Type 1} → statement M
@@ -128,7 +125,6 @@ fill-holders-spec =
     next-change-requires
     enum-known-x
     holder-row-requires
-    word-requires
     cell-of-requires
     mul-cells
     slice-write-cells

@@ -5,6 +5,7 @@ use native.Mathlib.Omega.{arith}
 use borrow.Author.Needs.{zero≤}
 use lib.ListN.{length-take}
 use Rattle.owner_changes.proofs.ChangeLaws.{entered-few}
+use Rattle.owner_changes.specs.ChangeSteps.{mostChanges}
 use Rattle.nations.proofs.slots.HoldersLaws.{held}
 use Rattle.nations.proofs.holders.hold_slots.Statement.{statement}
 use Rattle.nations.proofs.holders.hold_slots.Tie as tie
@@ -17,7 +18,7 @@ abbrev start : tie.After-sort-steps → tie.Start
 start c = begin c .before .before .before .before .before .before .before .before .before .before .before .before
 
 -- There are not many changes.
-few : (c : tie.After-sort-steps) → c .sort-steps .result ≤ 60000
+few : (c : tie.After-sort-steps) → c .sort-steps .result ≤ mostChanges
 few c = omega (arith, entered-few _ (start c .pre .0 .accepted), c .sort-steps .ensures .counted)
 
 abbrev passed : tie.After-pass → tie.After-sort-steps

@@ -3,7 +3,7 @@ use Prim.Native.Nat.{_-_}
 use native.Mathlib.Omega.{arith}
 use borrow.Author.Needs.{needs}
 use lib.ListN.{length}
-use Rattle.nations.proofs.slots.PassLaws.{PassLoop, pass-none, pass-step, pass-done}
+use Rattle.nations.proofs.slots.SlotPassLaws.{PassLoop, pass-none, pass-step, pass-done}
 use Rattle.nations.proofs.holders.pass.Statement.{statement}
 use Rattle.nations.proofs.holders.pass.Tie as tie
 

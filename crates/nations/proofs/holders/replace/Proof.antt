@@ -6,6 +6,7 @@ use borrow.Author.Needs.{needs}
 use lib.ListN.{getD, set, List·getD-eq-default}
 use lib.Seq.{set-out}
 use Rattle.lists.proofs.ElementLaws.{at-any}
+use Rattle.nations.specs.Layout.{nobodyCell}
 use Rattle.nations.proofs.holders.replace.Statement.{statement}
 use Rattle.nations.proofs.holders.replace.Tie as tie
 
@@ -21,7 +22,7 @@ returns c =
     let e = c .before .word .ensures in
     let h = c .if1 .taken in
     record {
-      old = sym (List·getD-eq-default (a .slots .now) 65535 {n = a .id .0} (omega arith));
+      old = sym (List·getD-eq-default (a .slots .now) nobodyCell {n = a .id .0} (omega arith));
       cells = sym (set-out (a .slots .now) (a .id .0) (a .cell) (omega arith));
     }
 
@@ -46,7 +47,7 @@ returns-2 c =
     let e = c .before .before .word .ensures in
     let h = c .before .if1 .left in
     record {
-      old = at-any (a .slots .now) _ 0 65535 h ∙ ap (λ (i : ℕ). getD (a .slots .now) i 65535) e;
+      old = at-any (a .slots .now) _ 0 nobodyCell h ∙ ap (λ (i : ℕ). getD (a .slots .now) i nobodyCell) e;
       cells = ap (λ (i : ℕ). set (a .slots .now) i (a .cell)) e;
     }
 

@@ -4,10 +4,11 @@ use Prim.Native.Nat.{ℕ, _≤_}
 use native.Mathlib.Omega.{arith}
 use borrow.Author.Needs.{needs, zero≤}
 use lib.ListN.{length, replicate, length-replicate, length-map, length-take}
-use Rattle.record.specs.Campaign.{campaignOf}
+use Rattle.format.specs.Campaign.{campaignOf}
 use Rattle.owner_changes.specs.ChangeSteps.{entered}
+use Rattle.nations.specs.Layout.{mostCountries}
 use Rattle.nations.specs.Holders.{holderCell}
-use Rattle.nations.proofs.slots.CellLaws.{front}
+use Rattle.nations.proofs.slots.CellLaws.{front-is}
 use Rattle.nations.proofs.slots.ChangeCellLaws.{settler-made}
 use Rattle.nations.proofs.holders.settle_changes.Statement.{statement}
 use Rattle.nations.proofs.holders.settle_changes.Tie as tie
@@ -20,13 +21,13 @@ abbrev start : tie.After-row-keys → tie.Start
 start c = c .before .before .before .before .before .before .before
 
 slice-aggregate-row-keys : tie.Need-slice-aggregate-row-keys
-slice-aggregate-row-keys c = sym (made 2000)
+slice-aggregate-row-keys c = sym (made mostCountries)
 
 row-keys-requires : tie.Need-row-keys-requires
-row-keys-requires c κs = let p = c .before .before .before .before .before .before .pre .1 .0 .2 in (omega (arith, p), omega arith, omega (arith, p, made 2000))
+row-keys-requires c κs = let p = c .before .before .before .before .before .before .pre .1 .0 .2 in (omega (arith, p), omega arith, omega (arith, p, made mostCountries))
 
 slice-aggregate-fill-holders : tie.Need-slice-aggregate-fill-holders
-slice-aggregate-fill-holders c = sym (c .before .before .before .before .row-keys .kept .1 .1 .0 ∙ made 2000)
+slice-aggregate-fill-holders c = sym (c .before .before .before .before .row-keys .kept .1 .1 .0 ∙ made mostCountries)
 
 sub-fill-holders : tie.Need-sub-fill-holders
 sub-fill-holders c = zero≤
@@ -41,7 +42,7 @@ fill-holders-requires : tie.Need-fill-holders-requires
 fill-holders-requires c κs =
     let k = c .before .before .before .before .before in
     let p = start k .pre in
-    (p .0, (simp length-take (omega (arith, k .row-keys .kept .1 .1 .1 .0, p .1 .0 .0, p .1 .0 .1)), settler-made _ _ _ (replicate 2000 0) _ (p .1 .1) (omega (arith, p .1 .0 .2, made 2000)) (k .row-keys .ensures)))
+    (p .0, (simp length-take (omega (arith, k .row-keys .kept .1 .1 .1 .0, p .1 .0 .0, p .1 .0 .1)), settler-made _ _ _ (replicate mostCountries 0) _ (p .1 .1) (omega (arith, p .1 .0 .2, made mostCountries)) (k .row-keys .ensures)))
 
 same-length : tie.Need-same-length
 same-length c = search needs
@@ -50,7 +51,7 @@ returns : tie.Need-returns
 returns c =
     let p = c .before .before .before .before .before .before .before .before .before .before .before .before .before .before .before .pre in
     let xs = c .before .before .before .before .before .before .before .before .before .before .before .before .before .before .before .args .s .now in
-    front _ _ _ _ (c .before .before .fill-holders .ensures) (length-map (entered xs) (holderCell (campaignOf xs .countries)) ∙ sym (p .1 .0 .0))
+    front-is _ _ _ _ (c .before .before .fill-holders .ensures) (length-map (entered xs) (holderCell (campaignOf xs .countries)) ∙ sym (p .1 .0 .0))
 
 pub settle-changes-spec : {M : Type 1} → statement M
 settle-changes-spec =

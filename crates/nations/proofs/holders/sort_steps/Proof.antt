@@ -4,8 +4,8 @@ use Prim.Native.Nat.{_≤_}
 use native.Mathlib.Omega.{arith}
 use borrow.Author.Needs.{needs, zero≤}
 use lib.ListN.{length, length-map}
-use Rattle.record.specs.Campaign.{campaignOf}
-use Rattle.owner_changes.specs.ChangeSteps.{KeysFilled}
+use Rattle.format.specs.Campaign.{campaignOf}
+use Rattle.owner_changes.specs.ChangeSteps.{KeysFilled, mostChanges}
 use Rattle.owner_changes.proofs.ChangeLaws.{entered-few}
 use Rattle.owner_changes.proofs.WrittenLaws.{keys-filled}
 use Rattle.nations.proofs.tables.KeyedLaws.{countries-few}
@@ -21,7 +21,7 @@ filled-all : (c : tie.After-fill-keys) → KeysFilled (start c .args .s .now) (c
 filled-all c = keys-filled _ _ (start c .pre .0) _ _ _ (start c .pre .1 .1 .0) (c .fill-keys .ensures)
 
 -- There are not many changes.
-few : (c : tie.After-fill-keys) → c .fill-keys .result ≤ 60000
+few : (c : tie.After-fill-keys) → c .fill-keys .result ≤ mostChanges
 few c = omega (arith, entered-few _ (start c .pre .0 .accepted), filled-all c .counted)
 
 fill-keys-requires : tie.Need-fill-keys-requires

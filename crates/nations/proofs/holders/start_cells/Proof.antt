@@ -7,6 +7,7 @@ use borrow.Author.Needs.{needs}
 use lib.ListN.{length, drop, length-map}
 use Rattle.lists.proofs.FillLaws.{Filling, filling-new, filling-put, filling-whole}
 use Rattle.lists.proofs.ListLaws.{map-then}
+use Rattle.nations.specs.Layout.{half}
 use Rattle.nations.specs.Holders.{rowCell}
 use Rattle.lists.proofs.StepLaws.{map-next, map-end}
 use Rattle.nations.proofs.slots.CellLaws.{filling-kept}
@@ -15,7 +16,7 @@ use Rattle.nations.proofs.holders.start_cells.Tie as tie
 
 -- What a row becomes.
 abbrev made : List ℕ → ℕ → ℕ
-made tags r = rowCell tags (r % 65536)
+made tags r = rowCell tags (r % half)
 
 abbrev Inv-loop : tie.InvT-loop
 Inv-loop tags slots₀ i₀ slots i = (i ≤ length slots₀) × Filling (map (made tags) slots₀) (map (made tags) (drop i slots₀)) slots₀ i slots
@@ -35,6 +36,9 @@ slice-read-cell-of c = search needs
 cast-cell-of : tie.Need-cast-cell-of Inv-loop μ-loop
 cast-cell-of c = search needs
 
+kept-requires : tie.Need-kept-requires Inv-loop μ-loop
+kept-requires c κs = search needs
+
 cell-of-requires : tie.Need-cell-of-requires Inv-loop μ-loop
 cell-of-requires c κs = search needs
 
@@ -52,14 +56,15 @@ loop-less c = search needs
 
 loop-again : tie.Need-loop-again Inv-loop μ-loop
 loop-again c =
-    let l = c .before .before .before .loop in
-    let a = c .before .before .before .before .before .before .args in
+    let none = c .before in
+    let l = none .before .before .before .loop in
+    let a = none .before .before .before .before .before .before .args in
     let f = made (a .tags .now) in
-    let h = c .before .before .loop-test .taken in
+    let h = none .before .before .loop-test .taken in
     let kept = filling-kept _ _ _ _ _ 0 (l .inv .1) in (
       omega (arith, l .inv .1 .long),
       filling-put _ _ _ _ _ (l .inv .1) _ _ (map-next f (a .slots .now) (l .i) (omega (arith, l .inv .1 .long, h))) _
-          (c .cell-of .ensures ∙ ap f kept),
+          ((rw (none .kept .ensures) at (c .cell-of .ensures)) ∙ ap f kept),
     )
 
 same-length : tie.Need-same-length Inv-loop μ-loop
@@ -71,7 +76,7 @@ returns c =
     let a = c .before .before .before .before .args in
     let f = made (a .tags .now) in
     let none = map-end f (a .slots .now) (l .i) (omega (arith, l .inv .1 .long, c .loop-test .left)) in
-    filling-whole _ _ _ _ _ (l .inv .1) none (sym (length-map (a .slots .now) f)) ∙ sym (map-then (λ x. x % 65536) (rowCell (a .tags .now)) (a .slots .now))
+    filling-whole _ _ _ _ _ (l .inv .1) none (sym (length-map (a .slots .now) f)) ∙ sym (map-then (λ x. x % half) (rowCell (a .tags .now)) (a .slots .now))
 
 pub start-cells-spec : {M : Type 1} → statement M
 start-cells-spec =
@@ -83,6 +88,7 @@ start-cells-spec =
     mul-cell-of
     slice-read-cell-of
     cast-cell-of
+    kept-requires
     cell-of-requires
     mul-slots
     slice-write-slots

@@ -1,7 +1,7 @@
 -- The rows of the start holders, then the cells of these rows, and how many slots have each.
 use native.Mathlib.Omega.{arith}
 use borrow.Author.Needs.{needs}
-use Rattle.record.specs.Campaign.{campaignOf}
+use Rattle.format.specs.Campaign.{campaignOf}
 use Rattle.nations.specs.Countries.{initialWords, wordKeys}
 use Rattle.nations.proofs.tables.KeyedLaws.{provinces-few}
 use Rattle.nations.proofs.slots.ChangeCellLaws.{all-sorted}

@@ -1,6 +1,6 @@
 -- Each by the promise of the function that writes it.
 use borrow.Author.Needs.{needs, zero≤}
-use Rattle.nations.specs.Turning.{lows}
+use Rattle.nations.specs.Turning.{lowHalves}
 use Rattle.nations.proofs.slots.CellLaws.{counts-written}
 use Rattle.nations.proofs.holders.write_slots.Statement.{statement}
 use Rattle.nations.proofs.holders.write_slots.Tie as tie
@@ -31,7 +31,7 @@ returns c =
     let s0 = c .before .before .before .before .before .before .before .before .before .before .before in
     record {
       holders = c .before .before .before .before .before .before .put-holders .ensures;
-      held = counts-written (lows (s0 .args .slots .now)) (s0 .args .held .now) _ _ (s0 .pre .1) (c .before .before .count-slots .ensures);
+      held = counts-written (lowHalves (s0 .args .slots .now)) (s0 .args .held .now) _ _ (s0 .pre .1) (c .before .before .count-slots .ensures);
     }
 
 pub write-slots-spec : {M : Type 1} → statement M

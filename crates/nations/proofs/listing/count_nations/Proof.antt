@@ -6,7 +6,7 @@ use native.Mathlib.Omega.{arith}
 use borrow.Author.Needs.{needs}
 use lib.ListN.{length}
 use Rattle.nations.specs.Listing.{cellsFrom}
-use Rattle.nations.proofs.answer.CountNationsLaws.{NationsCounting, counting-none, counting-few, counting-short, counting-more, counting-done}
+use Rattle.nations.proofs.answer.CountNationsLaws.{NationsCounting, nations-counting-none, nations-counting-few, nations-counting-short, nations-counting-more, nations-counting-done}
 use Rattle.nations.proofs.listing.count_nations.Statement.{statement}
 use Rattle.nations.proofs.listing.count_nations.Tie as tie
 
@@ -22,7 +22,7 @@ abbrev start : tie.At-loop Inv-loop μ-loop → tie.Start Inv-loop μ-loop
 start c = c .before .before .before .before .before .before .before
 
 loop-holds : tie.Need-loop-holds Inv-loop μ-loop
-loop-holds c = counting-none _
+loop-holds c = nations-counting-none _
 
 count-nation-requires : tie.Need-count-nation-requires Inv-loop μ-loop
 count-nation-requires c κs = (c .before .before .before .before .before .before .before .before .pre, c .loop-test .taken)
@@ -31,13 +31,13 @@ add-nations : tie.Need-add-nations Inv-loop μ-loop
 add-nations c =
     let turn = c .before .before in
     let l = turn .before .loop in
-    omega (arith, counting-few _ _ _ _ (l .inv) (start (turn .before) .pre) (turn .loop-test .taken) _ (c .before .count-nation .ensures))
+    omega (arith, nations-counting-few _ _ _ _ (l .inv) (start (turn .before) .pre) (turn .loop-test .taken) _ (c .before .count-nation .ensures))
 
 add-entries : tie.Need-add-entries Inv-loop μ-loop
 add-entries c =
     let turn = c .before .before .before in
     let l = turn .before .loop in
-    omega (arith, counting-short _ _ _ _ (l .inv) (start (turn .before) .pre) (turn .loop-test .taken) _ (c .before .before .count-nation .ensures))
+    omega (arith, nations-counting-short _ _ _ _ (l .inv) (start (turn .before) .pre) (turn .loop-test .taken) _ (c .before .before .count-nation .ensures))
 
 add-i : tie.Need-add-i Inv-loop μ-loop
 add-i c = search needs
@@ -49,10 +49,10 @@ loop-again : tie.Need-loop-again Inv-loop μ-loop
 loop-again c =
     let turn = c .before .before .before in
     let l = turn .before .loop in
-    counting-more _ _ _ _ (l .inv) (start (turn .before) .pre) (turn .loop-test .taken) _ (c .before .before .count-nation .ensures)
+    nations-counting-more _ _ _ _ (l .inv) (start (turn .before) .pre) (turn .loop-test .taken) _ (c .before .before .count-nation .ensures)
 
 returns : tie.Need-returns Inv-loop μ-loop
-returns c = counting-done _ _ _ _ (c .before .loop .inv) (c .loop-test .left)
+returns c = nations-counting-done _ _ _ _ (c .before .loop .inv) (c .loop-test .left)
 
 pub count-nations-spec : {M : Type 1} → statement M
 count-nations-spec =

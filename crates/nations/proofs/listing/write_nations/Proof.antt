@@ -5,6 +5,7 @@ use native.Mathlib.Omega.{arith}
 use borrow.Author.Needs.{needs}
 use lib.ListN.{length}
 use Rattle.lists.proofs.WriteLaws.{behind}
+use Rattle.rules.specs.NationRows.{nationWidth, entryWidth}
 use Rattle.nations.specs.Listing.{cellsFrom}
 use Rattle.nations.proofs.answer.WriteNationsLaws.{Listing, listing-none, listing-room, listing-more, listing-done}
 use Rattle.nations.proofs.answer.WriteNationsLaws.{rows-fit, entries-fit, nations-inside, entries-inside}
@@ -152,8 +153,8 @@ loop-again c =
     let l = turn .before .loop in
     let h = turn .loop-test .taken in
     let after = put .last .1 .1 .1 .1 .1 .1 .1 .1 .1 .1 .1 in
-    let rows = behind (l .nations) _ (after .0) (5 * l .n) (rows-fit _ _ _ _ _ _ _ _ (l .inv) h) (put .ensures .rows) in
-    let told = behind (l .entries) _ (after .1 .0) (3 * l .first) (entries-fit _ _ _ _ _ _ _ _ (l .inv) h) (put .ensures .entries) in
+    let rows = behind (l .nations) _ (after .0) (nationWidth * l .n) (rows-fit _ _ _ _ _ _ _ _ (l .inv) h) (put .ensures .rows) in
+    let told = behind (l .entries) _ (after .1 .0) (entryWidth * l .first) (entries-fit _ _ _ _ _ _ _ _ (l .inv) h) (put .ensures .entries) in
     listing-more _ _ _ _ _ _ _ _ (l .inv) h (start (turn .before) .pre .0) _ (put .ensures .listed) _ _ rows told
 
 same-length : tie.Need-same-length Inv-loop μ-loop

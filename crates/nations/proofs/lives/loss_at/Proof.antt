@@ -4,6 +4,7 @@ use Prim.Native.Nat.{_/_, _%_}
 use native.Mathlib.Omega.{arith}
 use borrow.Author.Needs.{needs}
 use lib.ListN.{List·getD-map}
+use Rattle.nations.specs.Layout.{half}
 use Rattle.nations.proofs.lives.loss_at.Statement.{statement}
 use Rattle.nations.proofs.lives.loss_at.Tie as tie
 
@@ -17,7 +18,7 @@ cast-result : tie.Need-cast-result
 cast-result c = omega (arith, c .shared-slice-known .given (c .before .args .k))
 
 returns : tie.Need-returns
-returns c = sym (List·getD-map (λ x. x / 65536) (c .before .args .cells .now) (c .before .args .k) 0)
+returns c = sym (List·getD-map (λ x. x / half) (c .before .args .cells .now) (c .before .args .k) 0)
 
 pub loss-at-spec : {M : Type 1} → statement M
 loss-at-spec = tie.close (tie.spec mul-result shared-slice-read-result cast-result returns)

@@ -8,7 +8,7 @@ use lib.ListN.{length}
 use Rattle.lists.proofs.ListLaws.{count-le}
 use Rattle.lists.specs.Lists.{countOf}
 use Rattle.lists.proofs.BoundLaws.{bound-up, bound-down}
-use Rattle.sorting.proofs.KeyLaws.{sorted-up}
+use Rattle.sorting.proofs.SortedKeyLaws.{sorted-up}
 use Rattle.nations.proofs.lookup.lower_bound.Statement.{statement}
 use Rattle.nations.proofs.lookup.lower_bound.Tie as tie
 

@@ -2,7 +2,7 @@
 -- outcome goes by its case.
 use mathlib.Core.Path.{_≡_}
 use lib.ListN.{length}
-use Rattle.record.specs.Campaign.{campaignOf}
+use Rattle.format.specs.Campaign.{campaignOf}
 use Rattle.nations.specs.declared.nations.NationCounts.{NationCounts}
 use Rattle.rules.specs.Outcomes.{NationCells, answersOf, countsOf}
 use Rattle.nations.specs.Cases.{nationCells, countsIn}

@@ -4,6 +4,8 @@ use Prim.Native.Nat.{ℕ}
 use native.Mathlib.Omega.{arith}
 use borrow.Author.Needs.{zero≤}
 use lib.ListN.{length, replicate, length-replicate}
+use Rattle.owner_changes.specs.ChangeSteps.{mostChanges}
+use Rattle.nations.specs.Layout.{mostCountries, mostSwitches, mostSlots, noFirsts}
 use Rattle.nations.proofs.slots.SettledLaws.{tables-asked, countries-within, switches-within, slots-within, slots-ready}
 use Rattle.nations.proofs.nations.nation_rows.Statement.{statement}
 use Rattle.nations.proofs.nations.nation_rows.Tie as tie
@@ -19,22 +21,22 @@ len-requires : tie.Need-len-requires
 len-requires c κs = tt
 
 add-p : tie.Need-add-p
-add-p c = let few = slots-within _ _ _ (c .before .before .before .before .before .before .before .pre .0) _ 8001 (c .len .ensures) refl in omega (arith, few)
+add-p c = let few = slots-within _ _ _ (c .before .before .before .before .before .before .before .pre .0) _ mostSlots (c .len .ensures) refl in omega (arith, few)
 
 slice-aggregate-fill-tables : tie.Need-slice-aggregate-fill-tables
-slice-aggregate-fill-tables c = sym (made 2000 0)
+slice-aggregate-fill-tables c = sym (made mostCountries 0)
 
 slice-aggregate-fill-tables-2 : tie.Need-slice-aggregate-fill-tables-2
-slice-aggregate-fill-tables-2 c = sym (made 2000 0)
+slice-aggregate-fill-tables-2 c = sym (made mostCountries 0)
 
 slice-aggregate-fill-tables-3 : tie.Need-slice-aggregate-fill-tables-3
-slice-aggregate-fill-tables-3 c = sym (made 20000 0)
+slice-aggregate-fill-tables-3 c = sym (made mostSwitches 0)
 
 slice-aggregate-fill-tables-4 : tie.Need-slice-aggregate-fill-tables-4
-slice-aggregate-fill-tables-4 c = sym (made 60000 0)
+slice-aggregate-fill-tables-4 c = sym (made mostChanges 0)
 
 fill-tables-requires : tie.Need-fill-tables-requires
-fill-tables-requires c κs = tables-asked _ _ _ (c .before .before .before .before .before .before .before .before .before .before .before .pre .0) _ _ _ (made 2000 0) (made 2000 0) (made 20000 0)
+fill-tables-requires c κs = tables-asked _ _ _ (c .before .before .before .before .before .before .before .before .before .before .before .pre .0) _ _ _ (made mostCountries 0) (made mostCountries 0) (made mostSwitches 0)
 
 sub-settled-rows : tie.Need-sub-settled-rows
 sub-settled-rows c = zero≤
@@ -43,7 +45,7 @@ part-settled-rows-start : tie.Need-part-settled-rows-start
 part-settled-rows-start c = zero≤
 
 part-settled-rows-end : tie.Need-part-settled-rows-end
-part-settled-rows-end c = let f = c .before .before .before .before .before in countries-within _ _ _ (start f .pre .0) _ _ _ (f .fill-tables .ensures .countries) (f .fill-tables .kept .1 .1 .0) (made 2000 0)
+part-settled-rows-end c = let f = c .before .before .before .before .before in countries-within _ _ _ (start f .pre .0) _ _ _ (f .fill-tables .ensures .countries) (f .fill-tables .kept .1 .1 .0) (made mostCountries 0)
 
 sub-settled-rows-2 : tie.Need-sub-settled-rows-2
 sub-settled-rows-2 c = zero≤
@@ -52,7 +54,7 @@ part-settled-rows-start-2 : tie.Need-part-settled-rows-start-2
 part-settled-rows-start-2 c = zero≤
 
 part-settled-rows-end-2 : tie.Need-part-settled-rows-end-2
-part-settled-rows-end-2 c = let f = c .before .before .before .before .before .before .before in countries-within _ _ _ (start f .pre .0) _ _ _ (f .fill-tables .ensures .countries) (f .fill-tables .kept .1 .1 .1 .0) (made 2000 0)
+part-settled-rows-end-2 c = let f = c .before .before .before .before .before .before .before in countries-within _ _ _ (start f .pre .0) _ _ _ (f .fill-tables .ensures .countries) (f .fill-tables .kept .1 .1 .1 .0) (made mostCountries 0)
 
 sub-settled-rows-3 : tie.Need-sub-settled-rows-3
 sub-settled-rows-3 c = zero≤
@@ -61,13 +63,13 @@ part-switch-keys-start : tie.Need-part-switch-keys-start
 part-switch-keys-start c = zero≤
 
 part-switch-keys-end : tie.Need-part-switch-keys-end
-part-switch-keys-end c = let f = c .before .before .before .before .before .before .before .before in switches-within _ _ _ (start f .pre .0) _ _ _ (f .fill-tables .ensures .switched) (f .fill-tables .kept .1 .1 .1 .1 .0) (made 20000 0)
+part-switch-keys-end c = let f = c .before .before .before .before .before .before .before .before in switches-within _ _ _ (start f .pre .0) _ _ _ (f .fill-tables .ensures .switched) (f .fill-tables .kept .1 .1 .1 .1 .0) (made mostSwitches 0)
 
 slice-aggregate-settled-rows : tie.Need-slice-aggregate-settled-rows
-slice-aggregate-settled-rows c = sym (made 60000 0)
+slice-aggregate-settled-rows c = sym (made mostChanges 0)
 
 slice-aggregate-settled-rows-2 : tie.Need-slice-aggregate-settled-rows-2
-slice-aggregate-settled-rows-2 c = sym (c .before .before .before .before .before .before .before .before .before .before .before .fill-tables .kept .1 .1 .1 .1 .1 .0 ∙ made 60000 0)
+slice-aggregate-settled-rows-2 c = sym (c .before .before .before .before .before .before .before .before .before .before .before .fill-tables .kept .1 .1 .1 .1 .1 .0 ∙ made mostChanges 0)
 
 sub-settled-rows-4 : tie.Need-sub-settled-rows-4
 sub-settled-rows-4 c = zero≤
@@ -76,7 +78,7 @@ part-slots-start : tie.Need-part-slots-start
 part-slots-start c = zero≤
 
 part-slots-end : tie.Need-part-slots-end
-part-slots-end c = slots-within _ _ _ (start (c .before .before .before .before .before .before .before .before .before .before .before) .pre .0) _ _ (c .before .before .before .before .before .before .before .before .before .before .before .before .before .before .before .before .len .ensures) (made 8001 0)
+part-slots-end c = slots-within _ _ _ (start (c .before .before .before .before .before .before .before .before .before .before .before) .pre .0) _ _ (c .before .before .before .before .before .before .before .before .before .before .before .before .before .before .before .before .len .ensures) (made mostSlots 0)
 
 sub-settled-rows-5 : tie.Need-sub-settled-rows-5
 sub-settled-rows-5 c = zero≤
@@ -85,21 +87,21 @@ part-started-start : tie.Need-part-started-start
 part-started-start c = zero≤
 
 part-started-end : tie.Need-part-started-end
-part-started-end c = let f = c .before .before .before .before .before .before .before .before .before .before .before .before in countries-within _ _ _ (start f .pre .0) _ _ _ (f .fill-tables .ensures .countries) refl (made 2000 0)
+part-started-end c = let f = c .before .before .before .before .before .before .before .before .before .before .before .before in countries-within _ _ _ (start f .pre .0) _ _ _ (f .fill-tables .ensures .countries) refl (made mostCountries 0)
 
 slice-aggregate-settled-rows-3 : tie.Need-slice-aggregate-settled-rows-3
-slice-aggregate-settled-rows-3 c = sym (made 60000 0)
+slice-aggregate-settled-rows-3 c = sym (made mostChanges 0)
 
 slice-aggregate-settled-rows-4 : tie.Need-slice-aggregate-settled-rows-4
-slice-aggregate-settled-rows-4 c = sym (made 2000 4294967295)
+slice-aggregate-settled-rows-4 c = sym (made mostCountries noFirsts)
 
 settled-rows-requires : tie.Need-settled-rows-requires
 settled-rows-requires c κs =
     let f = c .before .before .before .before .before .before .before .before .before .before .before .before .before .before .before .before .before .before .before .before in
     let p = start f .pre in (
       p,
-      slots-ready _ _ _ (p .0) _ _ _ _ _ (f .fill-tables .ensures) (c .before .before .before .before .before .before .before .before .before .before .before .before .before .before .before .before .before .before .before .before .before .before .before .before .before .len .ensures) _ _ _ _ _ (made 60000 0) (f .fill-tables .kept .1 .1 .1 .1 .1 .0 ∙ made 60000 0)
-          (made 8001 0) (made 2000 0) (made 60000 0),
+      slots-ready _ _ _ (p .0) _ _ _ _ _ (f .fill-tables .ensures) (c .before .before .before .before .before .before .before .before .before .before .before .before .before .before .before .before .before .before .before .before .before .before .before .before .before .len .ensures) _ _ _ _ _ (made mostChanges 0) (f .fill-tables .kept .1 .1 .1 .1 .1 .0 ∙ made mostChanges 0)
+          (made mostSlots 0) (made mostCountries 0) (made mostChanges 0),
     )
 
 same-length : tie.Need-same-length

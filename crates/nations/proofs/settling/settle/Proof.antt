@@ -3,7 +3,8 @@ use mathlib.Core.Path.{_≡_}
 use Prim.Native.Nat.{_+_, _*_}
 use native.Mathlib.Omega.{arith}
 use borrow.Author.Needs.{needs}
-use Rattle.nations.specs.Keys.{settlingKey, tagSpan}
+use Rattle.nations.specs.Keys.{settlingKey}
+use Rattle.nations.specs.Layout.{tagSpan}
 use Rattle.nations.proofs.tables.SettlingLaws.{row-settled}
 use Rattle.nations.proofs.settling.settle.Statement.{statement}
 use Rattle.nations.proofs.settling.settle.Tie as tie

@@ -9,7 +9,7 @@ use lib.Dec.{ltb}
 use lib.ListN.{length, take, length-set}
 use Rattle.lists.specs.Lists.{allOf}
 use Rattle.record.specs.Cursors.{provinceOf, provincesLeft, provinceTold}
-use Rattle.record.proofs.CampaignLaws.{told-row, told-length, told-end}
+use Rattle.format.proofs.CampaignLaws.{told-row, told-length, told-end}
 use Rattle.nations.specs.Countries.{initialRow}
 use Rattle.nations.specs.Starting.{putOwners}
 use Rattle.nations.proofs.slots.StartingLaws.{put-next, put-end, ids-next}

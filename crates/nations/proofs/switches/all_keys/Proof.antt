@@ -6,7 +6,7 @@ use native.Mathlib.Omega.{arith}
 use borrow.Author.Needs.{needs}
 use lib.ListN.{length}
 use Rattle.record.specs.Cursors.{countryOf, countriesLeft, countryTold}
-use Rattle.record.proofs.CampaignLaws.{told-row, told-length, told-end}
+use Rattle.format.proofs.CampaignLaws.{told-row, told-length, told-end}
 use Rattle.nations.proofs.tables.PlacedLaws.{Keying, keying-start, keying-here, keying-more, keying-done}
 use Rattle.nations.proofs.switches.all_keys.Statement.{statement}
 use Rattle.nations.proofs.switches.all_keys.Tie as tie

@@ -6,7 +6,7 @@ use borrow.Author.Needs.{needs}
 use lib.ListN.{length}
 use Rattle.lists.proofs.FillLaws.{Filling, filling-new, filling-written}
 use Rattle.record.specs.Cursors.{countryOf, countriesLeft, countryTold}
-use Rattle.record.proofs.CampaignLaws.{told-row, told-length, told-end}
+use Rattle.format.proofs.CampaignLaws.{told-row, told-length, told-end}
 use Rattle.nations.specs.Switches.{targetWords}
 use Rattle.nations.proofs.tables.TargetLaws.{targets-here, targets-more}
 use Rattle.nations.proofs.switches.fill_targets.Statement.{statement}

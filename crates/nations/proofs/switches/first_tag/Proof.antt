@@ -2,8 +2,8 @@
 use mathlib.Core.Path.{refl}
 use borrow.Author.Needs.{needs}
 use Rattle.record.specs.Cursors.{previousTold, switchTold}
-use Rattle.record.proofs.CampaignLaws.{told-row, told-end}
-use Rattle.nations.proofs.tables.TargetLaws.{initial-switched, initial-previous, initial-own}
+use Rattle.format.proofs.CampaignLaws.{told-row, told-end}
+use Rattle.nations.proofs.tables.TargetLaws.{initial-switched, initial-previous, first-own}
 use Rattle.nations.proofs.switches.first_tag.Statement.{statement}
 use Rattle.nations.proofs.switches.first_tag.Tie as tie
 
@@ -41,7 +41,7 @@ returns-3 : tie.Need-returns-3
 returns-3 c =
     let s = c .before .before .before .before .before .before .before .args .s .now in
     let m = c .before .before .before in
-    initial-own _ (told-end (switchTold s) (m .before .before .next .ensures) (m .enum-told .given .1) refl)
+    first-own _ (told-end (switchTold s) (m .before .before .next .ensures) (m .enum-told .given .1) refl)
     (told-end (previousTold s) (c .before .before .next2 .ensures) (c .enum-told2 .given .1) refl)
 
 pub first-tag-spec : {M : Type 1} → statement M

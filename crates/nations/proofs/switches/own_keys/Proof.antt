@@ -9,7 +9,7 @@ use lib.ListN.{length, take, length-map}
 use Rattle.lists.specs.Lists.{All}
 use Rattle.lists.proofs.FillLaws.{Filling, filling-start, filling-room, filling-put, filling-next, filling-from}
 use Rattle.record.specs.Cursors.{switchesLeft, switchTold}
-use Rattle.record.proofs.CampaignLaws.{told-row, told-length, told-end}
+use Rattle.format.proofs.CampaignLaws.{told-row, told-length, told-end}
 use Rattle.nations.specs.Switches.{PlacedSwitch, placed, ownPlaced, keyBy, KeyFits}
 use Rattle.nations.proofs.tables.PlacedLaws.{own-next, own-end, length-own}
 use Rattle.nations.proofs.switches.own_keys.Statement.{statement}

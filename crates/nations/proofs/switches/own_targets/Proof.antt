@@ -8,9 +8,9 @@ use borrow.Author.Needs.{needs}
 use lib.ListN.{length, take, getD}
 use Rattle.lists.proofs.FillLaws.{Filling, filling-start, filling-room, filling-put, filling-next, filling-from}
 use Rattle.record.specs.Cursors.{switchesLeft, switchTold, previousLeft}
-use Rattle.record.proofs.CampaignLaws.{told-row, told-length, told-end}
+use Rattle.format.proofs.CampaignLaws.{told-row, told-length, told-end}
 use Rattle.nations.specs.Switches.{chainWords}
-use Rattle.nations.proofs.tables.TargetLaws.{target-chained, chain-next, chain-end, tag-passed, length-chain}
+use Rattle.nations.proofs.tables.TargetLaws.{target-chained, targets-next, chain-end, tag-passed, length-chain}
 use Rattle.nations.proofs.switches.own_targets.Statement.{statement}
 use Rattle.nations.proofs.switches.own_targets.Tie as tie
 
@@ -39,7 +39,7 @@ told-more c = told-length (switchTold _) (c .before .before .before .next .ensur
 -- the next target finds room
 room : (c : tie.After-known-told Inv-loop μ-loop)
     → c .before .before .before .before .loop .k < length (c .before .before .before .before .loop .targets)
-room c = filling-room _ _ _ _ _ (c .before .before .before .before .loop .inv .0) _ _ (chain-next _ (told c))
+room c = filling-room _ _ _ _ _ (c .before .before .before .before .loop .inv .0) _ _ (targets-next _ (told c))
 
 loop-holds : tie.Need-loop-holds Inv-loop μ-loop
 loop-holds c = (filling-start _ _ _ (simp length-chain (c .before .before .pre)), refl)
@@ -50,8 +50,8 @@ next-requires c κs = search needs
 enum-known-rest : tie.Need-enum-known-rest Inv-loop μ-loop
 enum-known-rest c = search needs
 
-behind-requires : tie.Need-behind-requires Inv-loop μ-loop
-behind-requires c κs = search needs
+past-first-requires : tie.Need-past-first-requires Inv-loop μ-loop
+past-first-requires c κs = search needs
 
 first-tag-requires : tie.Need-first-tag-requires Inv-loop μ-loop
 first-tag-requires c κs = search needs
@@ -87,12 +87,12 @@ loop-again c =
     let a = t .before .before .before .before .before .before .before .args in
     let s = a .s .now in
     let end = getD (previousLeft s (a .previous)) (length (switchesLeft s (a .switches))) (a .tag) in
-    let tags = previousLeft s (c .before .before .behind .result) in
+    let tags = previousLeft s (c .before .before .past-first .result) in
     let rest = switchesLeft s (t .before .rest .given .0 .1 .0) in
     let last : getD tags (length rest) (a .tag) ≡ end =
-    tag-passed (previousLeft s (l .tags)) tags (a .tag) (length (switchesLeft s (l .left))) (length rest) (c .before .before .behind .ensures) (told-more t)
+    tag-passed (previousLeft s (l .tags)) tags (a .tag) (length (switchesLeft s (l .left))) (length rest) (c .before .before .past-first .ensures) (told-more t)
     ∙ l .inv .1 in
-    (filling-put _ _ _ _ _ (l .inv .0) _ _ (chain-next end (told t)) _ (target-chained tags (a .tag) end rest (c .word .ensures) (c .before .first-tag .ensures) last), last)
+    (filling-put _ _ _ _ _ (l .inv .0) _ _ (targets-next end (told t)) _ (target-chained tags (a .tag) end rest (c .word .ensures) (c .before .first-tag .ensures) last), last)
 
 enum-told : tie.Need-enum-told Inv-loop μ-loop
 enum-told c = search needs
@@ -119,7 +119,7 @@ own-targets-spec =
     loop-holds
     next-requires
     enum-known-rest
-    behind-requires
+    past-first-requires
     first-tag-requires
     word-requires
     cast-targets

@@ -1,7 +1,7 @@
 -- What is lent are the cells of the campaign, and each slice has room for its part of the answer. So what the writers leave is the answer.
 use borrow.Author.Needs.{zero≤}
 use Rattle.owner_changes.proofs.WrittenLaws.{rows-written}
-use Rattle.record.specs.Campaign.{campaignOf}
+use Rattle.format.specs.Campaign.{campaignOf}
 use Rattle.nations.proofs.answer.WriteAllLaws.{AllRoom, all-room, targets-inside, tags-inside, nations-asked, slots-asked, sorted-asked, all-put}
 use Rattle.nations.proofs.writing.write_all.Statement.{statement}
 use Rattle.nations.proofs.writing.write_all.Tie as tie

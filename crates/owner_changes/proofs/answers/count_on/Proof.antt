@@ -4,12 +4,12 @@ use mathlib.Core.List.{_∷_}
 use native.Mathlib.Omega.{arith}
 use lib.ListN.{length}
 use Rattle.lists.specs.Lists.{one}
-use Rattle.record.specs.Dates.{earlier, sameDate}
-use Rattle.record.proofs.CampaignLaws.{told-row, told-end}
+use Rattle.format.specs.Dates.{earlier, sameDate}
+use Rattle.format.proofs.CampaignLaws.{told-row, told-end}
 use Rattle.rules.specs.Lent.{gives}
 use Rattle.owner_changes.specs.ChangeSteps.{changeOf, changesLeft, changeTold, entered}
 use Rattle.owner_changes.proofs.ChangeLaws.{entered-few}
-use Rattle.owner_changes.proofs.FillLaws.{walk-start}
+use Rattle.owner_changes.proofs.EnteringLaws.{all-entered}
 use Rattle.owner_changes.proofs.CountLaws.{Counting, counting-none, counting-more, counting-small, counting-done, run-counted}
 use borrow.Author.Needs.{needs}
 use Rattle.owner_changes.proofs.answers.count_on.Statement.{statement}
@@ -35,7 +35,7 @@ next-requires c κs = search needs
 loop-holds : tie.Need-loop-holds Inv-loop μ-loop
 loop-holds c =
     let start = c .before .before in
-    let all = walk-start _ (start .args .provinces) (c .next .result) (start .pre) (c .next .ensures) in
+    let all = all-entered _ (start .args .provinces) (c .next .result) (start .pre) (c .next .ensures) in
     let few = entered-few _ (start .pre .accepted) in
     (counting-none _ all few, counting-none _ all few)
 

@@ -1,6 +1,7 @@
 -- The outcome by its case: a refused record, a bad date, or the counts.
 use mathlib.Core.Path.{_∙_}
-use Rattle.record.proofs.ToldLaws.{accepted-told, refused-told, date-told, no-date-told}
+use Rattle.record.proofs.ToldLaws.{accepted-told, refused-told}
+use Rattle.format.proofs.DateLaws.{date-told, no-date-told}
 use Rattle.owner_changes.proofs.OutcomeLaws.{events-refused, events-bad, events-run}
 use borrow.Author.Needs.{needs}
 use Rattle.owner_changes.proofs.answers.events_on.Statement.{statement}

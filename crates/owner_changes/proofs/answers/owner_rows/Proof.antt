@@ -1,6 +1,7 @@
 -- The outcome by its case: too short a slice, or the rows of the sorted changes.
 use native.Mathlib.Nat.{sub-zero}
 use mathlib.Core.Path.{_∙_}
+use Rattle.owner_changes.specs.ChangeSteps.{mostChanges}
 use Rattle.owner_changes.proofs.ChangeLaws.{changes-few}
 use Rattle.owner_changes.proofs.OutcomeLaws.{owners-short, owners-rows}
 use Prim.Native.Nat.{_≤_}
@@ -10,7 +11,7 @@ use Rattle.owner_changes.proofs.answers.owner_rows.Statement.{statement
 use Rattle.owner_changes.proofs.answers.owner_rows.Tie as tie
 
 -- There are not many changes.
-few : (c : tie.After-sort-changes) → c .sort-changes .result ≤ 60000
+few : (c : tie.After-sort-changes) → c .sort-changes .result ≤ mostChanges
 few c = let start = c .before .before .before .before .before in omega (arith, changes-few _ (start .pre .accepted), c .sort-changes .ensures .counted)
 
 slice-aggregate-sort-changes : tie.Need-slice-aggregate-sort-changes

@@ -2,13 +2,13 @@
 -- may still follow, which also keeps the count small. Assumes nothing.
 use native.Mathlib.Omega.{arith}
 use borrow.Author.Needs.{needs}
-use Rattle.nations.specs.Turning.{highs, lows, ahead}
+use Rattle.nations.specs.Turning.{highHalves, lowHalves, ahead}
 use Rattle.nations.proofs.slots.WalkLaws.{LivesCounted, counted-none, counted-more, counted-end}
 use Rattle.nations.proofs.lives.Lives.count.Statement.{statement}
 use Rattle.nations.proofs.lives.Lives.count.Tie as tie
 
 abbrev Inv-loop : tie.InvT-loop
-Inv-loop keys turns start walk₀ entries₀ walk entries = LivesCounted start keys (highs turns) (lows turns) walk₀ walk entries
+Inv-loop keys turns start walk₀ entries₀ walk entries = LivesCounted start keys (highHalves turns) (lowHalves turns) walk₀ walk entries
 
 abbrev μ-loop : tie.MeasureT-loop
 μ-loop keys turns start walk₀ entries₀ walk entries = ahead walk

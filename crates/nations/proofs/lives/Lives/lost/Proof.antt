@@ -11,26 +11,26 @@ use Rattle.nations.proofs.lives.Lives.lost.Tie as tie
 loss-at-requires : tie.Need-loss-at-requires
 loss-at-requires c κs = let s0 = c .before .before in turn-inside _ (s0 .args .turns .now) _ (s0 .pre .0) (s0 .args .self .lose) (s0 .pre .1 .1 .0) .0
 
-minus-requires : tie.Need-minus-requires
-minus-requires c κs = search needs
+one-less-requires : tie.Need-one-less-requires
+one-less-requires c κs = search needs
 
-date-at-requires : tie.Need-date-at-requires
-date-at-requires c κs =
+change-date-requires : tie.Need-change-date-requires
+change-date-requires c κs =
     c .before .before .before .before .before .before .pre .1 .1 .0
 
 returns : tie.Need-returns
 returns c =
     let s0 = c .before .before .before .before .before .before .before in
     let none : s0 .args .self .held - 1 ≡ 0 = omega arith in
-    rw (c .date-at .ensures, c .before .before .before .before .loss-at .ensures, c .before .before .before .minus .ensures)
+    rw (c .change-date .ensures, c .before .before .before .before .loss-at .ensures, c .before .before .before .one-less .ensures)
     (loss-told _ _ _ _ (s0 .pre .0) _ (s0 .pre .1 .0) (s0 .pre .1 .1 .0) (s0 .pre .1 .1 .1) (eq-eqb _ 0 none))
 
 returns-2 : tie.Need-returns-2
 returns-2 c =
     let s0 = c .before .before .before .before .before .before in
     let some : s0 .args .self .held - 1 ≡ 0 → ⊥ = λ e. omega arith in
-    rw (c .before .before .before .loss-at .ensures, c .before .before .minus .ensures)
+    rw (c .before .before .before .loss-at .ensures, c .before .before .one-less .ensures)
     (loss-silent _ _ _ _ (s0 .pre .0) _ (s0 .pre .1 .0) (s0 .pre .1 .1 .0) (s0 .pre .1 .1 .1) (ne-eqb _ 0 some))
 
 pub lost-spec : {M : Type 1} → statement M
-lost-spec = tie.close (tie.spec loss-at-requires minus-requires date-at-requires returns returns-2)
+lost-spec = tie.close (tie.spec loss-at-requires one-less-requires change-date-requires returns returns-2)

@@ -2,13 +2,13 @@
 -- how many links it may still follow. Assumes nothing.
 use mathlib.Core.Path.{sym, _∙_}
 use borrow.Author.Needs.{needs}
-use Rattle.nations.specs.Turning.{highs, lows, ahead}
+use Rattle.nations.specs.Turning.{highHalves, lowHalves, ahead}
 use Rattle.nations.proofs.slots.WalkLaws.{Walked, walked-none, walked-more, walked-told, walked-end}
 use Rattle.nations.proofs.lives.Lives.next.Statement.{statement}
 use Rattle.nations.proofs.lives.Lives.next.Tie as tie
 
 abbrev Inv-loop : tie.InvT-loop
-Inv-loop keys turns start n walk₀ walk = Walked start keys (highs turns) (lows turns) walk₀ walk
+Inv-loop keys turns start n walk₀ walk = Walked start keys (highHalves turns) (lowHalves turns) walk₀ walk
 
 abbrev μ-loop : tie.MeasureT-loop
 μ-loop keys turns start n walk₀ walk = ahead walk

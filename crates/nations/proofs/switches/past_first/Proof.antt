@@ -3,9 +3,9 @@ use mathlib.Core.Path.{refl, sym, ap, _∙_}
 use borrow.Author.Needs.{needs}
 use lib.ListN.{drop}
 use Rattle.record.specs.Cursors.{previousTold}
-use Rattle.record.proofs.CampaignLaws.{told-row, told-end}
-use Rattle.nations.proofs.switches.behind.Statement.{statement}
-use Rattle.nations.proofs.switches.behind.Tie as tie
+use Rattle.format.proofs.CampaignLaws.{told-row, told-end}
+use Rattle.nations.proofs.switches.past_first.Statement.{statement}
+use Rattle.nations.proofs.switches.past_first.Tie as tie
 
 next-requires : tie.Need-next-requires
 next-requires c κs = search needs
@@ -27,5 +27,5 @@ returns-2 c =
     let none = told-end (previousTold s) (c .before .before .next .ensures) (c .enum-told .given .1) refl in
     none ∙ sym (ap (drop 1) none)
 
-pub behind-spec : {M : Type 1} → statement M
-behind-spec = tie.close (tie.spec next-requires enum-known-rest enum-told returns returns-2)
+pub past-first-spec : {M : Type 1} → statement M
+past-first-spec = tie.close (tie.spec next-requires enum-known-rest enum-told returns returns-2)

@@ -11,10 +11,10 @@ use lib.ListN.{length, drop}
 use lib.Seq.{drop-length}
 use Rattle.lists.specs.Lists.{allOf, isWhole}
 use Rattle.lists.proofs.BoolLaws.{cases, and-left, and-right, and-false}
-use Rattle.record.specs.declared.tag.CountryTag.{CountryTag}
-use Rattle.record.specs.declared.tag.Created.{Created}
-use Rattle.record.specs.declared.tag.Created.the-variants.{Tag, NoTag}
-use Rattle.record.specs.Tags.{isTag, createdTag, tested, tagOfWord}
+use Rattle.format.specs.declared.tag.CountryTag.{CountryTag}
+use Rattle.format.specs.declared.tag.Created.{Created}
+use Rattle.format.specs.declared.tag.Created.the-variants.{Tag, NoTag}
+use Rattle.format.specs.Tags.{isTag, createdTag, tested, tagOfWord}
 use Rattle.rules.specs.NationRows.{NationRow, nationWidth, entryWidth, nationRowsIn, entryRowsIn, tagsShaped, kindShaped, entryShaped, withoutGap, wellShaped}
 
 -- ## A word that is a tag's, and one that is none
@@ -86,10 +86,10 @@ pub record Following (rows : List NationRow) (end next i : ℕ) : Type 0 where
   pub tells : follow next (drop i rows) end ≡ follow 0 rows end
 
 -- The test of one row, as the code makes it.
-abbrev fits : NationRow → ℕ → ℕ → Bool
-fits row end next = tagsShaped row && eqb (row .first) next && leb (row .count) (end - next)
+abbrev rowFits : NationRow → ℕ → ℕ → Bool
+rowFits row end next = tagsShaped row && eqb (row .first) next && leb (row .count) (end - next)
 
-row-fits : (row : NationRow) (rest : List NationRow) (end next : ℕ) → next ≤ end → fits row end next ≡ true
+row-fits : (row : NationRow) (rest : List NationRow) (end next : ℕ) → next ≤ end → rowFits row end next ≡ true
     → (next + row .count ≤ end) × (follow next (row ∷ rest) end ≡ follow (next + row .count) rest end)
 row-fits row rest end next room h =
     let tags = tagsShaped row in
@@ -98,7 +98,7 @@ row-fits row rest end next room h =
     let few = leb-true (row .count) (end - next) (and-right (tags && first) (leb (row .count) (end - next)) h) in
     (omega arith, simp (gap-cons next end row rest, and-left tags first both, and-right tags first both))
 
-row-fails : (row : NationRow) (rest : List NationRow) (end next : ℕ) → next ≤ end → fits row end next ≡ false → follow next (row ∷ rest) end ≡ false
+row-fails : (row : NationRow) (rest : List NationRow) (end next : ℕ) → next ≤ end → rowFits row end next ≡ false → follow next (row ∷ rest) end ≡ false
 row-fails row rest end next room h =
     rw (gap-cons next end row rest)
     (cases (tagsShaped row)

@@ -7,8 +7,8 @@ use lib.ListN.{length, drop, length-map}
 use Rattle.lists.proofs.FillLaws.{Filling, filling-new, filling-put, filling-whole}
 use Rattle.lists.proofs.StepLaws.{map-next, map-end}
 use borrow.Author.Needs.{needs}
-use Rattle.nations.proofs.holders.clear.Statement.{statement}
-use Rattle.nations.proofs.holders.clear.Tie as tie
+use Rattle.nations.proofs.holders.clear_counts.Statement.{statement}
+use Rattle.nations.proofs.holders.clear_counts.Tie as tie
 
 -- What each cell becomes.
 abbrev nothing : ℕ → ℕ
@@ -51,8 +51,8 @@ returns c =
     let none = map-end nothing before (l .i) (omega (arith, l .inv .1 .long)) in
     filling-whole _ _ _ _ _ (l .inv .1) none (omega (arith, length-map before nothing))
 
-pub clear-spec : {M : Type 1} → statement M
-clear-spec =
+pub clear-counts-spec : {M : Type 1} → statement M
+clear-counts-spec =
     tie.close
     (tie.spec
     Inv-loop

@@ -3,8 +3,8 @@ use mathlib.Core.Path.{ap}
 use Prim.Native.Nat.{ℕ}
 use native.Mathlib.Omega.{arith}
 use borrow.Author.Needs.{needs}
-use Rattle.nations.proofs.lives.date_at.Statement.{statement}
-use Rattle.nations.proofs.lives.date_at.Tie as tie
+use Rattle.nations.proofs.lives.change_date.Statement.{statement}
+use Rattle.nations.proofs.lives.change_date.Tie as tie
 
 mul-kept : tie.Need-mul-kept
 mul-kept c = search needs
@@ -21,5 +21,5 @@ kept-requires c κs = search needs
 returns : tie.Need-returns
 returns c = ap (λ (w : ℕ). record { 0 = w }) (c .kept .ensures)
 
-pub date-at-spec : {M : Type 1} → statement M
-date-at-spec = tie.close (tie.spec mul-kept shared-slice-read-kept cast-kept kept-requires returns)
+pub change-date-spec : {M : Type 1} → statement M
+change-date-spec = tie.close (tie.spec mul-kept shared-slice-read-kept cast-kept kept-requires returns)

@@ -6,7 +6,8 @@ use Prim.Native.Nat.{ℕ, suc, _+_, _*_, _/_, _%_, _≤_, _<_}
 use native.Mathlib.Omega.{arith}
 use lib.ListN.{length, getD, set, drop, length-set, length-map}
 use Rattle.lists.proofs.FillLaws.{Filling, filling-new, filling-put, filling-whole}
-use Rattle.nations.specs.Turning.{highs, lows, keyDate, Rowed}
+use Rattle.nations.specs.Layout.{half, nobodyCell}
+use Rattle.nations.specs.Turning.{highHalves, lowHalves, keyDate, Rowed}
 use Rattle.nations.specs.Holders.{Step, stepAt, stepsOf, turnsAlong, cellsAlong, turnCell, Replaced, Passed}
 use Rattle.lists.proofs.StepLaws.{map-next, map-end}
 
@@ -27,38 +28,38 @@ turn-dates cells (key ∷ keys) slots =
     (turn-dates cells keys (set slots (stepAt cells key .slot) (stepAt cells key .cell)))
 
 -- The rows of a turn have 16 bits each, so its cell tells both.
-cell-high : (a b : ℕ) → (a % 65536 * 65536 + b % 65536) / 65536 ≡ a % 65536
-cell-high a b = let h : a % 65536 < 65536 = omega arith in let l : b % 65536 < 65536 = omega arith in split (a % 65536) (b % 65536) l
+cell-high : (a b : ℕ) → (a % half * half + b % half) / half ≡ a % half
+cell-high a b = let h : a % half < half = omega arith in let l : b % half < half = omega arith in split (a % half) (b % half) l
   where
-    split : (x y : ℕ) → y < 65536 → (x * 65536 + y) / 65536 ≡ x
+    split : (x y : ℕ) → y < half → (x * half + y) / half ≡ x
     split x y h = omega arith
 
-cell-low : (a b : ℕ) → (a % 65536 * 65536 + b % 65536) % 65536 ≡ b % 65536
-cell-low a b = let l : b % 65536 < 65536 = omega arith in split (a % 65536) (b % 65536) l
+cell-low : (a b : ℕ) → (a % half * half + b % half) % half ≡ b % half
+cell-low a b = let l : b % half < half = omega arith in split (a % half) (b % half) l
   where
-    split : (x y : ℕ) → y < 65536 → (x * 65536 + y) % 65536 ≡ y
+    split : (x y : ℕ) → y < half → (x * half + y) % half ≡ y
     split x y h = omega arith
 
-old-rows : (slots : List ℕ) (steps : List Step) → highs (map turnCell (turnsAlong slots steps)) ≡ map (λ x. x .old) (turnsAlong slots steps)
+old-rows : (slots : List ℕ) (steps : List Step) → highHalves (map turnCell (turnsAlong slots steps)) ≡ map (λ x. x .old) (turnsAlong slots steps)
 unfolding turnsAlong
 old-rows slots [] = refl
 old-rows slots (x ∷ xs) =
-    ap₂ (λ (r : ℕ) (l : List ℕ). r ∷ l) (cell-high (getD slots (x .slot) 65535) (x .cell)) (old-rows (set slots (x .slot) (x .cell)) xs)
+    ap₂ (λ (r : ℕ) (l : List ℕ). r ∷ l) (cell-high (getD slots (x .slot) nobodyCell) (x .cell)) (old-rows (set slots (x .slot) (x .cell)) xs)
 
-new-rows : (slots : List ℕ) (steps : List Step) → lows (map turnCell (turnsAlong slots steps)) ≡ map (λ x. x .new) (turnsAlong slots steps)
+new-rows : (slots : List ℕ) (steps : List Step) → lowHalves (map turnCell (turnsAlong slots steps)) ≡ map (λ x. x .new) (turnsAlong slots steps)
 unfolding turnsAlong
 new-rows slots [] = refl
 new-rows slots (x ∷ xs) =
-    ap₂ (λ (r : ℕ) (l : List ℕ). r ∷ l) (cell-low (getD slots (x .slot) 65535) (x .cell)) (new-rows (set slots (x .slot) (x .cell)) xs)
+    ap₂ (λ (r : ℕ) (l : List ℕ). r ∷ l) (cell-low (getD slots (x .slot) nobodyCell) (x .cell)) (new-rows (set slots (x .slot) (x .cell)) xs)
 
 -- What the pass leaves are the turns, by keys and rows.
 pub passed-rows : (keys cells slots₀ slots₁ turns : List ℕ) → Passed keys cells slots₀ slots₁ turns
-    → Rowed keys (highs turns) (lows turns) (turnsAlong slots₀ (stepsOf cells keys))
+    → Rowed keys (highHalves turns) (lowHalves turns) (turnsAlong slots₀ (stepsOf cells keys))
 passed-rows keys cells slots₀ slots₁ turns p =
     record {
       dates = turn-dates cells keys slots₀;
-      oldRows = ap highs (p .turns) ∙ old-rows slots₀ (stepsOf cells keys);
-      newRows = ap lows (p .turns) ∙ new-rows slots₀ (stepsOf cells keys);
+      oldRows = ap highHalves (p .turns) ∙ old-rows slots₀ (stepsOf cells keys);
+      newRows = ap lowHalves (p .turns) ∙ new-rows slots₀ (stepsOf cells keys);
     }
 
 -- ## The loop
@@ -92,19 +93,19 @@ module _ (keys cells slots₀ turns₀ slots turns : List ℕ) (k : ℕ) (p : Pa
 
   -- One step more.
   pub pass-step : k < length keys → (slot cell old : ℕ) (slots′ : List ℕ) → slot ≡ here .slot → cell ≡ here .cell → Replaced slots slot cell old slots′
-      → PassLoop keys cells slots₀ turns₀ slots′ (set turns k (old % 65536 * 65536 + cell % 65536)) (k + 1)
+      → PassLoop keys cells slots₀ turns₀ slots′ (set turns k (old % half * half + cell % half)) (k + 1)
   unfolding turnsAlong cellsAlong
   pass-step h slot cell old slots′ a b r =
       let next : stepsOf cells (drop k keys) ≡ here ∷ stepsOf cells (drop (k + 1) keys) = map-next (stepAt cells) keys k h in
       let put : slots′ ≡ set slots (here .slot) (here .cell) = r .cells ∙ ap₂ (set slots) a b in
-      let was : old ≡ getD slots (here .slot) 65535 = r .old ∙ ap (λ (i : ℕ). getD slots i 65535) a in
+      let was : old ≡ getD slots (here .slot) nobodyCell = r .old ∙ ap (λ (i : ℕ). getD slots i nobodyCell) a in
       record {
         inside = omega arith;
         long = ap length (r .cells) ∙ length-set slots slot cell ∙ p .long;
         told =
             rw put
             (filling-put _ _ _ k turns (p .told) _ _ (ap (λ (l : List Step). map turnCell (turnsAlong slots l)) next) _
-            (ap₂ (λ (x y : ℕ). x % 65536 * 65536 + y % 65536) was b));
+            (ap₂ (λ (x y : ℕ). x % half * half + y % half) was b));
         after = rw put (ap (λ (l : List Step). cellsAlong l slots) (sym next) ∙ p .after);
       }
 
