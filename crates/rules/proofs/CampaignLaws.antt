@@ -12,15 +12,15 @@ use Rattle.lists.specs.Lists.{All, countOf, one, joinOf, firstOr, numbersFrom}
 use Rattle.lists.proofs.BoolLaws.{cases}
 use Rattle.lists.proofs.ListLaws.{all-of-map, all-join, any-map, any-count, map-then, length-numbers, numbers-at, sgn, InOrder, order-map, count-append}
 use Rattle.sorting.proofs.SortLaws.{all-sort, count-sort, order-sort}
-use Rattle.record.specs.declared.tag.CountryTag.{CountryTag}
-use Rattle.record.specs.declared.date.Eu4Date.{Eu4Date}
-use Rattle.record.specs.declared.rows.ProvinceId.{ProvinceId}
-use Rattle.record.specs.declared.rows.Switch.{Switch}
-use Rattle.record.specs.declared.rows.OwnerEvent.{OwnerEvent}
-use Rattle.record.specs.Tags.{sameTag}
-use Rattle.record.specs.Dates.{earlier, notAfter, sameDate}
-use Rattle.record.specs.Campaign.{Campaign, Country, Province}
-use Rattle.record.specs.Sound.{GoodProvince, Sound}
+use Rattle.format.specs.declared.tag.CountryTag.{CountryTag}
+use Rattle.format.specs.declared.date.Eu4Date.{Eu4Date}
+use Rattle.format.specs.declared.rows.ProvinceId.{ProvinceId}
+use Rattle.format.specs.declared.rows.Switch.{Switch}
+use Rattle.format.specs.declared.rows.OwnerEvent.{OwnerEvent}
+use Rattle.format.specs.Tags.{sameTag}
+use Rattle.format.specs.Dates.{earlier, notAfter, sameDate}
+use Rattle.format.specs.Campaign.{Campaign, Country, Province}
+use Rattle.format.specs.Sound.{GoodProvince, Sound}
 use Rattle.rules.specs.Chronicle.{Change, Kind, switch, isAppeared, isAnnexed, Entry}
 use Rattle.rules.specs.Changes.{changesFrom, provinceChanges, byDateAndId, changesOf}
 use Rattle.rules.specs.Nations.{matches, lastTarget, switchChain, switchEntries, slotsOf, startHolder, startHolders, allSwitches, Move, moveOf, movesOf, turnsOf, livesOf, entriesOf, lastHolder, holdersOf}

@@ -3,7 +3,7 @@ use mathlib.Core.Path.{_≡_, refl}
 use Prim.Native.Nat.{ℕ}
 use lib.ListN.{length}
 use Rattle.lists.specs.Lists.{joinOf}
-use Rattle.record.specs.Campaign.{Campaign}
+use Rattle.format.specs.Campaign.{Campaign}
 use Rattle.rules.specs.Changes.{changesOf}
 use Rattle.rules.specs.Nations.{nationsOf}
 use Rattle.rules.specs.PageOutcomes.{limitsNumber}

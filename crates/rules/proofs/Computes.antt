@@ -1,6 +1,6 @@
 -- Every definition of record and rules by name: a law that says `unfolding computes` may compute with all of them.
 use Rattle.sorting.specs.Sort.{insertBy, sortBy}
-use Rattle.record.proofs.Computes.{computes as record-computes}
+use Rattle.format.proofs.Computes.{computes as record-computes}
 use Rattle.rules.specs.Changes.{changesFrom, changesOf, eventsOn, changeRows}
 use Rattle.rules.specs.Nations.{initialFrom, switchChain, mapsTo, slotsOf, startTag, startHolder, startHolders, allSwitches, settles, movesOf, turnsFrom, turnsOf, turnEntries, turnCount, livesFrom, livesOf, entriesOf, heldEver, listedCountries, nationsOf, lastHolder, holdersOf, heldOf}
 use Rattle.rules.specs.NationRows.{nationRowsFrom, nationWords, entryWords, nationRowsIn, entryRowsIn, nationsIn, kindShaped, withoutGap, wellShaped}

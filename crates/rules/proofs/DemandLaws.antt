@@ -2,7 +2,7 @@
 use mathlib.Core.Path.{_≡_, ap, _∙_}
 use mathlib.Core.Bool.{true}
 use mathlib.Core.List.{List, _++_, map}
-use mathlib.Core.Option.{some, Option·map}
+use mathlib.Core.Option.{some}
 use Prim.Native.Nat.{ℕ, _*_, _≤_}
 use native.Mathlib.Omega.{arith}
 use borrow.Author.Tests.{leb-true, leb-false}
@@ -11,13 +11,13 @@ use lib.Seq.{take-at}
 use Rattle.lists.specs.Lists.{All, lastOr, without}
 use Rattle.lists.proofs.ListLaws.{all-images, all-at, map-at, InOrder}
 use Rattle.sorting.proofs.SortLaws.{order-sort}
-use Rattle.record.specs.declared.date.Eu4Date.{Eu4Date}
-use Rattle.record.specs.Tags.{isTag}
-use Rattle.record.specs.Dates.{goodDate, notAfter}
-use Rattle.record.specs.Campaign.{Campaign, Country, campaignOf}
-use Rattle.record.specs.Refusal.{refusal, firstOf}
-use Rattle.record.specs.Sound.{Sound}
-use Rattle.record.proofs.SoundLaws.{sound}
+use Rattle.format.specs.declared.date.Eu4Date.{Eu4Date}
+use Rattle.format.specs.Tags.{isTag}
+use Rattle.format.specs.Dates.{goodDate, notAfter}
+use Rattle.format.specs.Campaign.{Campaign, Country, campaignOf}
+use Rattle.format.specs.Refusal.{refusal, firstOf}
+use Rattle.format.specs.Sound.{Sound}
+use Rattle.format.proofs.SoundLaws.{sound}
 use Rattle.rules.specs.Chronicle.{Nation}
 use Rattle.rules.specs.Lent.{gives, written, fits, Outcome}
 use Rattle.rules.specs.Changes.{changeWidth, changesOf, changeRows}
@@ -93,7 +93,7 @@ module _ (xs : List ℕ) (accepted : refusal xs ≡ 0) (ns : List Nation) (ws es
               let found : resolvedNation ns (askedTag (wears n day .0)) (askedDate (day .0)) ≡ some n = found-at ns i n day at u in
               simp (shaped, d, w, told, found, walk);
           bookings = λ u lent room k j e ed et.
-              ap (λ (bs : List Booking). Option·map (λ b. b .stored) (getElem? bs k)) (bookings-read lent room)
+              ap (λ (bs : List Booking). getElem? bs k) (bookings-read lent room)
               ∙ simp (map-at, e, ed, et, found-at ns i n day at u);
         }
 

@@ -5,7 +5,7 @@ pub mod ResolverLaws
 pub mod RowLaws
 pub mod ShapeLaws
 pub mod DemandLaws
-pub mod WorkedLaws
+pub mod WitnessLaws
 pub mod OrderLaws
 pub mod LentLaws
 pub mod TableLaws

@@ -13,13 +13,13 @@ use lib.Seq.{getD-set-same, getD-set-other}
 use Rattle.lists.specs.Lists.{All, keep, countOf, one, lastOr}
 use Rattle.lists.proofs.BoolLaws.{cases}
 use Rattle.lists.proofs.ListLaws.{all-map, keep-none, InOrder, count-append, count-set, count-pos, sgn}
-use Rattle.record.specs.declared.tag.CountryTag.{CountryTag}
-use Rattle.record.specs.declared.date.Eu4Date.{Eu4Date}
-use Rattle.record.specs.declared.rows.ProvinceId.{ProvinceId}
-use Rattle.record.specs.Tags.{sameTag}
-use Rattle.record.specs.Dates.{earlier, notAfter}
+use Rattle.format.specs.declared.tag.CountryTag.{CountryTag}
+use Rattle.format.specs.declared.date.Eu4Date.{Eu4Date}
+use Rattle.format.specs.declared.rows.ProvinceId.{ProvinceId}
+use Rattle.format.specs.Tags.{sameTag}
+use Rattle.format.specs.Dates.{earlier, notAfter}
 use Rattle.rules.specs.Chronicle.{appeared, annexed, isAppeared, isAnnexed, Entry}
-use Rattle.record.specs.Rows.{sameId}
+use Rattle.format.specs.Rows.{sameId}
 use Rattle.rules.specs.Nations.{matches, Move, turnsFrom, turnEntries, turnCount, livesFrom}
 use Rattle.rules.specs.Demand.{counted}
 

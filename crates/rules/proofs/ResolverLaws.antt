@@ -10,10 +10,10 @@ use lib.ListN.{take, drop, getElem?}
 use Rattle.lists.specs.Lists.{All, keep, anyOf, lastOr, last, orElse, without, greaterOf, greatest}
 use Rattle.lists.proofs.BoolLaws.{cases, neither}
 use Rattle.lists.proofs.ListLaws.{all-map, any-none, keep-none, keep-append, join-append, join-none, at-split, InOrder, leading-keep}
-use Rattle.record.specs.declared.tag.CountryTag.{CountryTag}
-use Rattle.record.specs.declared.date.Eu4Date.{Eu4Date}
-use Rattle.record.specs.Tags.{sameTag}
-use Rattle.record.specs.Dates.{notAfter}
+use Rattle.format.specs.declared.tag.CountryTag.{CountryTag}
+use Rattle.format.specs.declared.date.Eu4Date.{Eu4Date}
+use Rattle.format.specs.Tags.{sameTag}
+use Rattle.format.specs.Dates.{notAfter}
 use Rattle.rules.specs.Chronicle.{Kind, switch, appeared, annexed, Entry, Nation}
 use Rattle.rules.specs.Nations.{targets}
 use Rattle.rules.specs.Holding.{wears}

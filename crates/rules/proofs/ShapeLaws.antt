@@ -11,12 +11,12 @@ use lib.ListN.{length, length-append, length-map}
 use Rattle.lists.specs.Lists.{All, keep, allOf, countOf, firstOr}
 use Rattle.lists.proofs.ListLaws.{all-map, all-append, all-keep, all-getD, all-last, all-of-map, all-join}
 use Rattle.sorting.proofs.SortLaws.{all-sort}
-use Rattle.record.specs.declared.tag.CountryTag.{CountryTag}
-use Rattle.record.specs.declared.date.Eu4Date.{Eu4Date}
-use Rattle.record.specs.declared.rows.Switch.{Switch}
-use Rattle.record.specs.Dates.{earlier, notAfter}
-use Rattle.record.specs.Campaign.{Campaign, Country}
-use Rattle.record.specs.Sound.{GoodTag, GoodDate, GoodSwitch, GoodCountry, GoodProvince, Sound}
+use Rattle.format.specs.declared.tag.CountryTag.{CountryTag}
+use Rattle.format.specs.declared.date.Eu4Date.{Eu4Date}
+use Rattle.format.specs.declared.rows.Switch.{Switch}
+use Rattle.format.specs.Dates.{earlier, notAfter}
+use Rattle.format.specs.Campaign.{Campaign, Country}
+use Rattle.format.specs.Sound.{GoodTag, GoodDate, GoodSwitch, GoodCountry, GoodProvince, Sound}
 use Rattle.rules.specs.Chronicle.{Kind, switch, appeared, annexed, Entry, Nation}
 use Rattle.rules.specs.Nations.{initialFrom, initialOf, lastTarget, switchChain, switchEntries, matches, isMapped, startHolders, turnsFrom, turnsOf, turnEntries, livesFrom, livesOf, entriesOf, kindTarget, targets, nationOf, heldEver, listedCountries, nationsOf, Move, movesOf}
 use Rattle.rules.specs.Holding.{wears}

@@ -5,10 +5,10 @@ use Prim.Native.Nat.{ℕ, suc}
 use lib.Dec.{leb}
 use lib.ListN.{getD}
 use Rattle.lists.specs.Lists.{keep, joinOf, wholeRows}
-use Rattle.record.specs.declared.tag.CountryTag.{CountryTag}
-use Rattle.record.specs.declared.date.Eu4Date.{Eu4Date}
-use Rattle.record.specs.declared.rows.WarEvent.{WarEvent}
-use Rattle.record.specs.Campaign.{Campaign}
+use Rattle.format.specs.declared.tag.CountryTag.{CountryTag}
+use Rattle.format.specs.declared.date.Eu4Date.{Eu4Date}
+use Rattle.format.specs.declared.rows.WarEvent.{WarEvent}
+use Rattle.format.specs.Campaign.{Campaign}
 use Rattle.rules.specs.Chronicle.{Nation}
 use Rattle.rules.specs.Resolver.{resolve}
 

@@ -5,13 +5,13 @@ use Prim.Native.Nat.{ℕ}
 use lib.Dec.{leb}
 use Rattle.lists.specs.Lists.{countOf, joinOf}
 use Rattle.sorting.specs.Sort.{sortBy}
-use Rattle.record.specs.declared.tag.CountryTag.{CountryTag}
-use Rattle.record.specs.declared.date.Eu4Date.{Eu4Date}
-use Rattle.record.specs.declared.rows.ProvinceId.{ProvinceId}
-use Rattle.record.specs.declared.rows.OwnerEvent.{OwnerEvent}
-use Rattle.record.specs.Tags.{sameTag}
-use Rattle.record.specs.Dates.{earlier, sameDate}
-use Rattle.record.specs.Campaign.{Campaign, Province}
+use Rattle.format.specs.declared.tag.CountryTag.{CountryTag}
+use Rattle.format.specs.declared.date.Eu4Date.{Eu4Date}
+use Rattle.format.specs.declared.rows.ProvinceId.{ProvinceId}
+use Rattle.format.specs.declared.rows.OwnerEvent.{OwnerEvent}
+use Rattle.format.specs.Tags.{sameTag}
+use Rattle.format.specs.Dates.{earlier, sameDate}
+use Rattle.format.specs.Campaign.{Campaign, Province}
 use Rattle.rules.specs.Chronicle.{Change}
 
 -- Walks one slot's events as the record lists them. Where the owner becomes another one that is a change, and the next event is held

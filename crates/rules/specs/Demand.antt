@@ -3,16 +3,16 @@
 use mathlib.Core.Path.{_≡_}
 use mathlib.Core.Bool.{Bool, true, false, _&&_, _||_}
 use mathlib.Core.List.{List, []}
-use mathlib.Core.Option.{some, Option·map}
+use mathlib.Core.Option.{some}
 use Prim.Native.Nat.{ℕ, _+_, _*_}
 use lib.ListN.{take, getElem?}
 use Rattle.lists.specs.Lists.{one, anyOf, countOf, without}
-use Rattle.record.specs.declared.tag.CountryTag.{CountryTag}
-use Rattle.record.specs.declared.date.Eu4Date.{Eu4Date}
-use Rattle.record.specs.Tags.{sameTag}
-use Rattle.record.specs.Dates.{goodDate, earlier, notAfter}
-use Rattle.record.specs.Campaign.{Campaign, campaignOf}
-use Rattle.record.specs.Refusal.{refusal}
+use Rattle.format.specs.declared.tag.CountryTag.{CountryTag}
+use Rattle.format.specs.declared.date.Eu4Date.{Eu4Date}
+use Rattle.format.specs.Tags.{sameTag}
+use Rattle.format.specs.Dates.{goodDate, earlier, notAfter}
+use Rattle.format.specs.Campaign.{Campaign, campaignOf}
+use Rattle.format.specs.Refusal.{refusal}
 use Rattle.rules.specs.Chronicle.{Kind, isAppeared, isAnnexed, Entry, Nation}
 use Rattle.rules.specs.Lent.{Answer, refused, gives, fits, Outcome}
 use Rattle.rules.specs.Changes.{changesOf, changeRows, changeWidth}
@@ -76,7 +76,7 @@ pub record OnDay (xs ws es : List ℕ) (n : Nation) (others : List Nation) (day 
       WornAlone n others day
       → callResolveOn ws es (day .0) (wears n day .0) (day .0)
       ≡ gives (some (record { current = wears n day; stored = n .stored }))
-  -- Whoever joins a war on D under that tag is booked under the nation's stored tag; joining k has row k.
+  -- Whoever joins a war on D under that tag is booked under the nation's stored tag. Joining k has row k, which names its war and its tag.
   pub bookings :
       WornAlone n others day
       → (lent : List ℕ)
@@ -85,7 +85,8 @@ pub record OnDay (xs ws es : List ℕ) (n : Nation) (others : List Nation) (day 
       → getElem? (joiningsOf (campaignOf xs)) k ≡ some j
       → j .date ≡ day
       → j .tag ≡ wears n day
-      → Option·map (λ b. b .stored) (getElem? (bookingsGiven (callWarParticipants xs ws es lent)) k) ≡ some (n .stored)
+      → getElem? (bookingsGiven (callWarParticipants xs ws es lent)) k
+      ≡ some (record { war = j .war; tag = wears n day; stored = n .stored })
 
 -- A finished chronicle: what nations answered, and the memory that it left.
 pub record Chronicled (xs : List ℕ) (o : Outcome Counts NationCells) : Type 0 where

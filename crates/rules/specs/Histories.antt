@@ -7,9 +7,9 @@ use lib.Dec.{ltb, eqb}
 use lib.IntN.{ℤ, pos, negsuc}
 use lib.ListN.{length}
 use Rattle.lists.specs.Lists.{keep, joinOf, last, butLast}
-use Rattle.record.specs.declared.tag.CountryTag.{CountryTag}
-use Rattle.record.specs.Tags.{sameTag}
-use Rattle.record.specs.Campaign.{Campaign, Country}
+use Rattle.format.specs.declared.tag.CountryTag.{CountryTag}
+use Rattle.format.specs.Tags.{sameTag}
+use Rattle.format.specs.Campaign.{Campaign, Country}
 use Rattle.rules.specs.Chronicle.{Nation}
 use Rattle.rules.specs.Players.{Player, playersOf}
 

@@ -6,8 +6,8 @@ use Prim.Native.Nat.{ℕ, _+_}
 use lib.Dec.{leb}
 use lib.ListN.{length, getD}
 use Rattle.lists.specs.Lists.{one, allOf, joinOf, isWhole, wholeRows}
-use Rattle.record.specs.declared.tag.CountryTag.{CountryTag}
-use Rattle.record.specs.Tags.{isTag}
+use Rattle.format.specs.declared.tag.CountryTag.{CountryTag}
+use Rattle.format.specs.Tags.{isTag}
 use Rattle.rules.specs.Chronicle.{Nation}
 use Rattle.rules.specs.Histories.{History}
 

@@ -2,11 +2,11 @@
 use mathlib.Core.Bool.{Bool}
 use mathlib.Core.Option.{Option}
 use Rattle.lists.specs.Lists.{keep, anyOf, lastOr}
-use Rattle.record.specs.declared.tag.CountryTag.{CountryTag}
-use Rattle.record.specs.declared.date.Eu4Date.{Eu4Date}
-use Rattle.record.specs.declared.rows.ProvinceId.{ProvinceId}
-use Rattle.record.specs.Dates.{notAfter}
-use Rattle.record.specs.Campaign.{Campaign}
+use Rattle.format.specs.declared.tag.CountryTag.{CountryTag}
+use Rattle.format.specs.declared.date.Eu4Date.{Eu4Date}
+use Rattle.format.specs.declared.rows.ProvinceId.{ProvinceId}
+use Rattle.format.specs.Dates.{notAfter}
+use Rattle.format.specs.Campaign.{Campaign}
 use Rattle.rules.specs.Chronicle.{Nation}
 use Rattle.rules.specs.Nations.{slotsOf, movesOf, lastHolder, matches, targets}
 

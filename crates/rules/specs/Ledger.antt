@@ -6,12 +6,12 @@ use mathlib.Core.Option.{Option, none, some}
 use Prim.Native.Nat.{ℕ, _+_, _-_}
 use lib.Dec.{leb, ltb}
 use Rattle.lists.specs.Lists.{leading, skipping, firstThat, joinOf, numbersFrom}
-use Rattle.record.specs.declared.tag.CountryTag.{CountryTag}
-use Rattle.record.specs.declared.date.Eu4Date.{Eu4Date}
-use Rattle.record.specs.declared.rows.Point.{Point}
-use Rattle.record.specs.Tags.{sameTag}
-use Rattle.record.specs.Dates.{year}
-use Rattle.record.specs.Campaign.{Campaign, Ledger}
+use Rattle.format.specs.declared.tag.CountryTag.{CountryTag}
+use Rattle.format.specs.declared.date.Eu4Date.{Eu4Date}
+use Rattle.format.specs.declared.rows.Point.{Point}
+use Rattle.format.specs.Tags.{sameTag}
+use Rattle.format.specs.Dates.{year}
+use Rattle.format.specs.Campaign.{Campaign, Ledger}
 use Rattle.rules.specs.Chronicle.{Kind, switch, appeared, annexed, Entry, Nation}
 
 -- ## Spans

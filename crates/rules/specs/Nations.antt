@@ -8,15 +8,15 @@ use lib.Dec.{leb, eqb}
 use lib.ListN.{length, getD, set}
 use Rattle.lists.specs.Lists.{keep, anyOf, countOf, joinOf, firstOr, lastOr, last, numbersFrom}
 use Rattle.sorting.specs.Sort.{sortBy}
-use Rattle.record.specs.declared.tag.CountryTag.{CountryTag}
-use Rattle.record.specs.declared.date.Eu4Date.{Eu4Date}
-use Rattle.record.specs.declared.rows.ProvinceId.{ProvinceId}
-use Rattle.record.specs.declared.rows.Switch.{Switch}
-use Rattle.record.specs.Tags.{sameTag, NONE}
-use Rattle.record.specs.Dates.{earlier, notAfter}
-use Rattle.record.specs.Campaign.{Campaign, Country}
+use Rattle.format.specs.declared.tag.CountryTag.{CountryTag}
+use Rattle.format.specs.declared.date.Eu4Date.{Eu4Date}
+use Rattle.format.specs.declared.rows.ProvinceId.{ProvinceId}
+use Rattle.format.specs.declared.rows.Switch.{Switch}
+use Rattle.format.specs.Tags.{sameTag, NONE}
+use Rattle.format.specs.Dates.{earlier, notAfter}
+use Rattle.format.specs.Campaign.{Campaign, Country}
 use Rattle.rules.specs.Chronicle.{Change, Kind, switch, appeared, annexed, Entry, Nation}
-use Rattle.record.specs.Rows.{sameId}
+use Rattle.format.specs.Rows.{sameId}
 use Rattle.rules.specs.Changes.{changesOf}
 
 -- ## First tags and switch targets

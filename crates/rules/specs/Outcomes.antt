@@ -7,9 +7,9 @@ use mathlib.Core.Option.{Option, none, some}
 use Prim.Native.Nat.{ℕ}
 use lib.ListN.{length, getElem?}
 use Rattle.lists.specs.Lists.{joinOf}
-use Rattle.record.specs.declared.tag.CountryTag.{CountryTag}
-use Rattle.record.specs.Campaign.{Campaign, campaignOf}
-use Rattle.record.specs.Refusal.{refusal, firstOf}
+use Rattle.format.specs.declared.tag.CountryTag.{CountryTag}
+use Rattle.format.specs.Campaign.{Campaign, campaignOf}
+use Rattle.format.specs.Refusal.{refusal, firstOf}
 use Rattle.rules.specs.Chronicle.{Change, Nation}
 use Rattle.rules.specs.Lent.{Answer, answered, written, fits, roomNumber, Outcome, outcome}
 use Rattle.rules.specs.Changes.{changesOf, changeRows, Run, eventsOn}

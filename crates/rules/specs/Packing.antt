@@ -1,13 +1,13 @@
 -- Records drafted from numbers and tags, and packed into bytes: for the worked record and the computed cases. No rule stands here, and
--- no promise rests on it; which bytes a reader takes for which row stands in the crate record.
+-- no promise rests on it; which bytes a reader takes for which row stands in the crate format.
 use mathlib.Core.List.{List, [], _∷_, _++_}
 use Prim.Native.Nat.{ℕ, _/_, _%_}
 use Prim.Native.String.{String}
 use lib.ListN.{length, getD}
 use Rattle.lists.specs.Lists.{joinOf, sumOf}
 use Rattle.lists.specs.Text.{ascii}
-use Rattle.record.specs.declared.tag.CountryTag.{CountryTag}
-use Rattle.record.specs.Tags.{tagOf}
+use Rattle.format.specs.declared.tag.CountryTag.{CountryTag}
+use Rattle.format.specs.Tags.{tagOf}
 
 -- ## Tags
 

@@ -7,8 +7,8 @@ use lib.Dec.{ltb, eqb}
 use lib.ListN.{length}
 use Rattle.lists.specs.Lists.{keep, firstThat, joinOf, last}
 use Rattle.lists.specs.Text.{ascii}
-use Rattle.record.specs.declared.tag.CountryTag.{CountryTag}
-use Rattle.record.specs.Tags.{created, sameTag}
+use Rattle.format.specs.declared.tag.CountryTag.{CountryTag}
+use Rattle.format.specs.Tags.{created, sameTag}
 use Rattle.rules.specs.Chronicle.{isAppeared, isAnnexed, Entry, Nation}
 
 -- ## The selection

@@ -8,9 +8,9 @@ use lib.Dec.{leb}
 use lib.ListN.{length}
 use Rattle.lists.specs.Lists.{joinOf}
 use Rattle.lists.specs.Text.{ascii}
-use Rattle.record.specs.declared.tag.CountryTag.{CountryTag}
-use Rattle.record.specs.Campaign.{Campaign, campaignOf}
-use Rattle.record.specs.Refusal.{firstOf, refusal}
+use Rattle.format.specs.declared.tag.CountryTag.{CountryTag}
+use Rattle.format.specs.Campaign.{Campaign, campaignOf}
+use Rattle.format.specs.Refusal.{firstOf, refusal}
 use Rattle.rules.specs.Lent.{Answer, refused, gives, answered, written, fits, roomNumber, Outcome, outcome}
 use Rattle.rules.specs.Changes.{changesOf}
 use Rattle.rules.specs.Nations.{nationsOf}

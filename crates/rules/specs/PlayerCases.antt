@@ -3,7 +3,7 @@ use mathlib.Core.List.{List, [], _∷_, _++_}
 use mathlib.Core.Option.{Option, none, some}
 use Prim.Native.Nat.{ℕ}
 use Prim.Native.String.{String}
-use Rattle.record.specs.declared.tag.CountryTag.{CountryTag}
+use Rattle.format.specs.declared.tag.CountryTag.{CountryTag}
 use Rattle.rules.specs.Lent.{Answer, gives, refused, Outcome}
 use Rattle.rules.specs.PlayerOutcomes.{callPlayers, HistoryCells, HistoryCounts, callPlayerHistories, callStartingCountry}
 use Rattle.rules.specs.Packing.{tagged, word, DraftCountry, played, packed}

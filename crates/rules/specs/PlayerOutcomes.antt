@@ -5,9 +5,9 @@ use mathlib.Core.List.{List, [], _∷_}
 use mathlib.Core.Option.{Option}
 use Prim.Native.Nat.{ℕ}
 use lib.ListN.{length}
-use Rattle.record.specs.declared.tag.CountryTag.{CountryTag}
-use Rattle.record.specs.Campaign.{campaignOf}
-use Rattle.record.specs.Refusal.{refusal, firstOf}
+use Rattle.format.specs.declared.tag.CountryTag.{CountryTag}
+use Rattle.format.specs.Campaign.{campaignOf}
+use Rattle.format.specs.Refusal.{refusal, firstOf}
 use Rattle.rules.specs.Lent.{Answer, answered, written, fits, roomNumber, Outcome, outcome}
 use Rattle.rules.specs.NationRows.{nationsIn}
 use Rattle.rules.specs.Players.{playersOf, playerRows}

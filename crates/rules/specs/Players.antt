@@ -5,9 +5,9 @@ use mathlib.Core.Option.{Option, none, some}
 use Prim.Native.Nat.{ℕ, _+_}
 use Rattle.lists.specs.Lists.{joinOf, sameNumbers}
 use Rattle.lists.specs.Text.{ascii}
-use Rattle.record.specs.declared.tag.CountryTag.{CountryTag}
-use Rattle.record.specs.Tags.{created}
-use Rattle.record.specs.Campaign.{Campaign}
+use Rattle.format.specs.declared.tag.CountryTag.{CountryTag}
+use Rattle.format.specs.Tags.{created}
+use Rattle.format.specs.Campaign.{Campaign}
 
 -- A name and a tag text, with the name's string number from 0.
 pub record Pair : Type 0 where

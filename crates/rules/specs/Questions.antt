@@ -6,11 +6,11 @@ use mathlib.Core.Option.{Option, none, some}
 use Prim.Native.Nat.{ℕ}
 use lib.ListN.{length, getD}
 use Rattle.lists.specs.Lists.{allOf, joinOf, isWhole, wholeRows}
-use Rattle.record.specs.declared.tag.CountryTag.{CountryTag}
-use Rattle.record.specs.declared.date.Eu4Date.{Eu4Date}
-use Rattle.record.specs.Tags.{isTag}
-use Rattle.record.specs.Dates.{goodDate}
-use Rattle.record.specs.Refusal.{firstOf}
+use Rattle.format.specs.declared.tag.CountryTag.{CountryTag}
+use Rattle.format.specs.declared.date.Eu4Date.{Eu4Date}
+use Rattle.format.specs.Tags.{isTag}
+use Rattle.format.specs.Dates.{goodDate}
+use Rattle.format.specs.Refusal.{firstOf}
 use Rattle.rules.specs.Chronicle.{Nation}
 use Rattle.rules.specs.Lent.{written, fits, roomNumber, Outcome, outcome}
 use Rattle.rules.specs.NationRows.{nationsIn}

@@ -6,8 +6,8 @@ use Prim.Native.Nat.{ℕ}
 use Prim.Native.String.{String}
 use lib.ListN.{getElem?}
 use Rattle.lists.specs.Lists.{anyOf, without}
-use Rattle.record.specs.declared.tag.CountryTag.{CountryTag}
-use Rattle.record.specs.Campaign.{campaignOf}
+use Rattle.format.specs.declared.tag.CountryTag.{CountryTag}
+use Rattle.format.specs.Campaign.{campaignOf}
 use Rattle.rules.specs.Chronicle.{Nation, isAppeared, isAnnexed}
 use Rattle.rules.specs.Lent.{Answer, gives, refused, Outcome}
 use Rattle.rules.specs.Changes.{Run}

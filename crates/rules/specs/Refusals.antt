@@ -4,10 +4,10 @@ use mathlib.Core.Bool.{cond}
 use mathlib.Core.List.{List}
 use mathlib.Core.Option.{Option, none, some}
 use Prim.Native.Nat.{ℕ}
-use Rattle.record.specs.declared.tag.CountryTag.{CountryTag}
-use Rattle.record.specs.declared.date.Eu4Date.{Eu4Date}
-use Rattle.record.specs.Tags.{isTag}
-use Rattle.record.specs.Dates.{goodDate}
+use Rattle.format.specs.declared.tag.CountryTag.{CountryTag}
+use Rattle.format.specs.declared.date.Eu4Date.{Eu4Date}
+use Rattle.format.specs.Tags.{isTag}
+use Rattle.format.specs.Dates.{goodDate}
 use Rattle.rules.specs.Chronicle.{Nation}
 use Rattle.rules.specs.NationRows.{wellShaped}
 use Rattle.rules.specs.HistoryRows.{historiesShaped}

@@ -3,10 +3,10 @@ use mathlib.Core.Bool.{Bool, false, _&&_}
 use mathlib.Core.List.{List, map}
 use mathlib.Core.Option.{Option, none, some, Option·map}
 use Rattle.lists.specs.Lists.{keep, leading, joinOf, lastOr, last, orElse, greatest}
-use Rattle.record.specs.declared.tag.CountryTag.{CountryTag}
-use Rattle.record.specs.declared.date.Eu4Date.{Eu4Date}
-use Rattle.record.specs.Tags.{sameTag}
-use Rattle.record.specs.Dates.{notAfter}
+use Rattle.format.specs.declared.tag.CountryTag.{CountryTag}
+use Rattle.format.specs.declared.date.Eu4Date.{Eu4Date}
+use Rattle.format.specs.Tags.{sameTag}
+use Rattle.format.specs.Dates.{notAfter}
 use Rattle.rules.specs.Chronicle.{Kind, switch, appeared, annexed, Nation}
 use Rattle.rules.specs.Nations.{targets}
 

@@ -5,7 +5,7 @@ use mathlib.Core.Option.{Option, none, some}
 use Prim.Native.Nat.{ℕ, zero, suc}
 use lib.ListN.{getElem?}
 use Rattle.lists.specs.Lists.{keep, anyOf}
-use Rattle.record.specs.declared.tag.CountryTag.{CountryTag}
+use Rattle.format.specs.declared.tag.CountryTag.{CountryTag}
 use Rattle.rules.specs.Chronicle.{isAppeared, Entry, Nation}
 use Rattle.rules.specs.HistoryRows.{HistoryRow}
 

@@ -7,11 +7,11 @@ use Prim.Native.Nat.{ℕ}
 use lib.ListN.{length, take, replicate}
 use Rattle.lists.specs.Lists.{keep, anyOf, joinOf}
 use Rattle.lists.specs.Text.{ascii}
-use Rattle.record.specs.declared.tag.CountryTag.{CountryTag}
-use Rattle.record.specs.declared.date.Eu4Date.{Eu4Date}
-use Rattle.record.specs.Tags.{sameTag}
-use Rattle.record.specs.Campaign.{campaignOf}
-use Rattle.record.specs.Refusal.{refusal}
+use Rattle.format.specs.declared.tag.CountryTag.{CountryTag}
+use Rattle.format.specs.declared.date.Eu4Date.{Eu4Date}
+use Rattle.format.specs.Tags.{sameTag}
+use Rattle.format.specs.Campaign.{campaignOf}
+use Rattle.format.specs.Refusal.{refusal}
 use Rattle.rules.specs.Chronicle.{switch, appeared, annexed, Entry, Nation}
 use Rattle.rules.specs.Lent.{Answer, gives, Outcome}
 use Rattle.rules.specs.Nations.{nationsOf}

@@ -1,9 +1,9 @@
 -- 01, Page and Edges: the worked record, and those records of the starred cases that are made from it or stand beside it.
 use mathlib.Core.List.{List, [], _∷_}
 use Prim.Native.Nat.{ℕ}
-use Rattle.record.specs.declared.tag.CountryTag.{CountryTag}
-use Rattle.record.specs.declared.date.Eu4Date.{Eu4Date}
-use Rattle.rules.specs.Packing.{tagged, DraftWarEvent, DraftLedger, on, country, province, point, ledger, packed}
+use Rattle.format.specs.declared.tag.CountryTag.{CountryTag}
+use Rattle.format.specs.declared.date.Eu4Date.{Eu4Date}
+use Rattle.rules.specs.Packing.{tagged, DraftWarEvent, DraftLedger, on, country, province, war, point, ledger, packed}
 
 -- The tags of the cases.
 abbrev pub ENG : CountryTag
@@ -11,6 +11,9 @@ ENG = tagged "ENG"
 
 abbrev pub GBR : CountryTag
 GBR = tagged "GBR"
+
+abbrev pub FRA : CountryTag
+FRA = tagged "FRA"
 
 -- A date by its number.
 abbrev pub dated : ℕ → Eu4Date
@@ -58,3 +61,14 @@ sameDay =
       ledgers = [];
       strings = [];
     })
+
+-- The worked record with three wars. GBR joins as ENG on the start day, as ENG on the day on which it is annexed, and under its own tag later;
+-- FRA joins on two of these days. ENG also leaves a war, which makes no row.
+abbrev pub workedWars : List ℕ
+workedWars =
+    workedWith 14441111
+    ((war 14441111 0 "FRA" ∷ war 14441111 1 "ENG" ∷ [])
+    ∷ (war 14460101 3 "ENG" ∷ war 14460101 0 "ENG" ∷ [])
+    ∷ (war 14480601 1 "FRA" ∷ war 14480601 0 "GBR" ∷ [])
+    ∷ [])
+    []
