@@ -15,10 +15,10 @@ use Rattle.lists.proofs.ListLaws.{InOrder, all-map, all-both, all-keep, all-las
 use Rattle.lists.proofs.ElementLaws.{keep-map, keep-same}
 use Rattle.sorting.specs.Sort.{insertBy, sortBy}
 use Rattle.sorting.proofs.SortLaws.{all-kept, keep-sort, keys-in-order, leb-total, leb-trans}
-use Rattle.record.specs.declared.tag.CountryTag.{CountryTag}
-use Rattle.record.specs.declared.date.Eu4Date.{Eu4Date}
-use Rattle.record.specs.Tags.{isTag, sameTag}
-use Rattle.record.specs.Dates.{notAfter}
+use Rattle.format.specs.declared.tag.CountryTag.{CountryTag}
+use Rattle.format.specs.declared.date.Eu4Date.{Eu4Date}
+use Rattle.format.specs.Tags.{isTag, sameTag}
+use Rattle.format.specs.Dates.{notAfter}
 use Rattle.resolver.specs.declared.claims.Claim.{Claim}
 use Rattle.resolver.specs.Claims.{isAsked, claimDay, bestOf}
 use Rattle.resolver.proofs.ResolvedLaws.{greatest-map}

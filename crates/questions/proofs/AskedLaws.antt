@@ -7,8 +7,8 @@ use native.Mathlib.Omega.{arith}
 use borrow.Author.Tests.{eq-eqb, ne-eqb}
 use lib.ListN.{length, getD, drop}
 use Rattle.lists.specs.Lists.{allOf, isWhole}
-use Rattle.record.specs.declared.tag.CountryTag.{CountryTag}
-use Rattle.record.specs.declared.date.Eu4Date.{Eu4Date}
+use Rattle.format.specs.declared.tag.CountryTag.{CountryTag}
+use Rattle.format.specs.declared.date.Eu4Date.{Eu4Date}
 use Rattle.rules.specs.Questions.{questionWidth, questionOf, questionsIn, questionShaped}
 use Rattle.chronicle_rows.proofs.RowAtLaws.{rows-count, row-past, row-here, word-here, word-first, rows-next}
 use Rattle.questions.specs.Asked.{questionAt}

@@ -11,8 +11,8 @@ use lib.ListN.{getD}
 use Rattle.lists.specs.Lists.{keep, greaterOf, greatest}
 use Rattle.lists.proofs.BoolLaws.{cases}
 use Rattle.lists.proofs.ListLaws.{keep-append}
-use Rattle.record.specs.declared.tag.CountryTag.{CountryTag}
-use Rattle.record.specs.declared.date.Eu4Date.{Eu4Date}
+use Rattle.format.specs.declared.tag.CountryTag.{CountryTag}
+use Rattle.format.specs.declared.date.Eu4Date.{Eu4Date}
 use Rattle.resolver.specs.declared.claims.Claim.{Claim}
 use Rattle.resolver.specs.Claims.{isAsked, claimDay, bestOf}
 use Rattle.questions.specs.Keys.{keyDay, keyNumber}

@@ -6,24 +6,28 @@ use Prim.Native.Nat.{ℕ, zero, suc, _+_, _-_, _<_, _≤_}
 use native.Mathlib.Nat.{sub-zero}
 use native.Mathlib.Omega.{arith}
 use lib.Dec.{leb}
-use lib.ListN.{length, take, drop, length-append, length-take, length-drop, take-append-drop}
+use lib.ListN.{length, getD, take, drop, length-append, length-take, length-drop, take-append-drop}
 use lib.Seq.{take-at}
 use Rattle.lists.specs.Lists.{All, allOf}
 use Rattle.lists.proofs.ListLaws.{all-map, all-take}
 use Rattle.sorting.specs.Sort.{sortBy}
 use Rattle.sorting.proofs.SortLaws.{length-sort}
-use Rattle.sorting.proofs.KeyLaws.{sort-again}
+use Rattle.sorting.proofs.SortedKeyLaws.{sort-again}
+use Rattle.format.specs.declared.tag.CountryTag.{CountryTag}
+use Rattle.format.specs.declared.date.Eu4Date.{Eu4Date}
+use Rattle.format.specs.Tags.{isTag}
 use Rattle.rules.specs.NationRows.{nationRowsIn, wellShaped}
 use Rattle.rules.specs.Questions.{questionsIn, questionShaped}
 use Rattle.resolver.specs.declared.claims.Claim.{Claim}
 use Rattle.resolver.specs.declared.claims.Walk.{Walk}
-use Rattle.resolver.specs.Claims.{claimsIn, claimsLeft, walkStart}
+use Rattle.resolver.specs.Claims.{claimsIn, claimsLeft, walkStart, bestOf}
 use Rattle.resolver.proofs.ClaimLaws.{walk-start}
-use Rattle.questions.specs.Keys.{keysFrom, SortsBlock, roomOf}
-use Rattle.questions.specs.Passes.{rowsWith, blankRow, blockRow, bestRow}
+use Rattle.questions.specs.Keys.{keysFrom, lastAsked, SortsBlock, roomOf}
+use Rattle.questions.specs.Passes.{claimWords, updated, rowsWith, blankRow, blockRow, bestRow}
 use Rattle.questions.proofs.BlockLaws.{length-keys}
-use Rattle.questions.proofs.GoodLaws.{Sound, claims-sound}
-use Rattle.questions.proofs.RowsLaws.{block-rows, blank-rows}
+use Rattle.questions.proofs.GoodLaws.{SoundClaim, claims-sound}
+use Rattle.questions.proofs.KeyLaws.{GoodClaim}
+use Rattle.questions.proofs.RowsLaws.{block-updated, block-rows, blank-rows}
 
 pub record Between (ws es qs before : List ℕ) (walk : Walk) (out keys owners scratch : List ℕ) : Type 0 where
   pub passed : List Claim
@@ -94,6 +98,22 @@ all-behind : {A : Type 0} (P : A → Type 0) (xs ys : List A) → All P (xs ++ y
 all-behind P [] ys q = q
 all-behind P (x ∷ xs) ys q = all-behind P xs ys (q .1)
 
+-- One row between two blocks: the best of the claims passed, and then of the block too.
+module _ (ws es : List ℕ) (shaped : wellShaped ws es ≡ true) (passed left : List Claim) (whole : claimsIn ws es ≡ passed ++ left)
+    (rest : List Claim) (room count : ℕ) (keys₀ keys₁ owners₀ owners₁ scratch₀ scratch₁ : List ℕ) (b : SortsBlock left rest room count keys₀ keys₁ owners₀ owners₁ scratch₀ scratch₁) where
+  block-good : All GoodClaim (take room left)
+  block-good =
+      let sound = SoundClaim (length (nationRowsIn ws)) in
+      all-map (λ c s. s .good) (take room left) (all-take sound room left (all-behind sound passed left (rw whole at (claims-sound ws es shaped))) .0)
+
+  pub sorted-best : room ≤ 65536 → (tag : CountryTag) (date : Eu4Date) → isTag tag ≡ true → date .0 < 134217728
+      → updated owners₁ (lastAsked tag date (take (count - 0) keys₁)) (getD (claimWords (bestOf tag date passed)) 0 0) (getD (claimWords (bestOf tag date passed)) 1 0)
+      ≡ claimWords (bestOf tag date (passed ++ take room left))
+  unfolding sorted block
+  sorted-best h tag date t d =
+      rw (part-sorted left rest room count keys₀ keys₁ owners₀ owners₁ scratch₀ scratch₁ b, b .owners)
+      (block-updated tag date t d passed (take room left) _ block-good (block-few left rest room count keys₀ keys₁ owners₀ owners₁ scratch₀ scratch₁ b h))
+
 module _ (ws es qs before : List ℕ) (walk : Walk) (out keys owners scratch : List ℕ) (t : Between ws es qs before walk out keys owners scratch) where
   pub between-end : claimsLeft ws es walk ≡ [] → out ≡ rowsWith (bestRow qs (claimsIn ws es)) (length (questionsIn qs)) before
   between-end e =
@@ -110,13 +130,11 @@ module _ (ws es qs before : List ℕ) (walk : Walk) (out keys owners scratch : L
       let left = claimsLeft ws es walk in
       let room = roomOf keys owners in
       let ys : List Claim = take room left in
-      let all = rw (t .whole) at (claims-sound ws es shaped) in
-      let sound = all-take (Sound (length (nationRowsIn ws))) room left (all-behind (Sound (length (nationRowsIn ws))) (t .passed) left all) .0 in
       record {
         passed = t .passed ++ ys;
         whole = t .whole ∙ (ap (λ (l : List Claim). t .passed ++ l) (sym (take-append-drop room left) ∙ ap (λ (l : List Claim). ys ++ l) (sym (b .behind))) ∙ sym (append-assoc (t .passed) ys (claimsLeft ws es rest)));
         cells =
-            block-rows qs good (t .passed) ys (drop (length (map (λ (c : Claim). c .nation) ys)) owners) before (all-map (λ c s. s .good) ys sound)
+            block-rows qs good (t .passed) ys (drop (length (map (λ (c : Claim). c .nation) ys)) owners) before (block-good ws es shaped (t .passed) left (t .whole) (claimsLeft ws es rest) room count keys keys₁ owners owners₁ scratch scratch₁ b)
             (block-few left (claimsLeft ws es rest) room count keys keys₁ owners owners₁ scratch scratch₁ b (omega arith))
             (take (count - 0) keys₁) owners₁ (part-sorted left (claimsLeft ws es rest) room count keys keys₁ owners owners₁ scratch scratch₁ b) (b .owners)
             (length (questionsIn qs)) refl out new (t .cells) w;

@@ -8,7 +8,7 @@ use lib.ListN.{length, take, drop, set, length-map, length-take, length-set, len
 use lib.Seq.{length-take-le, drop-drop, drop-nil, take-nil}
 use Rattle.lists.proofs.FillLaws.{Filling, filling-new, filling-one, filling-put, filling-count, filling-written}
 use Rattle.sorting.specs.Sort.{Sorts}
-use Rattle.sorting.proofs.KeyLaws.{sorted-front}
+use Rattle.sorting.proofs.SortedKeyLaws.{sorted-front}
 use Rattle.resolver.specs.declared.claims.Claim.{Claim}
 use Rattle.questions.specs.Keys.{lowestKey, keysFrom, Fills, SortsBlock}
 

@@ -7,10 +7,10 @@ use native.Mathlib.Omega.{arith}
 use borrow.Author.Tests.{leb-true, leb-false, eqb-true, eqb-false, le-leb, lt-leb, lt-ltb, le-ltb}
 use lib.Dec.{leb, ltb}
 use Rattle.lists.proofs.BoolLaws.{cases}
-use Rattle.record.specs.declared.tag.CountryTag.{CountryTag}
-use Rattle.record.specs.declared.date.Eu4Date.{Eu4Date}
-use Rattle.record.specs.Tags.{isTag, sameTag}
-use Rattle.record.proofs.TagLaws.{Bytes, tag-bytes}
+use Rattle.format.specs.declared.tag.CountryTag.{CountryTag}
+use Rattle.format.specs.declared.date.Eu4Date.{Eu4Date}
+use Rattle.format.specs.Tags.{isTag, sameTag}
+use Rattle.format.proofs.TagLaws.{Bytes, tag-bytes}
 use Rattle.resolver.specs.declared.claims.Claim.{Claim}
 use Rattle.resolver.specs.Claims.{isAsked, claimDay}
 use Rattle.questions.specs.Keys.{tagBits, lowestKey, isAskedKey, keyDay, keyNumber}
@@ -93,15 +93,15 @@ module _ (c : Claim) (g : GoodClaim c) (k : ℕ) (small : k < 65536) where
   key-same-tag e h s j small′ l = rw (mod-eq-of-lt (g .date), mod-eq-of-lt (h .date), s) (same-place (tagBits (e .tag)) (c .date .0) (e .date .0) k j small small′ l)
 
 -- The keys within a question's two are those of the claims that it asks for.
-within : (p t d q k : ℕ) (same : Bool) → d < 134217728 → q < 134217728 → k < 65536 → (same ≡ true → p ≡ t) → (same ≡ false → p ≡ t → ⊥)
+key-within : (p t d q k : ℕ) (same : Bool) → d < 134217728 → q < 134217728 → k < 65536 → (same ≡ true → p ≡ t) → (same ≡ false → p ≡ t → ⊥)
     → leb (t * 8796093022208 + 0) (p * 8796093022208 + d * 65536 + k) && ltb (p * 8796093022208 + d * 65536 + k) (t * 8796093022208 + q * 65536 + 65536) ≡ same && leb d q
-within p t d q k true hd hq hk alike other =
+key-within p t d q k true hd hq hk alike other =
     let e = alike refl in
     rw (le-leb (t * 8796093022208 + 0) (p * 8796093022208 + d * 65536 + k) (omega arith))
     (cases (leb d q)
     (λ l. let o = leb-true d q l in rw l (lt-ltb (p * 8796093022208 + d * 65536 + k) (t * 8796093022208 + q * 65536 + 65536) (omega arith)))
     (λ l. let o = leb-false d q l in rw l (le-ltb (p * 8796093022208 + d * 65536 + k) (t * 8796093022208 + q * 65536 + 65536) (omega arith))))
-within p t d q k false hd hq hk alike other =
+key-within p t d q k false hd hq hk alike other =
     let apart = other refl in
     cases (leb (t * 8796093022208 + 0) (p * 8796093022208 + d * 65536 + k))
     (λ l. let o = leb-true (t * 8796093022208 + 0) (p * 8796093022208 + d * 65536 + k) l in
@@ -113,6 +113,6 @@ pub asked-key : (tag : CountryTag) (date : Eu4Date) → isTag tag ≡ true → d
 unfolding lowestKey
 asked-key tag date ht hd c g k small =
     rw (mod-eq-of-lt (g .date), mod-eq-of-lt hd)
-    (within (tagBits (c .tag)) (tagBits tag) (c .date .0) (date .0) k (sameTag (c .tag) tag) (g .date) hd small
+    (key-within (tagBits (c .tag)) (tagBits tag) (c .date .0) (date .0) k (sameTag (c .tag) tag) (g .date) hd small
     (λ e. ap (λ (w : ℕ). tagBits (record { 0 = w })) (eqb-true (c .tag .0) (tag .0) e))
     (λ e f. eqb-false (c .tag .0) (tag .0) e (bits-apart (c .tag) tag (g .tag) ht f)))

@@ -9,4 +9,5 @@ pub mod BestLaws
 pub mod GoodLaws
 pub mod RowsLaws
 pub mod BetweenLaws
-pub mod EachLaws
+pub mod ResolveEachLaws
+pub mod SearchLaws

@@ -2,7 +2,7 @@
 use mathlib.Core.Path.{_≡_, sym, ap, _∙_}
 use mathlib.Core.List.{List}
 use mathlib.Core.Option.{none, some}
-use Prim.Native.Nat.{ℕ, _+_, _-_, _≤_, _<_}
+use Prim.Native.Nat.{ℕ, _+_, _-_, _*_, _/_, _≤_, _<_}
 use native.Mathlib.Omega.{arith}
 use lib.Dec.{leb, ltb}
 use lib.ListN.{getD}
@@ -10,19 +10,26 @@ use Rattle.lists.specs.Lists.{keep, countOf, last}
 use Rattle.lists.proofs.BoundLaws.{last-none, last-below, last-there}
 use Rattle.lists.proofs.ElementLaws.{last-some}
 use Rattle.sorting.specs.Sort.{sortBy}
-use Rattle.sorting.proofs.KeyLaws.{sorted-up}
-use Rattle.record.specs.declared.tag.CountryTag.{CountryTag}
-use Rattle.record.specs.declared.date.Eu4Date.{Eu4Date}
-use Rattle.questions.specs.Keys.{lowestKey, Counts, isAskedKey, lastAsked}
+use Rattle.sorting.proofs.SortedKeyLaws.{sorted-up}
+use Rattle.format.specs.declared.tag.CountryTag.{CountryTag}
+use Rattle.format.specs.declared.date.Eu4Date.{Eu4Date}
+use Rattle.questions.specs.Keys.{lowestKey, CountsBelow, isAskedKey, lastAsked}
 
--- What the code has worked out: the lowest key of the tag, from date `zero`, the highest one not after the date, and the count up to it.
-module _ (tag : CountryTag) (date zero-date : Eu4Date) (keys : List ℕ) (low key i : ℕ) (z : zero-date .0 ≡ 0) (l : low ≡ lowestKey tag zero-date) (h : key ≡ lowestKey tag date)
-    (k : Counts keys (key + 65535 + 1) i) (s : sortBy leb keys ≡ keys) where
+-- The count that a search for an odd number gives, where that is the highest key of a tag and a date.
+pub odd-upto : (tag : CountryTag) (date : Eu4Date) (keys : List ℕ) (key i : ℕ) → key ≡ lowestKey tag date → CountsBelow keys ((key + 65535) / 2 * 2 + 2) i
+    → CountsBelow keys (lowestKey tag date + 65536) i
+unfolding lowestKey
+odd-upto tag date keys key i h k =
+    let e : (key + 65535) / 2 * 2 + 2 ≡ lowestKey tag date + 65536 = omega arith in rw e at k
+
+-- What the code has worked out: the lowest key of the tag, from date `zero`, and the count up to the highest one not after the date.
+module _ (tag : CountryTag) (date zero-date : Eu4Date) (keys : List ℕ) (low i : ℕ) (z : zero-date .0 ≡ 0) (l : low ≡ lowestKey tag zero-date)
+    (k : CountsBelow keys (lowestKey tag date + 65536) i) (s : sortBy leb keys ≡ keys) where
   lowest : low ≡ lowestKey tag (record { 0 = 0 })
   lowest = l ∙ ap (λ (w : ℕ). lowestKey tag (record { 0 = w })) z
 
   upto : i ≡ countOf (λ x. ltb x (lowestKey tag date + 65536)) keys
-  upto = let e : key + 65535 + 1 ≡ lowestKey tag date + 65536 = omega arith in rw e at (k .counted s)
+  upto = k .counted s
 
   pub looked-none : i ≡ 0 → none ≡ lastAsked tag date keys
   looked-none e = sym (ap last (last-none (lowestKey tag (record { 0 = 0 })) (lowestKey tag date + 65536) keys (sorted-up keys s) i upto e))

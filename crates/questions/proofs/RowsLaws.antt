@@ -1,5 +1,5 @@
 -- Rows of the answer from pass to pass: before the first block, after each, and in the end.
-use mathlib.Core.Path.{_≡_, refl, sym, ap, ap₂, _∙_}
+use mathlib.Core.Path.{_≡_, refl, sym, ap, _∙_}
 use mathlib.Core.Bool.{true}
 use mathlib.Core.List.{List, [], _∷_, _++_, map}
 use mathlib.Core.Option.{Option, none, some, Option·map}
@@ -12,10 +12,12 @@ use lib.ListN.{length, drop, getD, List·getD-append}
 use lib.Seq.{drop-at}
 use Rattle.lists.specs.Lists.{All, allOf, joinOf, numbersFrom, keep}
 use Rattle.lists.proofs.BoolLaws.{and-left, and-right}
-use Rattle.lists.proofs.ListLaws.{all-map, all-keep, length-join, rows-join, row-at, length-numbers, numbers-at}
+use Rattle.lists.proofs.ListLaws.{all-map, all-keep, join-same, length-join, rows-join, row-at, length-numbers, numbers-at}
 use Rattle.sorting.specs.Sort.{sortBy}
-use Rattle.record.specs.Tags.{isTag}
-use Rattle.record.specs.Dates.{goodDate}
+use Rattle.format.specs.declared.tag.CountryTag.{CountryTag}
+use Rattle.format.specs.declared.date.Eu4Date.{Eu4Date}
+use Rattle.format.specs.Tags.{isTag}
+use Rattle.format.specs.Dates.{goodDate}
 use Rattle.rules.specs.NationRows.{nationRowsIn, nationsIn, wellShaped}
 use Rattle.rules.specs.Resolver.{plainData, resolvedNation, resolve}
 use Rattle.rules.specs.Questions.{Question, questionsIn, questionShaped, answerWords, answerRows}
@@ -23,15 +25,15 @@ use Rattle.chronicle_rows.proofs.NumberedLaws.{numbers-range, dropped-numbers}
 use Rattle.resolver.specs.declared.claims.Claim.{Claim}
 use Rattle.resolver.specs.Claims.{claimsIn, bestOf, isAsked, claimDay}
 use Rattle.resolver.specs.Found.{plainOf}
-use Rattle.resolver.proofs.ResolvedLaws.{nationOf, map-twice, claim-resolved}
+use Rattle.resolver.proofs.ResolvedLaws.{claimNation, map-twice, claim-resolved}
 use Rattle.questions.specs.Asked.{questionAt}
 use Rattle.questions.specs.Keys.{keysFrom, lastAsked}
-use Rattle.questions.specs.Passes.{claimWords, finished, rowsWith, blankRow, blockRow, bestRow, finishedRow, claimRow}
+use Rattle.questions.specs.Passes.{claimWords, updated, finished, rowsWith, blankRow, blockRow, bestRow, finishedRow, claimRow}
 use Rattle.questions.proofs.KeyLaws.{GoodClaim}
 use Rattle.questions.proofs.AskedLaws.{questions-next}
 use Rattle.questions.proofs.AnsweredLaws.{block-words, greatest-has, Has}
 use Rattle.questions.proofs.BestLaws.{block-best}
-use Rattle.questions.proofs.GoodLaws.{Sound, date-small, claims-sound}
+use Rattle.questions.proofs.GoodLaws.{SoundClaim, date-small, claims-sound}
 
 -- ## Rows of two words
 
@@ -56,10 +58,6 @@ row-first : (row : ℕ → List ℕ) (n : ℕ) (before : List ℕ) → ((i : ℕ
 row-first row n before w i h = let e : 2 * i + 0 ≡ 2 * i = omega arith in rw e at (row-word row n before w i 0 h (omega arith))
 
 -- The same rows by another definition.
-join-same : (f g : ℕ → List ℕ) (is : List ℕ) → All (λ i. f i ≡ g i) is → joinOf f is ≡ joinOf g is
-join-same f g [] q = refl
-join-same f g (i ∷ is) q = ap₂ _++_ (q .0) (join-same f g is (q .1))
-
 rows-same : (f g : ℕ → List ℕ) (n : ℕ) (before : List ℕ) → ((i : ℕ) → i < n → f i ≡ g i) → rowsWith f n before ≡ rowsWith g n before
 rows-same f g n before h =
     ap (λ (l : List ℕ). l ++ drop (2 * n) before) (join-same f g (numbersFrom 0 n) (all-map (λ i r. h i (omega (arith, r .1))) (numbersFrom 0 n) (numbers-range 0 n)))
@@ -70,6 +68,13 @@ best-wide qs cs i = go (bestOf (questionAt qs i .tag) (questionAt qs i .date) cs
     go : (o : Option Claim) → length (claimWords o) ≡ 2
     go none = refl
     go (some c) = refl
+
+-- The words of a best claim so far, held against a block behind it.
+pub block-updated : (tag : CountryTag) (date : Eu4Date) → isTag tag ≡ true → date .0 < 134217728 → (xs ys : List Claim) (back : List ℕ) → All GoodClaim ys → length ys ≤ 65536
+    → updated (map (λ c. c .nation) ys ++ back) (lastAsked tag date (sortBy leb (keysFrom 0 ys))) (getD (claimWords (bestOf tag date xs)) 0 0) (getD (claimWords (bestOf tag date xs)) 1 0)
+    ≡ claimWords (bestOf tag date (xs ++ ys))
+block-updated tag date t d xs ys back g few =
+    block-best (map (λ c. c .nation) ys ++ back) tag date xs ys (lastAsked tag date (sortBy leb (keysFrom 0 ys))) (block-words tag date t d ys back g few)
 
 -- ## Questions
 
@@ -102,8 +107,7 @@ module _ (qs : List ℕ) (good : allOf questionShaped (questionsIn qs) ≡ true)
           let first : getD out (2 * i) 0 ≡ getD (bestRow qs xs i) 0 0 = rw e (row-first (bestRow qs xs) n before (best-wide qs xs) i h) in
           let second : getD out (2 * i + 1) 0 ≡ getD (bestRow qs xs i) 1 0 = rw e (row-word (bestRow qs xs) n before (best-wide qs xs) i 1 h (omega arith)) in
           rw (first, second, k, o)
-          (block-best (map (λ c. c .nation) ys ++ back) (q .tag) (q .date) xs ys (lastAsked (q .tag) (q .date) (sortBy leb (keysFrom 0 ys)))
-          (block-words (q .tag) (q .date) (and-left (isTag (q .tag)) (goodDate (q .date)) s) (date-small (q .date) (and-right (isTag (q .tag)) (goodDate (q .date)) s)) ys back g few))
+          (block-updated (q .tag) (q .date) (and-left (isTag (q .tag)) (goodDate (q .date)) s) (date-small (q .date) (and-right (isTag (q .tag)) (goodDate (q .date)) s)) xs ys back g few)
 
 -- Before the first block.
 pub blank-rows : (qs : List ℕ) (n : ℕ) (before out : List ℕ) → out ≡ rowsWith blankRow n before → out ≡ rowsWith (bestRow qs []) n out
@@ -122,7 +126,7 @@ module _ (ws es : List ℕ) (shaped : wellShaped ws es ≡ true) where
       ∙ (rows-same (finishedRow ws out) (claimRow ws es qs) n out step
       ∙ (ap (rowsWith (claimRow ws es qs) n) e ∙ rows-again (claimRow ws es qs) (bestRow qs (claimsIn ws es)) n before (best-wide qs (claimsIn ws es))))
     where
-      turn : (o : Option Claim) → Has claimDay claimDay (Sound (length (nationRowsIn ws))) o → finished ws (getD (claimWords o) 1 0) ≡ answerWords (Option·map (plainOf ws) o)
+      turn : (o : Option Claim) → Has claimDay claimDay (SoundClaim (length (nationRowsIn ws))) o → finished ws (getD (claimWords o) 1 0) ≡ answerWords (Option·map (plainOf ws) o)
       turn none h = refl
       turn (some c) h = let small : c .nation < 4294967295 = let t = h .there in omega arith in rw (mod-eq-of-lt small, add-one (c .nation))
 
@@ -133,7 +137,7 @@ module _ (ws es : List ℕ) (shaped : wellShaped ws es ≡ true) where
           let second : getD out (2 * i + 1) 0 ≡ getD (bestRow qs all i) 1 0 = rw e (row-word (bestRow qs all) n before (best-wide qs all) i 1 h (omega arith)) in
           rw second
           (turn (bestOf (q .tag) (q .date) all)
-          (greatest-has claimDay claimDay (Sound (length (nationRowsIn ws))) (keep (isAsked (q .tag) (q .date)) all) (all-keep (Sound (length (nationRowsIn ws))) (isAsked (q .tag) (q .date)) all (claims-sound ws es shaped))))
+          (greatest-has claimDay claimDay (SoundClaim (length (nationRowsIn ws))) (keep (isAsked (q .tag) (q .date)) all) (all-keep (SoundClaim (length (nationRowsIn ws))) (isAsked (q .tag) (q .date)) all (claims-sound ws es shaped))))
 
   -- The rows by the best claims are those of the rules.
   pub answer-rows : (qs : List ℕ) → joinOf (claimRow ws es qs) (numbersFrom 0 (length (questionsIn qs))) ≡ answerRows (nationsIn ws es) (questionsIn qs)
@@ -148,7 +152,7 @@ module _ (ws es : List ℕ) (shaped : wellShaped ws es ≡ true) where
       one : (i : ℕ) → claimRow ws es qs i ≡ answerWords (Option·map plainData (resolvedNation (nationsIn ws es) (questionAt qs i .tag) (questionAt qs i .date)))
       one i =
           let q = questionAt qs i in
-          ap answerWords (sym (map-twice (nationOf ws es) plainData (bestOf (q .tag) (q .date) (claimsIn ws es))) ∙ ap (Option·map plainData) (claim-resolved ws es (q .tag) (q .date) shaped))
+          ap answerWords (sym (map-twice (claimNation ws es) plainData (bestOf (q .tag) (q .date) (claimsIn ws es))) ∙ ap (Option·map plainData) (claim-resolved ws es (q .tag) (q .date) shaped))
 
       all-every : {P : ℕ → Type 0} (is : List ℕ) → ((i : ℕ) → P i) → All P is
       all-every [] f = tt

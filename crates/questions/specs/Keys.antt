@@ -9,8 +9,8 @@ use lib.Dec.{leb, ltb}
 use lib.ListN.{length, take, drop}
 use Rattle.lists.specs.Lists.{keep, countOf, last}
 use Rattle.sorting.specs.Sort.{sortBy, cleared}
-use Rattle.record.specs.declared.tag.CountryTag.{CountryTag}
-use Rattle.record.specs.declared.date.Eu4Date.{Eu4Date}
+use Rattle.format.specs.declared.tag.CountryTag.{CountryTag}
+use Rattle.format.specs.declared.date.Eu4Date.{Eu4Date}
 use Rattle.rules.specs.Lent.{written}
 use Rattle.resolver.specs.declared.claims.Claim.{Claim}
 use Rattle.questions.specs.declared.blocks.Looked as Looked
@@ -48,7 +48,7 @@ abbrev pub roomOf : List ℕ → List ℕ → ℕ
 roomOf keys owners = min (min (length keys) (length owners)) 65536
 
 -- How many keys are below a number, if they are in order; never more than there are.
-pub record Counts (keys : List ℕ) (x count : ℕ) : Type 0 where
+pub record CountsBelow (keys : List ℕ) (x count : ℕ) : Type 0 where
   pub inside : count ≤ length keys
   pub counted : sortBy leb keys ≡ keys → count ≡ countOf (λ k. ltb k x) keys
 

@@ -2,3 +2,4 @@ pub mod Cases
 pub mod Asked
 pub mod Keys
 pub mod Passes
+pub mod Search

@@ -1,5 +1,6 @@
 // Blocks of claims as sorted keys. A key holds a claim's tag, date and number in the block, so that the claims to a tag stand together
 // in the order of their dates, those of one date in list order.
+use crate::search;
 use record::CountryTag;
 use record::Eu4Date;
 use resolver::NextClaim;
@@ -10,7 +11,10 @@ ghost use Prim.Native.Nat.{_+_, _<_, _≤_, min};
 ghost use lib.Dec.{leb};
 ghost use Rattle.sorting.specs.Sort.{sortBy};
 ghost use Rattle.resolver.specs.Claims.{claimsLeft};
-ghost use Rattle.questions.specs.Keys.{tagBits, lowestKey, Fills, SortsBlock, roomOf, Counts, lastAsked, lookedTold};
+ghost use Rattle.questions.specs.Keys.{tagBits, lowestKey, Fills, SortsBlock, roomOf, CountsBelow, lastAsked, lookedTold};
+
+// How many claims are sorted at a time: a chronicle at 01's limits is one block.
+pub const BLOCK: usize = 24576;
 
 // The most claims that a block can have: a number takes 16 bits.
 const NUMBERS: usize = 65536;
@@ -91,44 +95,33 @@ pub fn sort_block(
     block
 }
 
-// How many of the keys, which are in order, are at most x.
-fn count_upto(keys: &[u64], x: u64) -> usize
-    ensures { λ r. ⌜ Counts (now (keys .entry)) (x + 1) r ⌝ }
-{
-    let mut base = 0;
-    let mut size = keys.len();
-    while 1 < size {
-        let half = size / 2;
-        if keys[base + half - 1] <= x {
-            base += half;
-        }
-        size -= half;
-    }
-    if size == 0 {
-        return base;
-    }
-    if keys[base] <= x { base + 1 } else { base }
-}
-
 // The key of a block's claim that answers a question.
 pub enum Looked {
     Key(u64),
     Nothing,
 }
 
-// The last key of the tag that is not after the date.
-pub fn look_up(keys: &[u64], tag: CountryTag, date: Eu4Date) -> Looked
+// The last key of the tag that is not after the date, which stands before key number i.
+fn key_before(keys: &[u64], i: usize, tag: CountryTag, date: Eu4Date) -> Looked
+    requires { ⌜ CountsBelow (now keys) (lowestKey tag date + 65536) i ⌝ }
     ensures { λ r. ⌜ (sortBy leb (now (keys .entry)) ≡ now (keys .entry) → lookedTold r ≡ lastAsked tag date (now (keys .entry))) ⌝ }
 {
-    let low = key_of(tag, Eu4Date::kept(0));
-    let i = count_upto(keys, key_of(tag, date) + 65535);
     if i == 0 {
         return Looked::Nothing;
     }
     let key = keys[i - 1];
-    if key < low {
+    if key < key_of(tag, Eu4Date::kept(0)) {
         Looked::Nothing
     } else {
         Looked::Key(key)
     }
+}
+
+// The last key of the tag that is not after the date, among keys that are in order: found fast with the starts that `index_block` sets for
+// them, and found all the same with any others.
+pub fn look_up_near(keys: &[u64], starts: &[u64], tag: CountryTag, date: Eu4Date) -> Looked
+    ensures { λ r. ⌜ (sortBy leb (now (keys .entry)) ≡ now (keys .entry) → lookedTold r ≡ lastAsked tag date (now (keys .entry))) ⌝ }
+{
+    let i = search::count_near(keys, starts, key_of(tag, date) + 65535);
+    key_before(keys, i, tag, date)
 }

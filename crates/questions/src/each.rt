@@ -1,6 +1,9 @@
 // `resolve_each`: passes over the rows of the answer.
 use crate::asked;
 use crate::blocks;
+use crate::blocks::BLOCK;
+use crate::search;
+use crate::search::CELLS;
 use crate::words;
 use crate::words::Words;
 use chronicle_rows::is_well_shaped;
@@ -16,9 +19,6 @@ ghost use Rattle.rules.specs.Questions.{questionsIn, callResolveEach};
 ghost use Rattle.resolver.specs.Claims.{claimsIn};
 ghost use Rattle.questions.specs.Cases.{eachOutcome};
 ghost use Rattle.questions.specs.Passes.{Ready, rowsWith, blankRow, blockRow, bestRow, finishedRow, claimRow};
-
-// How many claims are sorted at a time.
-const BLOCK: usize = 24576;
 
 // How many questions were answered, or the number of the refusal.
 pub enum Each {
@@ -50,6 +50,8 @@ fn answer_block(questions: &[u32], keys: &[u64], owners: &[u64], out: &mut [u32]
     requires { ⌜ (2 * length (questionsIn (now questions)) ≤ length (now out)) × (sortBy leb (now keys) ≡ now keys) ⌝ }
     ensures { λ _. ⌜ now (out .exit) ≡ rowsWith (blockRow (now (questions .entry)) (now (keys .entry)) (now (owners .entry)) (now (out .entry))) (length (questionsIn (now (questions .entry)))) (now (out .entry)) ⌝ }
 {
+    let mut starts = [0u64; CELLS];
+    search::index_block(keys, &mut starts);
     let n = asked::question_count(questions);
     let mut i = 0;
     while i < n {
@@ -59,7 +61,8 @@ fn answer_block(questions: &[u32], keys: &[u64], owners: &[u64], out: &mut [u32]
         let at = 2 * i;
         let best = out[at];
         let owner = out[at + 1];
-        let row = words::updated_row(owners, blocks::look_up(keys, tag, date), best, owner);
+        let looked = blocks::look_up_near(keys, &starts, tag, date);
+        let row = words::updated_row(owners, looked, best, owner);
         words::put_row(out, i, row);
         i += 1;
     }

@@ -3,14 +3,20 @@
 mod asked;
 mod blocks;
 mod each;
+mod search;
 mod words;
 
 pub use asked::Question;
 pub use asked::question_at;
 pub use asked::question_count;
+pub use blocks::BLOCK;
 pub use blocks::Block;
 pub use blocks::Looked;
-pub use blocks::look_up;
+pub use blocks::look_up_near;
 pub use blocks::sort_block;
 pub use each::Each;
 pub use each::resolve_each;
+pub use search::CELLS;
+pub use search::index_block;
+pub use words::Words;
+pub use words::updated_row;

@@ -13,9 +13,9 @@ ghost use Rattle.resolver.specs.Found.{plainOf};
 ghost use Rattle.questions.specs.Keys.{lookedTold, keyNumber};
 ghost use Rattle.questions.specs.Passes.{rowSet, updated, finished};
 
-pub(crate) struct Words {
-    pub(crate) first: u32,
-    pub(crate) second: u32,
+pub struct Words {
+    pub first: u32,
+    pub second: u32,
 }
 
 // Writes row i.
@@ -40,7 +40,7 @@ fn owner_word(owners: &[u64], key: u64) -> u32
 }
 
 // The later of a question's best claim so far, and of that in the block: of equals the block's.
-pub(crate) fn updated_row(owners: &[u64], looked: Looked, best: u32, owner: u32) -> Words
+pub fn updated_row(owners: &[u64], looked: Looked, best: u32, owner: u32) -> Words
     ensures { λ r. ⌜ r .first ∷ r .second ∷ [] ≡ updated (now (owners .entry)) (lookedTold looked) best owner ⌝ }
 {
     match looked {

@@ -11,10 +11,10 @@ use lib.ListN.{length}
 use Rattle.lists.specs.Lists.{keep, numbersFrom}
 use Rattle.lists.proofs.BoolLaws.{cases}
 use Rattle.lists.proofs.ScanLaws.{scan, scan-greatest}
-use Rattle.record.specs.declared.tag.CountryTag.{CountryTag}
-use Rattle.record.specs.declared.date.Eu4Date.{Eu4Date}
-use Rattle.record.specs.Tags.{sameTag}
-use Rattle.record.specs.Dates.{notAfter}
+use Rattle.format.specs.declared.tag.CountryTag.{CountryTag}
+use Rattle.format.specs.declared.date.Eu4Date.{Eu4Date}
+use Rattle.format.specs.Tags.{sameTag}
+use Rattle.format.specs.Dates.{notAfter}
 use Rattle.rules.specs.Chronicle.{Kind, switch, appeared, annexed, Entry}
 use Rattle.rules.specs.NationRows.{NationRow, nationRowsIn}
 use Rattle.chronicle_rows.specs.RowAt.{nationRowAt, entryAt}
@@ -32,7 +32,7 @@ module _ (ws es : List ℕ) where
   pub claims-end : (i : ℕ) → length (nationRowsIn ws) ≤ i → claimsFrom ws es i ≡ []
   claims-end i h = let e : length (nationRowsIn ws) - i ≡ 0 = omega arith in rw e
 
-  claims-next : (i : ℕ) → i < length (nationRowsIn ws) → claimsFrom ws es i ≡ nationClaims ws es i ++ claimsFrom ws es (i + 1)
+  pub claims-next : (i : ℕ) → i < length (nationRowsIn ws) → claimsFrom ws es i ≡ nationClaims ws es i ++ claimsFrom ws es (i + 1)
   claims-next i h =
       let n : ℕ = length (nationRowsIn ws) in
       let e : n - i - 1 ≡ n - (i + 1) = omega arith in
@@ -112,9 +112,6 @@ module _ (ws es : List ℕ) (w : Walk) {r : NextClaim.NextClaim} (told : claimsL
   pub claim-row : {c : Claim} {rest : Walk} → r ≡ NextClaim.the-variants.Row c rest → claimsLeft ws es w ≡ c ∷ claimsLeft ws es rest
   claim-row e = told ∙ ap (claimTold ws es) e
 
-  pub claim-less : {c : Claim} {rest : Walk} → r ≡ NextClaim.the-variants.Row c rest → length (claimsLeft ws es rest) < length (claimsLeft ws es w)
-  claim-less e = omega (arith, ap length (claim-row e))
-
   pub claim-end : r ≡ NextClaim.the-variants.End → claimsLeft ws es w ≡ []
   claim-end e = told ∙ ap (claimTold ws es) e
 
@@ -131,14 +128,10 @@ pub scan-step : (tag : CountryTag) (date : Eu4Date) (best next : Option Claim) (
 scan-step tag date best next claim left rest all row step so-far =
     rw step (sym (scan-next (isAsked tag date) best claim rest) ∙ (rw row at so-far))
 
--- A scan from nothing, before the first claim.
-pub scan-start : (ws es : List ℕ) (w : Walk) (tag : CountryTag) (date : Eu4Date) → w ≡ walkStart
-    → scan claimDay none (keep (isAsked tag date) (claimsLeft ws es w)) ≡ bestOf tag date (claimsIn ws es)
-scan-start ws es w tag date e = rw (e, walk-start ws es) (scan-greatest claimDay (keep (isAsked tag date) (claimsIn ws es)))
-
 -- A scan of all claims, and one that has come to the end.
-pub scan-all : (tag : CountryTag) (date : Eu4Date) (claims : List Claim) → scan claimDay none (keep (isAsked tag date) claims) ≡ bestOf tag date claims
-scan-all tag date claims = scan-greatest claimDay (keep (isAsked tag date) claims)
+pub scan-all : (tag : CountryTag) (date : Eu4Date) (claims : List Claim) (best : Option Claim) → best ≡ none
+    → scan claimDay best (keep (isAsked tag date) claims) ≡ bestOf tag date claims
+scan-all tag date claims best e = rw e (scan-greatest claimDay (keep (isAsked tag date) claims))
 
 pub scan-end : (tag : CountryTag) (date : Eu4Date) (best : Option Claim) (left : List Claim) (all : Option Claim) → left ≡ []
     → scan claimDay best (keep (isAsked tag date) left) ≡ all → best ≡ all

@@ -1,4 +1,5 @@
 pub mod ClaimLaws
+pub mod ScannedLaws
 pub mod ResolvedLaws
 pub mod WornLaws
-pub mod AnswerLaws
+pub mod ResolverAnswerLaws

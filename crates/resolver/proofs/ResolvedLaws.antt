@@ -12,11 +12,11 @@ use lib.ListN.{length}
 use Rattle.lists.specs.Lists.{All, keep, joinOf, lastOr, last, orElse, greaterOf, greatest, numbersFrom}
 use Rattle.lists.proofs.BoolLaws.{cases, and-left}
 use Rattle.lists.proofs.ListLaws.{all-map, all-append, all-keep, all-last, all-of-map, keep-append, keep-none, map-append}
-use Rattle.lists.proofs.ElementLaws.{keep-map}
-use Rattle.record.specs.declared.tag.CountryTag.{CountryTag}
-use Rattle.record.specs.declared.date.Eu4Date.{Eu4Date}
-use Rattle.record.specs.Tags.{sameTag}
-use Rattle.record.specs.Dates.{notAfter, goodDate, year, day}
+use Rattle.lists.proofs.ElementLaws.{keep-all, keep-map}
+use Rattle.format.specs.declared.tag.CountryTag.{CountryTag}
+use Rattle.format.specs.declared.date.Eu4Date.{Eu4Date}
+use Rattle.format.specs.Tags.{sameTag}
+use Rattle.format.specs.Dates.{notAfter, goodDate, year, day}
 use Rattle.rules.specs.Chronicle.{Kind, switch, appeared, annexed, Entry, Nation}
 use Rattle.rules.specs.NationRows.{nationRowsIn, nationsIn, kindShaped, wellShaped}
 use Rattle.rules.specs.Resolver.{Hit, isSwitchTo, hits, initialNation, resolvedNation}
@@ -96,10 +96,6 @@ pub map-twice : {A B C : Type 0} (f : A → B) (g : B → C) (a : Option A) → 
 map-twice f g none = refl
 map-twice f g (some x) = refl
 
-keep-all : {A : Type 0} (p : A → Bool) (xs : List A) → All (λ x. p x ≡ true) xs → keep p xs ≡ xs
-keep-all p [] q = refl
-keep-all p (x ∷ xs) q = simp (q .0, keep-all p xs (q .1))
-
 -- ## Dates of switches
 
 -- A good date is not 0.
@@ -125,11 +121,11 @@ module _ (ws es : List ℕ) where
   switchesOf i = switchClaims i (entriesAt es (nationRowAt ws i .first) (nationRowAt ws i .count))
 
   -- The nation of a claim.
-  abbrev pub nationOf : Claim → Nation
-  nationOf c = nationNumbered ws es (c .nation)
+  abbrev pub claimNation : Claim → Nation
+  claimNation c = nationNumbered ws es (c .nation)
 
   abbrev hitOf : Claim → Hit
-  hitOf c = record { date = c .date; nation = nationOf c }
+  hitOf c = record { date = c .date; nation = claimNation c }
 
   abbrev Late : Claim → Type 0
   Late c = 0 < claimDay c
@@ -177,12 +173,12 @@ module _ (ws es : List ℕ) where
         let t : leb 0 (date .0) ≡ true = le-leb 0 (date .0) (omega arith) in
         cases (sameTag (nationRowAt ws i .initial) tag) (λ h. simp (h, t, asked-initial is)) (λ h. simp (h, asked-initial is))
 
-    last-initial : (is : List ℕ) → initialNation (map (nationNumbered ws es) is) tag ≡ Option·map nationOf (last (keep (isAsked tag date) (map (initialClaim ws) is)))
+    last-initial : (is : List ℕ) → initialNation (map (nationNumbered ws es) is) tag ≡ Option·map claimNation (last (keep (isAsked tag date) (map (initialClaim ws) is)))
     last-initial is =
         let p : ℕ → Bool = λ i. sameTag (nationRowAt ws i .initial) tag in
         ap last (keep-map (λ n. sameTag (n .initial) tag) (nationNumbered ws es) is)
         ∙ (last-of-map (nationNumbered ws es) (keep p is)
-        ∙ sym (ap (Option·map nationOf) (ap last (asked-initial is) ∙ last-of-map (initialClaim ws) (keep p is)) ∙ map-twice (initialClaim ws) nationOf (last (keep p is))))
+        ∙ sym (ap (Option·map claimNation) (ap last (asked-initial is) ∙ last-of-map (initialClaim ws) (keep p is)) ∙ map-twice (initialClaim ws) claimNation (last (keep p is))))
 
     -- ## Both
 
@@ -221,7 +217,7 @@ module _ (ws es : List ℕ) where
         ∙ sym (keep-append a (initialClaim ws i ∷ []) (map (initialClaim ws) is)))
 
     -- The nation of the best claim is the one that the rules find.
-    pub claim-resolved : wellShaped ws es ≡ true → Option·map nationOf (bestOf tag date (claimsIn ws es)) ≡ resolvedNation (nationsIn ws es) tag date
+    pub claim-resolved : wellShaped ws es ≡ true → Option·map claimNation (bestOf tag date (claimsIn ws es)) ≡ resolvedNation (nationsIn ws es) tag date
     unfolding claimsIn resolvedNation
     claim-resolved shaped =
         let n : ℕ = length (nationRowsIn ws) in
@@ -230,24 +226,24 @@ module _ (ws es : List ℕ) where
         let q = all-map (λ i h. switches-late shaped i (omega (arith, h .1))) is (numbers-range 0 n) in
         let best : greatest claimDay (keep a (joinOf (nationClaims ws es) is)) ≡ orElse (greatest claimDay (keep a (joinOf switchesOf is))) (last (keep a (map (initialClaim ws) is))) =
         greatest-parts claimDay (keep a (joinOf (nationClaims ws es) is)) ∙ ap₂ (λ (x y : List Claim). orElse (greatest claimDay x) (last y)) (late-part is q) (early-part is q) in
-        let found : Option·map (λ h. h .nation) (greatest (λ h. h .date .0) (hits tag date (map (nationNumbered ws es) is))) ≡ Option·map nationOf (greatest claimDay (keep a (joinOf switchesOf is))) =
+        let found : Option·map (λ h. h .nation) (greatest (λ h. h .date .0) (hits tag date (map (nationNumbered ws es) is))) ≡ Option·map claimNation (greatest claimDay (keep a (joinOf switchesOf is))) =
         ap (λ (l : List Hit). Option·map (λ h. h .nation) (greatest (λ h. h .date .0) l)) (all-hits is)
         ∙ (ap (Option·map (λ (h : Hit). h .nation)) (greatest-map hitOf (λ h. h .date .0) (keep a (joinOf switchesOf is)))
         ∙ map-twice hitOf (λ h. h .nation) (greatest claimDay (keep a (joinOf switchesOf is)))) in
         rw (sub-zero n, nations-numbered ws es shaped)
-        (ap (Option·map nationOf) best
-        ∙ (map-or nationOf (greatest claimDay (keep a (joinOf switchesOf is))) (last (keep a (map (initialClaim ws) is)))
+        (ap (Option·map claimNation) best
+        ∙ (map-or claimNation (greatest claimDay (keep a (joinOf switchesOf is))) (last (keep a (map (initialClaim ws) is)))
         ∙ sym (ap₂ orElse found (last-initial is))))
 
   -- The nation of the last claim to an initial is the last one with that initial.
   pub claim-initial : (tag : CountryTag) → wellShaped ws es ≡ true
-      → Option·map nationOf (bestOf tag (record { 0 = 0 }) (initialClaims ws 0)) ≡ initialNation (nationsIn ws es) tag
+      → Option·map claimNation (bestOf tag (record { 0 = 0 }) (initialClaims ws 0)) ≡ initialNation (nationsIn ws es) tag
   claim-initial tag shaped =
       let n : ℕ = length (nationRowsIn ws) in
       let is : List ℕ = numbersFrom 0 n in
       let day : Eu4Date = record { 0 = 0 } in
       rw (sub-zero n, nations-numbered ws es shaped)
-      (ap (Option·map nationOf) (only-last is) ∙ sym (last-initial tag day is))
+      (ap (Option·map claimNation) (only-last is) ∙ sym (last-initial tag day is))
     where
       none-late : (is : List ℕ) → keep (late claimDay) (keep (isAsked tag (record { 0 = 0 })) (map (initialClaim ws) is)) ≡ []
       none-late [] = refl

@@ -7,9 +7,9 @@ use Prim.Native.Nat.{ℕ, _+_, _-_, _<_, _≤_}
 use native.Mathlib.Omega.{arith}
 use borrow.Author.Tests.{not-true, not-false}
 use Rattle.lists.specs.Lists.{leading, lastOr, last, orElse}
-use Rattle.record.specs.declared.tag.CountryTag.{CountryTag}
-use Rattle.record.specs.declared.date.Eu4Date.{Eu4Date}
-use Rattle.record.specs.Dates.{notAfter}
+use Rattle.format.specs.declared.tag.CountryTag.{CountryTag}
+use Rattle.format.specs.declared.date.Eu4Date.{Eu4Date}
+use Rattle.format.specs.Dates.{notAfter}
 use Rattle.rules.specs.Chronicle.{Kind, switch}
 use Rattle.rules.specs.Nations.{kindTarget, targets}
 use Rattle.chronicle_rows.specs.RowAt.{entryAt, entriesAt}

@@ -1,16 +1,17 @@
 -- Claims, by which the code finds a nation: a nation goes by its initial from date 0 on, and by the target of each of its switches from
 -- that switch's date on. Of the claims to a tag dated not after a question the latest answers it, and of equals the last: no date of a
 -- switch is 0, so that an initial answers only where no switch does.
-use mathlib.Core.Bool.{Bool, _&&_}
+use mathlib.Core.Bool.{Bool, cond, _&&_}
 use mathlib.Core.List.{List, [], _∷_, _++_, map}
 use mathlib.Core.Option.{Option, none, some}
 use Prim.Native.Nat.{ℕ, _-_}
+use lib.Dec.{eqb}
 use lib.ListN.{length}
 use Rattle.lists.specs.Lists.{keep, joinOf, greatest, numbersFrom}
-use Rattle.record.specs.declared.tag.CountryTag.{CountryTag}
-use Rattle.record.specs.declared.date.Eu4Date.{Eu4Date}
-use Rattle.record.specs.Tags.{sameTag}
-use Rattle.record.specs.Dates.{notAfter}
+use Rattle.format.specs.declared.tag.CountryTag.{CountryTag}
+use Rattle.format.specs.declared.date.Eu4Date.{Eu4Date}
+use Rattle.format.specs.Tags.{sameTag}
+use Rattle.format.specs.Dates.{notAfter}
 use Rattle.rules.specs.Chronicle.{Kind, switch, appeared, annexed, Entry}
 use Rattle.rules.specs.NationRows.{nationRowsIn}
 use Rattle.chronicle_rows.specs.RowAt.{nationRowAt, entriesAt}
@@ -18,6 +19,7 @@ use Rattle.resolver.specs.declared.claims.Claim.{Claim}
 use Rattle.resolver.specs.declared.claims.Walk.{Walk}
 use Rattle.resolver.specs.declared.claims.NextClaim as NextClaim
 use Rattle.resolver.specs.declared.claims.BestClaim as BestClaim
+use Rattle.resolver.specs.declared.claims.SoFar.{SoFar}
 
 -- ## The claims of a chronicle
 
@@ -30,6 +32,10 @@ kindClaims i date annexed = []
 -- Those to the targets of its entries.
 abbrev pub switchClaims : ℕ → List Entry → List Claim
 switchClaims i es = joinOf (λ e. kindClaims i (e .date) (e .kind)) es
+
+-- Those to the targets of its entries from a first number up to an end.
+abbrev pub switchesIn : List ℕ → ℕ → ℕ → ℕ → List Claim
+switchesIn es i first end = switchClaims i (entriesAt es first (end - first))
 
 -- That to its initial.
 abbrev pub initialClaim : List ℕ → ℕ → Claim
@@ -56,7 +62,7 @@ claimsIn ws es = claimsFrom ws es 0
 
 -- What a walk has left: the entries of its owner, then the nations behind it.
 unfoldable pub claimsLeft : List ℕ → List ℕ → Walk → List Claim
-claimsLeft ws es w = switchClaims (w .owner) (entriesAt es (w .entry) (w .end - w .entry)) ++ claimsFrom ws es (w .coming)
+claimsLeft ws es w = switchesIn es (w .owner) (w .entry) (w .end) ++ claimsFrom ws es (w .coming)
 
 -- What a step tells.
 abbrev pub claimTold : List ℕ → List ℕ → NextClaim.NextClaim → List Claim
@@ -85,3 +91,7 @@ bestOf tag date cs = greatest claimDay (keep (isAsked tag date) cs)
 abbrev pub bestTold : BestClaim.BestClaim → Option Claim
 bestTold (BestClaim.the-variants.Best c) = some c
 bestTold BestClaim.the-variants.Nothing = none
+
+-- The best claim so far.
+abbrev pub soFarTold : SoFar → Option Claim
+soFarTold b = cond (eqb (b .found) 0) none (some (b .claim))

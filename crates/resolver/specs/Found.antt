@@ -3,9 +3,9 @@ use mathlib.Core.List.{List}
 use mathlib.Core.Option.{Option, none, some}
 use Prim.Native.Nat.{ℕ}
 use Rattle.lists.specs.Lists.{last, leading}
-use Rattle.record.specs.declared.tag.CountryTag.{CountryTag}
-use Rattle.record.specs.declared.date.Eu4Date.{Eu4Date}
-use Rattle.record.specs.Dates.{notAfter}
+use Rattle.format.specs.declared.tag.CountryTag.{CountryTag}
+use Rattle.format.specs.declared.date.Eu4Date.{Eu4Date}
+use Rattle.format.specs.Dates.{notAfter}
 use Rattle.rules.specs.Nations.{targets}
 use Rattle.rules.specs.Resolver.{TagData, dayData, switchedData}
 use Rattle.chronicle_rows.specs.RowAt.{nationRowAt, entriesAt, nationNumbered}

@@ -8,10 +8,11 @@ use record::CountryTag;
 use record::Eu4Date;
 ghost use mathlib.Core.Path.{_≡_};
 ghost use mathlib.Core.List.{List, [], _∷_};
+ghost use mathlib.Core.Option.{none};
 ghost use Prim.Native.Nat.{ℕ};
 ghost use Rattle.lists.specs.Lists.{keep};
 ghost use Rattle.lists.proofs.ScanLaws.{scan};
-ghost use Rattle.resolver.specs.Claims.{initialClaims, claimsIn, claimsFrom, claimsLeft, claimTold, walkStart, isAsked, claimDay, bestOf, bestTold};
+ghost use Rattle.resolver.specs.Claims.{initialClaims, switchesIn, nationClaims, claimsIn, claimsFrom, claimsLeft, claimTold, walkStart, isAsked, claimDay, bestOf, bestTold, soFarTold};
 
 // A nation, by its number from 0, goes by a tag from a date on.
 pub struct Claim {
@@ -104,45 +105,129 @@ pub enum BestClaim {
     Nothing,
 }
 
+// The best claim so far; none as long as `found` is 0. The passes carry it in place of the enum: a copy of that moves bytes which no variant
+// uses, and takes longer than the rest of a step.
+pub(crate) struct SoFar {
+    pub(crate) found: usize,
+    pub(crate) claim: Claim,
+}
+
+// Before the first claim.
+fn nothing_yet() -> SoFar
+    ensures { λ r. ⌜ soFarTold r ≡ none ⌝ }
+{
+    let claim = Claim {
+        tag: CountryTag::kept(0),
+        date: Eu4Date::kept(0),
+        nation: 0,
+    };
+    SoFar { found: 0, claim }
+}
+
+// Behind the last one.
+fn best_of(best: SoFar) -> BestClaim
+    ensures { λ r. ⌜ bestTold r ≡ soFarTold best ⌝ }
+{
+    let claim = best.claim;
+    if best.found == 0 {
+        BestClaim::Nothing
+    } else {
+        BestClaim::Best(claim)
+    }
+}
+
 // The better of the best claim so far and the next one, if that answers the question: the later date wins, and of equals the next one.
-fn better(best: BestClaim, claim: Claim, tag: CountryTag, date: Eu4Date) -> BestClaim
-    ensures { λ r. ⌜ bestTold r ≡ scan claimDay (bestTold best) (keep (isAsked tag date) (claim ∷ [])) ⌝ }
+fn better(best: SoFar, claim: Claim, tag: CountryTag, date: Eu4Date) -> SoFar
+    ensures { λ r. ⌜ soFarTold r ≡ scan claimDay (soFarTold best) (keep (isAsked tag date) (claim ∷ [])) ⌝ }
 {
     let to = claim.tag;
     let day = claim.date;
     if !(to.same(tag) & day.not_after(date)) {
         return best;
     }
-    match best {
-        BestClaim::Best(b) => {
-            let last = b.date;
-            if last.not_after(day) {
-                BestClaim::Best(claim)
-            } else {
-                best
-            }
-        }
-        BestClaim::Nothing => BestClaim::Best(claim),
+    if best.found == 0 {
+        return SoFar { found: 1, claim };
     }
+    let b = best.claim;
+    let last = b.date;
+    if last.not_after(day) {
+        SoFar { found: 1, claim }
+    } else {
+        best
+    }
+}
+
+// Holds the best claim so far against those of a nation to the targets of its entries, from a first one up to an end.
+fn best_switch(
+    entries: &[u32],
+    nation: usize,
+    first: usize,
+    end: usize,
+    best: SoFar,
+    tag: CountryTag,
+    date: Eu4Date,
+) -> SoFar
+    ensures { λ r. ⌜ soFarTold r ≡ scan claimDay (soFarTold best) (keep (isAsked tag date) (switchesIn (now (entries .entry)) nation first end)) ⌝ }
+{
+    let mut entry = first;
+    let mut so_far = best;
+    while entry < end {
+        let e = entry_at(entries, entry);
+        let kind = e.kind;
+        let day = e.date;
+        entry += 1;
+        match kind {
+            Kind::Switch(to) => {
+                let claim = Claim {
+                    tag: to,
+                    date: day,
+                    nation,
+                };
+                so_far = better(so_far, claim, tag, date);
+            }
+            Kind::Appeared => {}
+            Kind::Annexed => {}
+        }
+    }
+    so_far
+}
+
+// Holds the best claim so far against those of nation number i: to its initial, then to the targets of its switches.
+fn best_of_nation(
+    nations: &[u32],
+    entries: &[u32],
+    i: usize,
+    best: SoFar,
+    tag: CountryTag,
+    date: Eu4Date,
+) -> SoFar
+    ensures { λ r. ⌜ soFarTold r ≡ scan claimDay (soFarTold best) (keep (isAsked tag date) (nationClaims (now (nations .entry)) (now (entries .entry)) i)) ⌝ }
+{
+    let row = nation_at(nations, i);
+    let first = row.first as usize;
+    let end = first + row.count as usize;
+    let to = row.initial;
+    let claim = Claim {
+        tag: to,
+        date: Eu4Date::kept(0),
+        nation: i,
+    };
+    let own = better(best, claim, tag, date);
+    best_switch(entries, i, first, end, own, tag, date)
 }
 
 // The claim that answers a question on any words at all, in one pass.
 pub fn best_claim(nations: &[u32], entries: &[u32], tag: CountryTag, date: Eu4Date) -> BestClaim
     ensures { λ r. ⌜ bestTold r ≡ bestOf tag date (claimsIn (now (nations .entry)) (now (entries .entry))) ⌝ }
 {
-    let mut at = Walk::start();
-    let mut best = BestClaim::Nothing;
-    loop {
-        match at.next_claim(nations, entries) {
-            NextClaim::Row(claim, rest) => {
-                best = better(best, claim, tag, date);
-                at = rest;
-            }
-            NextClaim::End => {
-                return best;
-            }
-        }
+    let n = nation_count(nations);
+    let mut best = nothing_yet();
+    let mut nation = 0;
+    while nation < n {
+        best = best_of_nation(nations, entries, nation, best, tag, date);
+        nation += 1;
     }
+    best_of(best)
 }
 
 // The last nation's claim to a tag as its initial.
@@ -151,7 +236,7 @@ pub fn best_initial(nations: &[u32], tag: CountryTag) -> BestClaim
 {
     let n = nation_count(nations);
     let start = Eu4Date::kept(0);
-    let mut best = BestClaim::Nothing;
+    let mut best = nothing_yet();
     let mut nation = 0;
     while nation < n {
         let row = nation_at(nations, nation);
@@ -164,5 +249,5 @@ pub fn best_initial(nations: &[u32], tag: CountryTag) -> BestClaim
         best = better(best, claim, tag, start);
         nation += 1;
     }
-    best
+    best_of(best)
 }

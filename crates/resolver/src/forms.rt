@@ -13,7 +13,7 @@ use record::Eu4Date;
 ghost use mathlib.Core.Path.{_≡_};
 ghost use mathlib.Core.List.{[], _∷_};
 ghost use mathlib.Core.Option.{Option·map};
-ghost use Rattle.record.specs.Refusal.{firstOf};
+ghost use Rattle.format.specs.Refusal.{firstOf};
 ghost use Rattle.rules.specs.Lent.{gives};
 ghost use Rattle.rules.specs.Refusals.{chronicleNumber, askedTagNumber, askedDateNumber};
 ghost use Rattle.rules.specs.Outcomes.{callResolve, callInitial, callResolveOn, callInitialOn};
@@ -53,14 +53,14 @@ fn chronicle_number(nations: &[u32], entries: &[u32]) -> u32
 }
 
 // 12 for a bad tag.
-fn tag_number(tag: CountryTag) -> u32
+fn asked_tag_number(tag: CountryTag) -> u32
     ensures { λ r. ⌜ r ≡ askedTagNumber (tag .0) ⌝ }
 {
     if is_tag(tag) { 0 } else { 12 }
 }
 
 // 12 for a bad date.
-fn date_number(date: Eu4Date) -> u32
+fn asked_date_number(date: Eu4Date) -> u32
     ensures { λ r. ⌜ r ≡ askedDateNumber (date .0) ⌝ }
 {
     if is_date(date) { 0 } else { 12 }
@@ -122,7 +122,7 @@ fn switched_answer(nations: &[u32], entries: &[u32], best: BestClaim, day: Eu4Da
 pub fn resolve(nations: &[u32], entries: &[u32], tag: CountryTag, date: Eu4Date) -> Resolved
     ensures { λ r. ⌜ resolvedAnswer r ≡ callResolve (now (nations .entry)) (now (entries .entry)) (tag .0) (date .0) ⌝ }
 {
-    let asked = first_number(tag_number(tag), date_number(date));
+    let asked = first_number(asked_tag_number(tag), asked_date_number(date));
     let number = first_number(chronicle_number(nations, entries), asked);
     if number != 0 {
         return Resolved::Refused(number);
@@ -134,7 +134,7 @@ pub fn resolve(nations: &[u32], entries: &[u32], tag: CountryTag, date: Eu4Date)
 pub fn initial(nations: &[u32], entries: &[u32], tag: CountryTag) -> Resolved
     ensures { λ r. ⌜ resolvedAnswer r ≡ callInitial (now (nations .entry)) (now (entries .entry)) (tag .0) ⌝ }
 {
-    let number = first_number(chronicle_number(nations, entries), tag_number(tag));
+    let number = first_number(chronicle_number(nations, entries), asked_tag_number(tag));
     if number != 0 {
         return Resolved::Refused(number);
     }
@@ -165,10 +165,10 @@ impl TagResolverDated {
         ensures { λ r. ⌜ resolvedAnswer r ≡ callResolveOn (now (nations .entry)) (now (entries .entry)) (self .day .0) (tag .0) (date .0) ⌝ }
     {
         let day = self.day;
-        let asked = first_number(tag_number(tag), date_number(date));
+        let asked = first_number(asked_tag_number(tag), asked_date_number(date));
         let number = first_number(
             chronicle_number(nations, entries),
-            first_number(date_number(day), asked),
+            first_number(asked_date_number(day), asked),
         );
         if number != 0 {
             return Resolved::Refused(number);
@@ -186,7 +186,7 @@ impl TagResolverDated {
         ensures { λ r. ⌜ resolvedAnswer r ≡ callInitialOn (now (nations .entry)) (now (entries .entry)) (self .day .0) (tag .0) ⌝ }
     {
         let day = self.day;
-        let question = first_number(date_number(day), tag_number(tag));
+        let question = first_number(asked_date_number(day), asked_tag_number(tag));
         let number = first_number(chronicle_number(nations, entries), question);
         if number != 0 {
             return Resolved::Refused(number);

@@ -6,7 +6,7 @@ use borrow.Author.Tests.{not-true, not-false}
 use lib.ListN.{drop}
 use Rattle.lists.specs.Lists.{allOf}
 use Rattle.rules.specs.Questions.{questionsIn, questionShaped}
-use Rattle.chronicle_rows.proofs.ShapeLaws.{all-pass, all-stop, all-end}
+use Rattle.chronicle_rows.proofs.LentShapeLaws.{all-pass, all-stop, all-end}
 use Rattle.questions.proofs.AskedLaws.{questions-next, questions-torn, questions-whole}
 use Rattle.questions.proofs.asked.questions_good.Statement.{statement}
 use Rattle.questions.proofs.asked.questions_good.Tie as tie

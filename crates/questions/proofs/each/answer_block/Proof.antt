@@ -10,10 +10,16 @@ use Rattle.questions.proofs.each.answer_block.Statement.{statement}
 use Rattle.questions.proofs.each.answer_block.Tie as tie
 
 abbrev Inv-loop : tie.InvT-loop
-Inv-loop questions keys owners out₀ n i₀ out i = (i ≤ n) × Passing (blockRow questions keys owners out₀) out₀ i out
+Inv-loop questions keys owners out₀ starts n i₀ out i = (i ≤ n) × Passing (blockRow questions keys owners out₀) out₀ i out
 
 abbrev μ-loop : tie.MeasureT-loop
-μ-loop questions keys owners out₀ n i₀ out i = n - i
+μ-loop questions keys owners out₀ starts n i₀ out i = n - i
+
+slice-aggregate-index-block : tie.Need-slice-aggregate-index-block Inv-loop μ-loop
+slice-aggregate-index-block c = search needs
+
+index-block-requires : tie.Need-index-block-requires Inv-loop μ-loop
+index-block-requires c κs = search needs
 
 question-count-requires : tie.Need-question-count-requires Inv-loop μ-loop
 question-count-requires c κs = search needs
@@ -42,8 +48,11 @@ mul-owner c = search needs
 slice-read-owner : tie.Need-slice-read-owner Inv-loop μ-loop
 slice-read-owner c = search needs
 
-look-up-requires : tie.Need-look-up-requires Inv-loop μ-loop
-look-up-requires c κs = search needs
+slice-aggregate-look-up-near : tie.Need-slice-aggregate-look-up-near Inv-loop μ-loop
+slice-aggregate-look-up-near c = search needs
+
+look-up-near-requires : tie.Need-look-up-near-requires Inv-loop μ-loop
+look-up-near-requires c κs = search needs
 
 updated-row-requires : tie.Need-updated-row-requires Inv-loop μ-loop
 updated-row-requires c κs = search needs
@@ -61,14 +70,14 @@ loop-again : tie.Need-loop-again Inv-loop μ-loop
 loop-again c =
     let put = c .before .before in
     let look = put .before .before .before in
-    let asked = look .before .before .before .before .before in
+    let asked = look .before .before .before .before .before .before in
     let l = asked .before .before .loop in
     let count = asked .before .before .before in
-    let start = count .before .before .before .before .before in
+    let start = count .before .before .before .before .before .before .before .before in
     let a = start .args in (
       search needs,
       passing-put _ _ _ _ (l .inv .1) _ _ _ (put .put-row .ensures) (omega (arith, start .pre .0, count .question-count .ensures, asked .before .loop-test .taken))
-          (block-row (a .questions .now) (a .keys .now) (a .owners .now) (a .out .now) (l .i) _ _ _ _ _ (put .before .before .updated-row .ensures) (look .look-up .ensures (start .pre .1)) (asked .question-at .ensures)
+          (block-row (a .questions .now) (a .keys .now) (a .owners .now) (a .out .now) (l .i) _ _ _ _ _ (put .before .before .updated-row .ensures) (look .look-up-near .ensures (start .pre .1)) (asked .question-at .ensures)
           (first-still _ _ _ _ (l .inv .1)) (second-still _ _ _ _ (l .inv .1))),
     )
 
@@ -77,7 +86,7 @@ same-length c = c .before .loop .inv .1 .long
 
 returns : tie.Need-returns Inv-loop μ-loop
 returns c =
-    let a = c .before .before .before .before .before .before .before .args in
+    let a = c .before .before .before .before .before .before .before .before .before .before .args in
     passing-done (blockRow (a .questions .now) (a .keys .now) (a .owners .now) (a .out .now)) (a .out .now) (c .before .loop .i) (length (questionsIn (a .questions .now))) _ (c .before .loop .inv .1)
     (search needs) (search needs)
 
@@ -87,6 +96,8 @@ answer-block-spec =
     (tie.spec
     Inv-loop
     μ-loop
+    slice-aggregate-index-block
+    index-block-requires
     question-count-requires
     loop-holds
     question-at-requires
@@ -96,7 +107,8 @@ answer-block-spec =
     add-owner
     mul-owner
     slice-read-owner
-    look-up-requires
+    slice-aggregate-look-up-near
+    look-up-near-requires
     updated-row-requires
     put-row-requires
     add-i

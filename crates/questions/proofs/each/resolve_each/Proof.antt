@@ -1,7 +1,7 @@
 -- The numbers in their order, then the rows.
 use mathlib.Core.Path.{sym, _∙_}
 use borrow.Author.Tests.{not-false}
-use Rattle.questions.proofs.EachLaws.{each-torn, each-bad, each-good, each-short, each-room, each-rows}
+use Rattle.questions.proofs.ResolveEachLaws.{each-torn, each-bad, each-good, each-short, each-room, each-rows}
 use borrow.Author.Needs.{needs}
 use Rattle.questions.proofs.each.resolve_each.Statement.{statement}
 use Rattle.questions.proofs.each.resolve_each.Tie as tie

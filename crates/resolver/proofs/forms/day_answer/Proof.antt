@@ -2,7 +2,7 @@
 use mathlib.Core.Path.{ap}
 use Rattle.resolver.specs.Claims.{bestTold}
 use Rattle.resolver.specs.Found.{wornTold, dayOf}
-use Rattle.resolver.proofs.AnswerLaws.{nothing-found, day-worn, day-bare}
+use Rattle.resolver.proofs.ResolverAnswerLaws.{nothing-found, day-worn, day-bare}
 use borrow.Author.Needs.{needs}
 use Rattle.resolver.proofs.forms.day_answer.Statement.{statement}
 use Rattle.resolver.proofs.forms.day_answer.Tie as tie

@@ -1,7 +1,7 @@
 -- By the first number.
 use borrow.Author.Needs.{needs}
 use mathlib.Core.Path.{sym, _∙_}
-use Rattle.record.proofs.FirstLaws.{first-pass, first-stop, first-one}
+use Rattle.format.proofs.FirstLaws.{first-pass, first-stop, first-one}
 use Rattle.resolver.proofs.forms.first_number.Statement.{statement}
 use Rattle.resolver.proofs.forms.first_number.Tie as tie
 

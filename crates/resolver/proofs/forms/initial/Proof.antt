@@ -1,10 +1,10 @@
 -- The numbers in their order, then the best claim to an initial.
 use mathlib.Core.Path.{_≡_, _∙_}
 use mathlib.Core.List.{[], _∷_}
-use Rattle.record.specs.Refusal.{firstOf}
+use Rattle.format.specs.Refusal.{firstOf}
 use Rattle.rules.specs.Refusals.{chronicleNumber, askedTagNumber}
 use Rattle.rules.specs.Outcomes.{callInitial}
-use Rattle.resolver.proofs.AnswerLaws.{numbered-one, number-refused, initial-gives}
+use Rattle.resolver.proofs.ResolverAnswerLaws.{numbered-one, number-refused, initial-gives}
 use borrow.Author.Needs.{needs}
 use Rattle.resolver.proofs.forms.initial.Statement.{statement}
 use Rattle.resolver.proofs.forms.initial.Tie as tie
@@ -15,13 +15,13 @@ number : (c : tie.After-first-number)
     ≡ firstOf (chronicleNumber (c .before .before .before .before .before .args .nations .now) (c .before .before .before .before .before .args .entries .now)
     ∷ askedTagNumber (c .before .before .before .before .before .args .tag .0) ∷ [])
 number c =
-    numbered-one _ _ _ _ (c .before .tag-number .ensures) (c .before .before .chronicle-number .ensures) (c .first-number .ensures)
+    numbered-one _ _ _ _ (c .before .asked-tag-number .ensures) (c .before .before .chronicle-number .ensures) (c .first-number .ensures)
 
 chronicle-number-requires : tie.Need-chronicle-number-requires
 chronicle-number-requires c κs = search needs
 
-tag-number-requires : tie.Need-tag-number-requires
-tag-number-requires c κs = search needs
+asked-tag-number-requires : tie.Need-asked-tag-number-requires
+asked-tag-number-requires c κs = search needs
 
 first-number-requires : tie.Need-first-number-requires
 first-number-requires c κs = search needs
@@ -47,7 +47,7 @@ initial-spec =
     tie.close
     (tie.spec
     chronicle-number-requires
-    tag-number-requires
+    asked-tag-number-requires
     first-number-requires
     returns
     best-initial-requires

@@ -2,7 +2,7 @@
 use mathlib.Core.Path.{ap}
 use Rattle.resolver.specs.Claims.{bestTold}
 use Rattle.resolver.specs.Found.{plainOf}
-use Rattle.resolver.proofs.AnswerLaws.{nothing-found, plain-found}
+use Rattle.resolver.proofs.ResolverAnswerLaws.{nothing-found, plain-found}
 use borrow.Author.Needs.{needs}
 use Rattle.resolver.proofs.forms.plain_answer.Statement.{statement}
 use Rattle.resolver.proofs.forms.plain_answer.Tie as tie

@@ -1,10 +1,10 @@
 -- The numbers in their order, then the best claim.
 use mathlib.Core.List.{[], _∷_}
-use Rattle.record.specs.Refusal.{firstOf}
+use Rattle.format.specs.Refusal.{firstOf}
 use Rattle.rules.specs.Refusals.{chronicleNumber, askedTagNumber, askedDateNumber}
 use Rattle.rules.specs.Outcomes.{callResolve}
 use mathlib.Core.Path.{_≡_, _∙_}
-use Rattle.resolver.proofs.AnswerLaws.{numbered, number-refused, resolve-gives}
+use Rattle.resolver.proofs.ResolverAnswerLaws.{numbered, number-refused, resolve-gives}
 use borrow.Author.Needs.{needs}
 use Rattle.resolver.proofs.forms.resolve.Statement.{statement}
 use Rattle.resolver.proofs.forms.resolve.Tie as tie
@@ -17,13 +17,13 @@ number : (c : tie.After-first-number2)
     ∷ askedDateNumber (c .before .before .before .before .before .before .before .args .date .0) ∷ [])
 number c =
     let asked = c .before .before in
-    numbered _ _ _ _ _ _ _ (asked .before .before .tag-number .ensures) (asked .before .date-number .ensures) (asked .first-number .ensures) (c .before .chronicle-number .ensures) (c .first-number2 .ensures)
+    numbered _ _ _ _ _ _ _ (asked .before .before .asked-tag-number .ensures) (asked .before .asked-date-number .ensures) (asked .first-number .ensures) (c .before .chronicle-number .ensures) (c .first-number2 .ensures)
 
-tag-number-requires : tie.Need-tag-number-requires
-tag-number-requires c κs = search needs
+asked-tag-number-requires : tie.Need-asked-tag-number-requires
+asked-tag-number-requires c κs = search needs
 
-date-number-requires : tie.Need-date-number-requires
-date-number-requires c κs = search needs
+asked-date-number-requires : tie.Need-asked-date-number-requires
+asked-date-number-requires c κs = search needs
 
 first-number-requires : tie.Need-first-number-requires
 first-number-requires c κs = search needs
@@ -55,8 +55,8 @@ pub resolve-spec : {M : Type 1} → statement M
 resolve-spec =
     tie.close
     (tie.spec
-    tag-number-requires
-    date-number-requires
+    asked-tag-number-requires
+    asked-date-number-requires
     first-number-requires
     chronicle-number-requires
     first-number-requires-2

@@ -2,7 +2,7 @@
 use mathlib.Core.Path.{ap}
 use Rattle.resolver.specs.Claims.{bestTold}
 use Rattle.resolver.specs.Found.{wornTold}
-use Rattle.resolver.proofs.AnswerLaws.{nothing-switched, switched-worn, switched-bare}
+use Rattle.resolver.proofs.ResolverAnswerLaws.{nothing-switched, switched-worn, switched-bare}
 use borrow.Author.Needs.{needs}
 use Rattle.resolver.proofs.forms.switched_answer.Statement.{statement}
 use Rattle.resolver.proofs.forms.switched_answer.Tie as tie

@@ -1,10 +1,10 @@
 -- The numbers in their order, then the best claim to an initial.
 use mathlib.Core.Path.{_≡_, _∙_}
 use mathlib.Core.List.{[], _∷_}
-use Rattle.record.specs.Refusal.{firstOf}
+use Rattle.format.specs.Refusal.{firstOf}
 use Rattle.rules.specs.Refusals.{chronicleNumber, askedTagNumber, askedDateNumber}
 use Rattle.rules.specs.Outcomes.{callInitialOn}
-use Rattle.resolver.proofs.AnswerLaws.{numbered, number-refused, initial-on-gives}
+use Rattle.resolver.proofs.ResolverAnswerLaws.{numbered, number-refused, initial-on-gives}
 use borrow.Author.Needs.{needs}
 use Rattle.resolver.proofs.forms.TagResolverDated.initial_at.Statement.{statement}
 use Rattle.resolver.proofs.forms.TagResolverDated.initial_at.Tie as tie
@@ -16,13 +16,13 @@ number : (c : tie.After-first-number2)
     ∷ askedDateNumber (c .before .before .before .before .before .before .before .before .args .self .day .0) ∷ askedTagNumber (c .before .before .before .before .before .before .before .before .args .tag .0) ∷ [])
 number c =
     let asked = c .before .before in
-    numbered _ _ _ _ _ _ _ (asked .before .before .date-number .ensures) (asked .before .tag-number .ensures) (asked .first-number .ensures) (c .before .chronicle-number .ensures) (c .first-number2 .ensures)
+    numbered _ _ _ _ _ _ _ (asked .before .before .asked-date-number .ensures) (asked .before .asked-tag-number .ensures) (asked .first-number .ensures) (c .before .chronicle-number .ensures) (c .first-number2 .ensures)
 
-date-number-requires : tie.Need-date-number-requires
-date-number-requires c κs = search needs
+asked-date-number-requires : tie.Need-asked-date-number-requires
+asked-date-number-requires c κs = search needs
 
-tag-number-requires : tie.Need-tag-number-requires
-tag-number-requires c κs = search needs
+asked-tag-number-requires : tie.Need-asked-tag-number-requires
+asked-tag-number-requires c κs = search needs
 
 first-number-requires : tie.Need-first-number-requires
 first-number-requires c κs = search needs
@@ -53,8 +53,8 @@ pub initial-at-spec : {M : Type 1} → statement M
 initial-at-spec =
     tie.close
     (tie.spec
-    date-number-requires
-    tag-number-requires
+    asked-date-number-requires
+    asked-tag-number-requires
     first-number-requires
     chronicle-number-requires
     first-number-requires-2

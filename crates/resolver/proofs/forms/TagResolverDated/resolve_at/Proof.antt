@@ -1,10 +1,10 @@
 -- The numbers in their order, then the best claim.
 use mathlib.Core.Path.{_≡_, _∙_}
 use mathlib.Core.List.{[], _∷_}
-use Rattle.record.specs.Refusal.{firstOf}
+use Rattle.format.specs.Refusal.{firstOf}
 use Rattle.rules.specs.Refusals.{chronicleNumber, askedTagNumber, askedDateNumber}
 use Rattle.rules.specs.Outcomes.{callResolveOn}
-use Rattle.resolver.proofs.AnswerLaws.{numbered-three, number-refused, resolve-on-gives}
+use Rattle.resolver.proofs.ResolverAnswerLaws.{numbered-three, number-refused, resolve-on-gives}
 use borrow.Author.Needs.{needs}
 use Rattle.resolver.proofs.forms.TagResolverDated.resolve_at.Statement.{statement}
 use Rattle.resolver.proofs.forms.TagResolverDated.resolve_at.Tie as tie
@@ -17,14 +17,14 @@ number : (c : tie.After-first-number3)
 number c =
     let all = c .before .before .before in
     let asked = all .before in
-    numbered-three _ _ _ _ _ _ _ _ _ _ (asked .before .before .tag-number .ensures) (asked .before .date-number .ensures) (asked .first-number .ensures)
-    (all .chronicle-number .ensures) (c .before .before .date-number2 .ensures) (c .before .first-number2 .ensures) (c .first-number3 .ensures)
+    numbered-three _ _ _ _ _ _ _ _ _ _ (asked .before .before .asked-tag-number .ensures) (asked .before .asked-date-number .ensures) (asked .first-number .ensures)
+    (all .chronicle-number .ensures) (c .before .before .asked-date-number2 .ensures) (c .before .first-number2 .ensures) (c .first-number3 .ensures)
 
-tag-number-requires : tie.Need-tag-number-requires
-tag-number-requires c κs = search needs
+asked-tag-number-requires : tie.Need-asked-tag-number-requires
+asked-tag-number-requires c κs = search needs
 
-date-number-requires : tie.Need-date-number-requires
-date-number-requires c κs = search needs
+asked-date-number-requires : tie.Need-asked-date-number-requires
+asked-date-number-requires c κs = search needs
 
 first-number-requires : tie.Need-first-number-requires
 first-number-requires c κs = search needs
@@ -32,8 +32,8 @@ first-number-requires c κs = search needs
 chronicle-number-requires : tie.Need-chronicle-number-requires
 chronicle-number-requires c κs = search needs
 
-date-number-requires-2 : tie.Need-date-number-requires-2
-date-number-requires-2 c κs = search needs
+asked-date-number-requires-2 : tie.Need-asked-date-number-requires-2
+asked-date-number-requires-2 c κs = search needs
 
 first-number-requires-2 : tie.Need-first-number-requires-2
 first-number-requires-2 c κs = search needs
@@ -61,11 +61,11 @@ pub resolve-at-spec : {M : Type 1} → statement M
 resolve-at-spec =
     tie.close
     (tie.spec
-    tag-number-requires
-    date-number-requires
+    asked-tag-number-requires
+    asked-date-number-requires
     first-number-requires
     chronicle-number-requires
-    date-number-requires-2
+    asked-date-number-requires-2
     first-number-requires-2
     first-number-requires-3
     returns

@@ -1,8 +1,8 @@
 -- By the test.
 use mathlib.Core.Path.{sym, _∙_}
 use borrow.Author.Needs.{needs}
-use Rattle.resolver.proofs.forms.tag_number.Statement.{statement}
-use Rattle.resolver.proofs.forms.tag_number.Tie as tie
+use Rattle.resolver.proofs.forms.asked_tag_number.Statement.{statement}
+use Rattle.resolver.proofs.forms.asked_tag_number.Tie as tie
 
 is-tag-requires : tie.Need-is-tag-requires
 is-tag-requires c κs = search needs
@@ -17,5 +17,5 @@ returns-2 c =
     let e = sym (c .before .is-tag .ensures) ∙ c .if1 .left in
     rw e
 
-pub tag-number-spec : {M : Type 1} → statement M
-tag-number-spec = tie.close (tie.spec is-tag-requires returns returns-2)
+pub asked-tag-number-spec : {M : Type 1} → statement M
+asked-tag-number-spec = tie.close (tie.spec is-tag-requires returns returns-2)

@@ -10,8 +10,8 @@ use lib.ListN.{length, drop}
 use Rattle.lists.specs.Lists.{allOf, isWhole}
 use Rattle.lists.proofs.BoolLaws.{and-right}
 use Rattle.lists.proofs.ListLaws.{length-join}
-use Rattle.record.specs.Refusal.{firstOf}
-use Rattle.record.proofs.FirstLaws.{first-stop, first-pass, first-one}
+use Rattle.format.specs.Refusal.{firstOf}
+use Rattle.format.proofs.FirstLaws.{first-stop, first-pass, first-one}
 use Rattle.rules.specs.Lent.{refused, gives, written, fits, roomNumber}
 use Rattle.rules.specs.NationRows.{nationsIn, wellShaped}
 use Rattle.rules.specs.Resolver.{TagData, resolve}

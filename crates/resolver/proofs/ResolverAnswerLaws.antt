@@ -6,10 +6,10 @@ use mathlib.Core.Option.{Option, none, some, Option·map}
 use Prim.Native.Nat.{ℕ, zero, suc}
 use native.Mathlib.Omega.{arith}
 use Rattle.lists.specs.Lists.{lastOr, last}
-use Rattle.record.specs.declared.tag.CountryTag.{CountryTag}
-use Rattle.record.specs.declared.date.Eu4Date.{Eu4Date}
-use Rattle.record.specs.Refusal.{firstOf}
-use Rattle.record.proofs.FirstLaws.{first-zero}
+use Rattle.format.specs.declared.tag.CountryTag.{CountryTag}
+use Rattle.format.specs.declared.date.Eu4Date.{Eu4Date}
+use Rattle.format.specs.Refusal.{firstOf}
+use Rattle.format.proofs.FirstLaws.{first-zero}
 use Rattle.rules.specs.Lent.{refused, gives, answered}
 use Rattle.rules.specs.NationRows.{NationRow, wellShaped}
 use Rattle.rules.specs.Refusals.{chronicleNumber, askedTagNumber, askedDateNumber}
@@ -20,7 +20,7 @@ use Rattle.chronicle_rows.specs.RowAt.{nationRowAt, nationNumbered}
 use Rattle.resolver.specs.declared.claims.Claim.{Claim}
 use Rattle.resolver.specs.Claims.{initialClaims, claimsIn, bestOf}
 use Rattle.resolver.specs.Found.{wornIn, plainOf, dayOf, switchedOf}
-use Rattle.resolver.proofs.ResolvedLaws.{nationOf, map-twice, claim-resolved, claim-initial}
+use Rattle.resolver.proofs.ResolvedLaws.{claimNation, map-twice, claim-resolved, claim-initial}
 
 -- ## Numbers
 
@@ -65,14 +65,14 @@ module _ (ws es : List ℕ) (best : Option Claim) (n : ℕ) (z : n ≡ 0) where
     unfolding callResolve resolve
     resolve-gives e =
         sym (answered-gives _ _ (sym e ∙ z)
-        ∙ ap gives (ap (Option·map plainData) (sym (claim-resolved ws es tag date (shaped ws es _ (sym e ∙ z))) ∙ ap (Option·map (nationOf ws es)) (sym b)) ∙ map-twice (nationOf ws es) plainData best))
+        ∙ ap gives (ap (Option·map plainData) (sym (claim-resolved ws es tag date (shaped ws es _ (sym e ∙ z))) ∙ ap (Option·map (claimNation ws es)) (sym b)) ∙ map-twice (claimNation ws es) plainData best))
 
     pub resolve-on-gives : (day : Eu4Date) → n ≡ firstOf (chronicleNumber ws es ∷ askedDateNumber (day .0) ∷ askedTagNumber (tag .0) ∷ askedDateNumber (date .0) ∷ [])
         → gives (Option·map (dayOf ws es day) best) ≡ callResolveOn ws es (day .0) (tag .0) (date .0)
     unfolding callResolveOn resolveOn
     resolve-on-gives day e =
         sym (answered-gives _ _ (sym e ∙ z)
-        ∙ ap gives (ap (Option·map (dayData day)) (sym (claim-resolved ws es tag date (shaped ws es _ (sym e ∙ z))) ∙ ap (Option·map (nationOf ws es)) (sym b)) ∙ map-twice (nationOf ws es) (dayData day) best))
+        ∙ ap gives (ap (Option·map (dayData day)) (sym (claim-resolved ws es tag date (shaped ws es _ (sym e ∙ z))) ∙ ap (Option·map (claimNation ws es)) (sym b)) ∙ map-twice (claimNation ws es) (dayData day) best))
 
   module _ (tag : CountryTag) (b : best ≡ bestOf tag (record { 0 = 0 }) (initialClaims ws 0)) where
     pub initial-gives : n ≡ firstOf (chronicleNumber ws es ∷ askedTagNumber (tag .0) ∷ [])
@@ -80,16 +80,16 @@ module _ (ws es : List ℕ) (best : Option Claim) (n : ℕ) (z : n ≡ 0) where
     unfolding callInitial initial
     initial-gives e =
         sym (answered-gives _ _ (sym e ∙ z)
-        ∙ ap gives (ap (Option·map plainData) (sym (claim-initial ws es tag (shaped ws es _ (sym e ∙ z))) ∙ ap (Option·map (nationOf ws es)) (sym b)) ∙ map-twice (nationOf ws es) plainData best))
+        ∙ ap gives (ap (Option·map plainData) (sym (claim-initial ws es tag (shaped ws es _ (sym e ∙ z))) ∙ ap (Option·map (claimNation ws es)) (sym b)) ∙ map-twice (claimNation ws es) plainData best))
 
     pub initial-on-gives : (day : Eu4Date) → n ≡ firstOf (chronicleNumber ws es ∷ askedDateNumber (day .0) ∷ askedTagNumber (tag .0) ∷ [])
         → gives (switchedOf ws es day best) ≡ callInitialOn ws es (day .0) (tag .0)
     unfolding callInitialOn initialOn
     initial-on-gives day e =
         sym (answered-gives _ _ (sym e ∙ z)
-        ∙ ap gives (ap (switchedData day) (sym (claim-initial ws es tag (shaped ws es _ (sym e ∙ z))) ∙ ap (Option·map (nationOf ws es)) (sym b)) ∙ switched-claim best))
+        ∙ ap gives (ap (switchedData day) (sym (claim-initial ws es tag (shaped ws es _ (sym e ∙ z))) ∙ ap (Option·map (claimNation ws es)) (sym b)) ∙ switched-claim best))
       where
-        switched-claim : (o : Option Claim) → switchedData day (Option·map (nationOf ws es) o) ≡ switchedOf ws es day o
+        switched-claim : (o : Option Claim) → switchedData day (Option·map (claimNation ws es) o) ≡ switchedOf ws es day o
         switched-claim none = refl
         switched-claim (some c) = refl
 
@@ -108,9 +108,9 @@ module _ (ws : List ℕ) (best : Option Claim) where
     plain-found = rw (e, r)
 
     module _ (es : List ℕ) (day : Eu4Date) (w : Option CountryTag) (k : w ≡ wornIn es day (row .first) (row .count)) where
-      last-there : (d t : CountryTag) (ts : List CountryTag) → some t ≡ last ts → t ≡ lastOr d ts
-      last-there d t [] h = let z : _≡_ {A = ℕ} 0 1 = cc in absurd (omega arith)
-      last-there d t (x ∷ ts) h = cc
+      last-is : (d t : CountryTag) (ts : List CountryTag) → some t ≡ last ts → t ≡ lastOr d ts
+      last-is d t [] h = let z : _≡_ {A = ℕ} 0 1 = cc in absurd (omega arith)
+      last-is d t (x ∷ ts) h = cc
 
       last-nowhere : (d : CountryTag) (ts : List CountryTag) → none ≡ last ts → d ≡ lastOr d ts
       last-nowhere d [] h = refl
@@ -122,7 +122,7 @@ module _ (ws : List ℕ) (best : Option Claim) where
       pub day-worn : (t : CountryTag) → w ≡ some t → gives (some (record { current = t; stored = row .stored })) ≡ gives (Option·map (dayOf ws es day) best)
       day-worn t h =
           let n = nationNumbered ws es (c .nation) in
-          let f : t ≡ lastOr (n .initial) (walked day n) = last-there (n .initial) t (walked day n) (sym h ∙ there) in
+          let f : t ≡ lastOr (n .initial) (walked day n) = last-is (n .initial) t (walked day n) (sym h ∙ there) in
           rw (e, r) (ap (λ (x : CountryTag). gives (some (record { current = x; stored = n .stored }))) f)
 
       pub day-bare : w ≡ none → gives (some (record { current = row .initial; stored = row .stored })) ≡ gives (Option·map (dayOf ws es day) best)
