@@ -1,4 +1,6 @@
 // The chronicle of a campaign.
+pub use bookings::Bookings;
+pub use bookings::war_participants;
 pub use nations::NationCounts;
 pub use nations::NationEvents;
 pub use nations::nation_events;

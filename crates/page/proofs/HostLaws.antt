@@ -10,9 +10,9 @@ use lib.ListN.{length}
 use mir.Syntax.{w64}
 use mir.Val.{SFits, toZ}
 use mir.Facts.{toZ-pos}
-use Rattle.record.specs.Campaign.{campaignOf}
-use Rattle.record.specs.Refusal.{refusal, firstOf}
-use Rattle.record.proofs.FirstLaws.{first-stop, first-pass, first-one}
+use Rattle.format.specs.Campaign.{campaignOf}
+use Rattle.format.specs.Refusal.{refusal, firstOf}
+use Rattle.format.proofs.FirstLaws.{first-stop, first-pass, first-one}
 use Rattle.nations.specs.declared.nations.NationCounts.{NationCounts}
 use Rattle.rules.specs.Lent.{Answer, refused, gives, written, fits, roomNumber, Outcome, outcome}
 use Rattle.rules.specs.Changes.{Run}

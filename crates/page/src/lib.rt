@@ -1,4 +1,5 @@
 // What the Rust host calls: C functions over slices. A slice is a pointer and then a length.
+mod booking;
 mod resolving;
 
 use chronicle::EventsOn;
@@ -11,7 +12,7 @@ ghost use mathlib.Core.List.{_∷_, []};
 ghost use Prim.Native.Nat.{_≤_};
 ghost use lib.IntN.{pos};
 ghost use lib.ListN.{length};
-ghost use Rattle.record.specs.Refusal.{refusal, firstOf};
+ghost use Rattle.format.specs.Refusal.{refusal, firstOf};
 ghost use Rattle.rules.specs.Lent.{refused, written};
 ghost use Rattle.rules.specs.Outcomes.{callProvinceOwners};
 ghost use Rattle.nations.specs.Cases.{countsIn, nationCells};

@@ -1,6 +1,6 @@
 -- The record's number is the first of the two, unless it is 0.
 use mathlib.Core.Path.{sym, _∙_}
-use Rattle.record.proofs.FirstLaws.{first-stop, first-pass, first-one}
+use Rattle.format.proofs.FirstLaws.{first-stop, first-pass, first-one}
 use borrow.Author.Needs.{needs}
 use Rattle.page.proofs.room_number.Statement.{statement}
 use Rattle.page.proofs.room_number.Tie as tie

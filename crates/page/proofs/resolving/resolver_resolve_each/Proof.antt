@@ -6,7 +6,7 @@ use lib.ListN.{length}
 use mir.Syntax.{w64}
 use mir.Facts.{toZ-pos, toZ-ofZ}
 use Rattle.questions.specs.Cases.{eachAnswer, eachOutcome}
-use Rattle.questions.proofs.EachLaws.{each-few}
+use Rattle.questions.proofs.ResolveEachLaws.{each-few}
 use Rattle.page.proofs.HostLaws.{returns-of}
 use borrow.Author.Needs.{needs}
 use Rattle.page.proofs.resolving.resolver_resolve_each.Statement.{statement}
