@@ -1,0 +1,4 @@
+pub mod PairLaws
+pub mod PlayerLaws
+pub mod HistoryLaws
+pub mod LackLaws

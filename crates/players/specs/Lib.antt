@@ -1,0 +1,5 @@
+pub mod Cases
+pub mod PairSteps
+pub mod PlayerSteps
+pub mod HistoryAt
+pub mod LackSteps
