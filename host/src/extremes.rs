@@ -1,8 +1,11 @@
 //! Campaigns at 01's limits, each with a shape that somebody's algorithm may dislike.
 
-use crate::generate::{at_limits, sized, Random};
+use std::collections::BTreeSet;
+
+use crate::generate::{at_limits, sized, Random, TAG_BYTES};
 use crate::layout::{Counts, LIMITS};
 use crate::pack::{Campaign, Date, OwnerEvent, Switch, Tag, NONE};
+use crate::wars;
 
 /// The day everything happens on, where it is one day; it lies after every start drawn here.
 const ONE_DAY: Date = 99991231;
@@ -10,25 +13,39 @@ const ONE_DAY: Date = 99991231;
 /// A name and the campaign that has it, made when asked for: they are large.
 pub type Extreme = (&'static str, fn() -> Campaign);
 
-/// The ten of them.
+/// The eleven of them.
 ///
 /// ```
 /// use chronicle_host::{extremes, pack::pack, reference::refusal_number};
 ///
 /// assert_eq!(refusal_number(&pack(&(extremes::ALL[9].1)())), 0);
 /// ```
-pub const ALL: [Extreme; 10] = [
+pub const ALL: [Extreme; 11] = [
     ("everything at its limit", at_limits),
-    ("everything at its limit, another draw", || sized(&LIMITS, 2)),
-    ("all events in one province", all_in_one_province),
-    ("everything on one day", on_one_day),
-    ("all dates falling", falling),
-    ("two owners by turns", by_turns),
-    ("one country with all switches, from one tag", || late_changes(20_000)),
-    ("all countries began alike", began_alike),
-    ("provinces in reverse, dates rising", || reversed(rising(nations(8)))),
-    ("four tags and ten dates", few_tags),
+    ("everything at its limit, each country under tags of its own", own_tags),
+    ("all events in one province", || at_war(all_in_one_province())),
+    ("everything on one day", || at_war(on_one_day())),
+    ("all dates falling", || at_war(falling())),
+    ("two owners by turns", || at_war(by_turns())),
+    ("one country with all switches, from one tag", || at_war(late_changes(20_000))),
+    ("all countries began alike", || at_war(began_alike())),
+    ("provinces in reverse, dates rising", || at_war(reversed(rising(nations(8))))),
+    ("four tags and ten dates", || at_war(few_tags())),
+    ("one country with all switches, by turns under four tags", || switching(20_000, 4)),
 ];
+
+/// The same campaign with as many wars as there may be, about its switches.
+///
+/// ```
+/// use chronicle_host::extremes::{at_war, nations};
+///
+/// assert_eq!(at_war(nations(1)).wars.len(), 5_000);
+/// ```
+pub fn at_war(mut campaign: Campaign) -> Campaign {
+    let each = LIMITS.war_events / LIMITS.wars;
+    campaign.wars = wars::draw(&mut Random::new(10), &campaign, LIMITS.wars, each);
+    campaign
+}
 
 /// A draw at the limits that owner changes and nations have.
 ///
@@ -80,6 +97,29 @@ pub fn late_changes(switches: usize) -> Campaign {
     campaign
 }
 
+/// One country went by turns by so many tags that nobody else has, at most nine, switched so often,
+/// day by day, and is at war under them: who keeps its history once for each of its switches needs
+/// very much memory.
+///
+/// ```
+/// use chronicle_host::{extremes::switching, model};
+///
+/// let nations = model::chronicle(&switching(300, 2)).nations;
+/// assert!(nations.iter().any(|nation| nation.entries.len() >= 300));
+/// ```
+pub fn switching(switches: usize, tags: usize) -> Campaign {
+    let mut campaign = nations(10);
+    let worn: Vec<Tag> = (b'1'..=b'9').map(|digit| [b'-', b'-', digit]).take(tags).collect();
+    campaign.start = 14441111;
+    campaign.current = ONE_DAY;
+    campaign.countries.iter_mut().for_each(|country| country.switches.clear());
+    campaign.countries[7].switches = (0..switches)
+        .map(|number| Switch { date: nth_day(number), from: worn[number % worn.len()] })
+        .collect();
+    campaign.provinces[0].owner = worn[0];
+    at_war(campaign)
+}
+
 /// Days one behind the other, 28 to a month.
 fn nth_day(number: usize) -> Date {
     let (month, day) = (number / 28, number % 28);
@@ -126,6 +166,34 @@ pub fn rising(mut campaign: Campaign) -> Campaign {
         province.events.sort_by_key(|event| event.date);
     }
     campaign
+}
+
+/// No two countries ever have the same tag, so that whoever wears one wears it alone.
+fn own_tags() -> Campaign {
+    let mut campaign = sized(&LIMITS, 2);
+    let taken: BTreeSet<Tag> = campaign.countries.iter().map(|country| country.tag).collect();
+    let mut free = every_tag().filter(|tag| *tag != NONE && !taken.contains(tag));
+    for country in &mut campaign.countries {
+        country.previous_tags.iter_mut().zip(&mut free).for_each(|(tag, own)| *tag = own);
+        country.switches.iter_mut().zip(&mut free).for_each(|(switch, own)| switch.from = own);
+    }
+    let mut random = Random::new(11);
+    for province in &mut campaign.provinces {
+        let mut owner = || {
+            let country = &campaign.countries[random.below(campaign.countries.len())];
+            let switch = country.switches.get(random.below(4));
+            switch.map_or(country.tag, |switch| switch.from)
+        };
+        province.owner = owner();
+        province.events.iter_mut().for_each(|event| event.tag = owner());
+    }
+    at_war(campaign)
+}
+
+/// Every tag that there is.
+fn every_tag() -> impl Iterator<Item = Tag> {
+    let bytes = || TAG_BYTES.iter().rev().copied();
+    bytes().flat_map(move |a| bytes().flat_map(move |b| bytes().map(move |c| [a, b, c])))
 }
 
 fn all_in_one_province() -> Campaign {
@@ -216,6 +284,7 @@ mod tests {
             let counts = Counts::read(record.first_chunk().unwrap());
             assert_eq!((counts.countries, counts.provinces), (2_000, 8_000), "{name}");
             assert_eq!((counts.switches, counts.owner_events), (20_000, 60_000), "{name}");
+            assert_eq!((counts.wars, counts.war_events), (5_000, 100_000), "{name}");
         }
     }
 }

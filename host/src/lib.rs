@@ -3,16 +3,20 @@
 //! [`check`] and the functions beside it call the proved functions of the static library.
 //! Everything else is here to hold those against something: a writer and a reader of packed
 //! records ([`pack`], [`mod@unpack`]), campaigns and damage to try them on ([`generate`],
-//! [`adversary`], [`extremes`], [`lists`], [`edges`], [`damage`], [`cases`], [`vectors`]), memory to lend ([`guard`], [`seal`], [`trial`]), an
-//! independent checker ([`mod@reference`]), an independent model of the answers ([`model`]) and a second
-//! count of who holds what ([`recount`]).
+//! [`adversary`], [`wars`], [`extremes`], [`lists`], [`edges`], [`damage`], [`cases`],
+//! [`vectors`]), memory to lend ([`guard`], [`seal`], [`trial`]), an independent checker
+//! ([`mod@reference`]), an independent model of the answers ([`model`]), a second count of who
+//! holds what ([`recount`]) and what the answers of one record owe each other ([`demand`]).
 //!
 //! "01" in the comments is ../shared/docs/01-scope.md, the rules.
 
 pub mod adversary;
+#[cfg(feature = "war_participants")]
+mod bookings;
 pub mod calendar;
 pub mod cases;
 pub mod damage;
+pub mod demand;
 pub mod edges;
 pub mod extremes;
 pub mod generate;
@@ -34,6 +38,7 @@ pub mod shrink;
 pub mod trial;
 pub mod unpack;
 pub mod vectors;
+pub mod wars;
 
 pub use library::*;
 pub use refusal::Refusal;

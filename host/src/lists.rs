@@ -9,7 +9,7 @@ use crate::pack::{Date, Tag};
 use crate::rows::{tag_word, Entry, Kind, Nation, Question};
 
 /// No campaign drawn here has these.
-const NOBODY: [Tag; 2] = [*b"0zZ", *b"Zz0"];
+pub(crate) const NOBODY: [Tag; 2] = [*b"0zZ", *b"Zz0"];
 
 /// A list made of these tags and days.
 ///

@@ -202,6 +202,44 @@ pub struct Booking {
     pub stored: Tag,
 }
 
+impl Booking {
+    /// War, tag, stored.
+    ///
+    /// ```
+    /// use chronicle_host::rows::Booking;
+    ///
+    /// let booking = Booking { war: 4, tag: *b"---", stored: *b"--0" };
+    /// assert_eq!(booking.words(), [4, 2960685, 2960688]);
+    /// ```
+    pub fn words(&self) -> [u32; 3] {
+        [word(self.war), tag_word(self.tag), tag_word(self.stored)]
+    }
+
+    /// The booking that these words are.
+    ///
+    /// ```
+    /// use chronicle_host::rows::Booking;
+    ///
+    /// let booking = Booking { war: 4, tag: *b"---", stored: *b"--0" };
+    /// assert_eq!(Booking::told(booking.words()), booking);
+    /// ```
+    pub fn told([war, tag, stored]: [u32; 3]) -> Booking {
+        Booking { war: war as usize, tag: tag_of_word(tag), stored: tag_of_word(stored) }
+    }
+}
+
+/// All rows of bookings, one behind the other.
+///
+/// ```
+/// use chronicle_host::rows::{booking_words, Booking};
+///
+/// let booking = Booking { war: 4, tag: *b"---", stored: *b"--0" };
+/// assert_eq!(booking_words(&[booking, booking]).len(), 6);
+/// ```
+pub fn booking_words(bookings: &[Booking]) -> Vec<u32> {
+    bookings.iter().flat_map(Booking::words).collect()
+}
+
 /// A nation's value in a year, under the tag it wore.
 #[derive(Clone, Copy, Debug, PartialEq, Eq)]
 #[allow(missing_docs)]

@@ -1,12 +1,12 @@
 //! The answers through the C functions: every cell against the model, on small campaigns, damaged
 //! records and the limits. What the library does not have yet is left out by [`trial`].
 
-use chronicle_host::adversary::{days_of, draw};
+use chronicle_host::adversary::days_of;
 use chronicle_host::cases::Cases;
 use chronicle_host::generate::Random;
 use chronicle_host::pack::{pack, Campaign};
 use chronicle_host::unpack::unpack;
-use chronicle_host::{extremes, model, recount, sample, trial};
+use chronicle_host::{extremes, model, recount, sample, trial, wars};
 
 fn tried(campaign: &Campaign, random: &mut Random) -> Result<(), String> {
     let chronicle = model::chronicle(campaign);
@@ -16,7 +16,10 @@ fn tried(campaign: &Campaign, random: &mut Random) -> Result<(), String> {
     let days = days_of(random, campaign);
     let asked = days.iter().take(50);
     let runs: Vec<_> = asked.map(|&day| (day, model::events_on(&chronicle.changes, day))).collect();
-    trial::accepted(&pack(campaign), &chronicle, &runs)
+    let record = pack(campaign);
+    trial::accepted(&record, &chronicle, &runs)?;
+    let bookings = model::bookings(campaign, &chronicle.nations);
+    trial::bookings(&record, &chronicle.nations, &bookings)
 }
 
 #[test]
@@ -34,7 +37,7 @@ fn empty_campaign() {
 fn small_campaigns() {
     let mut random = Random::new(1453);
     for _ in 0..5_000 {
-        let campaign = draw(&mut random);
+        let campaign = wars::campaign(&mut random);
         assert_eq!(tried(&campaign, &mut random), Ok(()), "{campaign:#?}");
     }
 }

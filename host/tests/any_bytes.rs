@@ -124,6 +124,13 @@ fn asked(record: &[u8]) {
         let room = chronicle_host::Room { nations, entries, holders, held, changes, counts };
         assert_eq!(chronicle_host::nation_events(record, room).err(), answer.err());
     }
+    #[cfg(feature = "war_participants")]
+    {
+        let rows = chronicle_host::Chronicle { nations: &[], entries: &[] };
+        let mut out = vec![0; 3 * 1_000];
+        assert_eq!(rows.war_participants(record, &mut out).err(), answer.err());
+        assert_eq!(rows.bookings(record).err(), answer.err());
+    }
 }
 
 /// The bytes are lent: nobody writes to them, and nobody reads on behind them.

@@ -1,4 +1,4 @@
-//! Whatever words are lent to the resolver, it answers as 01 says that it does, or refuses.
+//! Whatever words are lent to resolver and bookings, they answer as 01 says that they do, or refuse.
 #![cfg(feature = "resolver")]
 
 use std::collections::BTreeMap;
@@ -9,6 +9,13 @@ use chronicle_host::model::{answer, nations_told};
 use chronicle_host::pack::{Date, Tag};
 use chronicle_host::rows::{entry_words, nation_words, tag_word, Nation, Question};
 use chronicle_host::trial::{asked, asked_each};
+#[cfg(feature = "war_participants")]
+use chronicle_host::{
+    check,
+    model::bookings,
+    pack::{pack, Campaign, War, WarEvent},
+    rows::booking_words,
+};
 use chronicle_host::{Chronicle, Refusal};
 
 const TAGS: [Tag; 4] = [*b"ENG", *b"GBR", *b"---", *b"zz9"];
@@ -110,6 +117,37 @@ fn lent(
     outcome
 }
 
+/// A record of a few wars; of some a byte is missing.
+#[cfg(feature = "war_participants")]
+fn record(random: &mut Random) -> (Campaign, Vec<u8>) {
+    let mut event = || WarEvent {
+        date: random.pick(&DATES),
+        kind: random.below(5) as u8,
+        tag: random.pick(&TAGS),
+    };
+    let mut war = |events: usize| War { events: (0..events).map(|_| event()).collect() };
+    let wars = vec![war(2), war(0), war(3)];
+    let campaign = Campaign { start: DATES[0], current: DATES[4], wars, ..Campaign::default() };
+    let mut record = pack(&campaign);
+    record.truncate(record.len() - usize::from(random.below(8) == 0));
+    (campaign, record)
+}
+
+#[cfg(feature = "war_participants")]
+fn booked(random: &mut Random, rows: Chronicle<'_>, outcomes: &mut Outcomes) {
+    let (campaign, record) = record(random);
+    let expected = match nations_told(rows.nations, rows.entries) {
+        _ if check(&record).is_err() => Err(Refusal::SizesDisagree),
+        Some(nations) => Ok(booking_words(&bookings(&campaign, &nations))),
+        None => Err(Refusal::NotWellShaped),
+    };
+    let length = random.below(18);
+    let expected = lent(&expected, length, outcomes);
+    let expected = expected.as_deref().map_err(|&refusal| refusal);
+    let outcome = chronicle_host::trial::booked(rows, &record, length, expected);
+    assert_eq!(outcome, Ok(()), "{rows:?} {campaign:?}");
+}
+
 fn tried(random: &mut Random, nations: &[u32], entries: &[u32], outcomes: &mut [Outcomes; 2]) {
     let rows = Chronicle { nations, entries };
     let told = nations_told(nations, entries);
@@ -147,6 +185,18 @@ fn any_words() {
     assert!(outcomes.iter().all(|outcomes| outcomes[&11] > 10_000), "{outcomes:?}");
 }
 
+#[cfg(feature = "war_participants")]
+#[test]
+fn any_words_for_bookings() {
+    let mut random = Random::new(13);
+    let mut outcomes = Outcomes::new();
+    for _ in 0..20_000 {
+        let [nations, entries] = [words(&mut random, 40), words(&mut random, 40)];
+        booked(&mut random, Chronicle { nations: &nations, entries: &entries }, &mut outcomes);
+    }
+    assert!(outcomes[&11] > 10_000 && outcomes[&3] > 1_000, "{outcomes:?}");
+}
+
 /// One word another, one more or one less; or a row less, or two rows exchanged.
 fn alter(random: &mut Random, words: &mut Vec<u32>, width: usize) {
     let rows = words.len() / width;
@@ -166,18 +216,24 @@ fn alter(random: &mut Random, words: &mut Vec<u32>, width: usize) {
     }
 }
 
+/// The words of a list, two times out of three with something altered.
+fn nearly(random: &mut Random) -> [Vec<u32>; 2] {
+    let list = any_nations(random, &TAGS, &DATES);
+    let [mut nations, mut entries] = [nation_words(&list), entry_words(&list)];
+    match random.below(3) {
+        0 => alter(random, &mut nations, 5),
+        1 => alter(random, &mut entries, 3),
+        _ => {}
+    }
+    [nations, entries]
+}
+
 #[test]
 fn nearly_a_chronicle() {
     let mut random = Random::new(12);
     let mut outcomes = [Outcomes::new(), Outcomes::new()];
     for _ in 0..50_000 {
-        let list = any_nations(&mut random, &TAGS, &DATES);
-        let [mut nations, mut entries] = [nation_words(&list), entry_words(&list)];
-        match random.below(3) {
-            0 => alter(&mut random, &mut nations, 5),
-            1 => alter(&mut random, &mut entries, 3),
-            _ => {}
-        }
+        let [nations, entries] = nearly(&mut random);
         tried(&mut random, &nations, &entries, &mut outcomes);
     }
     for outcomes in outcomes {
@@ -185,4 +241,18 @@ fn nearly_a_chronicle() {
         assert_eq!(numbers, [0, 1, 10, 11, 12], "{outcomes:?}");
         assert!(outcomes.values().all(|&times| times > 1_000), "{outcomes:?}");
     }
+}
+
+#[cfg(feature = "war_participants")]
+#[test]
+fn nearly_a_chronicle_for_bookings() {
+    let mut random = Random::new(14);
+    let mut outcomes = Outcomes::new();
+    for _ in 0..50_000 {
+        let [nations, entries] = nearly(&mut random);
+        booked(&mut random, Chronicle { nations: &nations, entries: &entries }, &mut outcomes);
+    }
+    let numbers: Vec<u8> = outcomes.keys().copied().collect();
+    assert_eq!(numbers, [0, 1, 3, 10, 11], "{outcomes:?}");
+    assert!(outcomes.values().all(|&times| times > 1_000), "{outcomes:?}");
 }

@@ -84,7 +84,7 @@ fn refused(words: &Words, tag: u32, date: Date, day: Date, refusal: Refusal) {
     }
 }
 
-/// 11, also before a question that is 12 by itself.
+/// 11, also before a question that is 12 by itself, and of bookings whatever the room.
 fn ill_shaped(what: &str, words: &Words) {
     assert_eq!(nations_told(&words.nations, &words.entries), None, "{what}");
     let good = 14480601;
@@ -94,6 +94,12 @@ fn ill_shaped(what: &str, words: &Words) {
     for questions in [&[][..], &[GBR], &[GBR, good, FRA]] {
         let each = asked_each(words.rows(), questions, 9, Err(Refusal::NotWellShaped));
         assert_eq!(each, Ok(()), "{what}");
+    }
+    #[cfg(feature = "war_participants")]
+    for length in [0, 9] {
+        let (rows, refusal) = (words.rows(), Refusal::NotWellShaped);
+        let outcome = trial::booked(rows, chronicle_host::sample::WORKED, length, Err(refusal));
+        assert_eq!(outcome, Ok(()), "{what}");
     }
 }
 

@@ -7,12 +7,13 @@
 use std::fmt::Debug;
 
 use chronicle_host::adversary::{days_of, tags_of};
+use chronicle_host::demand::Met;
 use chronicle_host::generate::Random;
 use chronicle_host::lists::{altered, any_nations, questions, some_of};
 use chronicle_host::model::Chronicle;
 use chronicle_host::pack::{pack, Campaign, Date, Tag};
-use chronicle_host::rows::{Change, History, Nation, Run};
-use chronicle_host::{model, recount, trial};
+use chronicle_host::rows::{Change, History, Kind, Nation, Run};
+use chronicle_host::{demand, model, recount, trial};
 use eu4save::query::{NationEvents, PlayerHistory, ProvinceOwners};
 
 use crate::resolving;
@@ -22,6 +23,9 @@ use crate::seen::Seen;
 /// The Rust's resolver copies a nation's entries for each of its switches; a list that would make
 /// more copies than this is not given to it.
 const MOST_COPIES: usize = 20_000_000;
+
+/// More pairs of nation and day than this are not looked at; small campaigns have fewer.
+const MOST_PAIRS: usize = 3_000;
 
 /// Compares everything on a campaign; at most so many days and tags are asked about. `Err` says
 /// what differs.
@@ -51,11 +55,13 @@ pub fn compare(campaign: &Campaign, seed: u64, most: usize, seen: &mut Seen) -> 
 
     let any = any_nations(&mut random, &tags, &days);
     let altered = altered(&mut random, &chronicle.nations, &tags);
-    let mut asked = Asked { campaign, rust, random, days, tags, most, seen };
+    let record = pack(campaign);
+    trial::accepted(&record, &chronicle, &runs)?;
+    let mut asked = Asked { campaign, record, rust, random, days, tags, most, seen };
     for nations in [&chronicle.nations, &any, &altered] {
         asked.about(nations)?;
     }
-    trial::accepted(&pack(campaign), &chronicle, &runs)
+    asked.demand()
 }
 
 /// Holder and held cells, counted again.
@@ -88,6 +94,7 @@ fn runs(
 /// What is asked about a list of nations.
 struct Asked<'a> {
     campaign: &'a Campaign,
+    record: Vec<u8>,
     rust: Rust,
     random: Random,
     days: Vec<Date>,
@@ -101,10 +108,11 @@ impl Asked<'_> {
         let theirs: Vec<NationEvents> = nations.iter().map(rust::nation_events).collect();
         self.seen.list(nations);
         let small = copies(nations) <= MOST_COPIES;
-        self.resolver(nations, small.then(|| Resolver::of(&theirs)).as_ref())?;
-        if small {
-            self.bookings(nations, &theirs)?;
+        if !small {
+            self.seen.add("list: too large for the Rust's resolver", 1);
         }
+        self.resolver(nations, small.then(|| Resolver::of(&theirs)).as_ref())?;
+        self.bookings(nations, small.then_some(&theirs))?;
         self.ledgers(nations, &theirs)?;
         if self.campaign.strings.iter().all(|string| std::str::from_utf8(string).is_ok()) {
             self.players()?;
@@ -118,10 +126,34 @@ impl Asked<'_> {
         resolving::compare(nations, theirs, &asked, self.seen)
     }
 
-    fn bookings(&mut self, nations: &[Nation], theirs: &[NationEvents]) -> Result<(), String> {
+    /// Without the Rust, which some lists are too large for, the model stands alone for it.
+    fn bookings(
+        &mut self,
+        nations: &[Nation],
+        theirs: Option<&Vec<NationEvents>>,
+    ) -> Result<(), String> {
         let ours = model::bookings(self.campaign, nations);
-        self.seen.add("row: booking", ours.len());
-        rows_equal("bookings", &self.rust.bookings(theirs), &ours)
+        if let Some(theirs) = theirs {
+            rows_equal("bookings", &self.rust.bookings(theirs), &ours)?;
+            self.seen.add("row: booking", ours.len());
+        }
+        self.seen.wars(self.campaign, nations, &ours);
+        trial::bookings(&self.record, nations, &ours)?;
+        if cfg!(feature = "war_participants") {
+            self.seen.add("library: booking", ours.len());
+        }
+        Ok(())
+    }
+
+    /// What the library's own answers owe each other, without the Rust and the model.
+    fn demand(&mut self) -> Result<(), String> {
+        let Asked { campaign, record, random, .. } = self;
+        let mut met = Met::default();
+        demand::tried(record, campaign, MOST_PAIRS, random, &mut met)?;
+        if demand::TRIED {
+            self.seen.demand(&met);
+        }
+        Ok(())
     }
 
     fn ledgers(&mut self, nations: &[Nation], theirs: &[NationEvents]) -> Result<(), String> {
@@ -185,7 +217,10 @@ fn taken(histories: &[History], nations: &[Nation]) -> usize {
 }
 
 fn copies(nations: &[Nation]) -> usize {
-    nations.iter().map(|nation| nation.entries.len() * nation.entries.len()).sum()
+    let switches = |nation: &Nation| {
+        nation.entries.iter().filter(|entry| matches!(entry.kind, Kind::Switch(_))).count()
+    };
+    nations.iter().map(|nation| switches(nation) * nation.entries.len()).sum()
 }
 
 pub(crate) fn equal<T: PartialEq + Debug>(

@@ -10,6 +10,8 @@
 #[cfg(found)]
 pub mod compare;
 #[cfg(found)]
+pub mod lent_vectors;
+#[cfg(found)]
 pub mod resolving;
 #[cfg(found)]
 pub mod rust;
@@ -17,6 +19,7 @@ pub mod rust;
 pub mod save;
 #[cfg(found)]
 pub mod seen;
+pub mod timed;
 #[cfg(found)]
 pub mod vectors;
 

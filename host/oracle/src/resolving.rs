@@ -66,7 +66,8 @@ pub fn compare(
     Ok(())
 }
 
-fn answer(theirs: &Resolver, question: Question) -> Option<Resolved> {
+/// What the Rust answers.
+pub(crate) fn answer(theirs: &Resolver, question: Question) -> Option<Resolved> {
     match question {
         Question::Resolve { tag, date } => theirs.resolve(tag_of_word(tag), date),
         Question::Initial { tag } => theirs.initial(tag_of_word(tag)),

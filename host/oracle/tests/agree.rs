@@ -14,7 +14,7 @@ mod found {
         pack, Campaign, Country, Date, LedgerName, OwnerEvent, Point, Province, Tag,
     };
     use chronicle_host::rows::{Entry, Kind, Nation, Resolved};
-    use chronicle_host::{model, sample};
+    use chronicle_host::{model, sample, wars};
     use chronicle_oracle::compare::compare;
     use chronicle_oracle::rust::{nation_events, Resolver, Rust};
     use chronicle_oracle::seen::Seen;
@@ -175,6 +175,37 @@ mod found {
         assert_eq!(rare(&noted(list.iter().map(|(campaign, _)| campaign))), []);
     }
 
+    /// What wars are drawn for: each is to be met in one of twenty lists, or oftener.
+    const WAR_CASES: [&str; 13] = [
+        "war: a battle between two that join",
+        "war: a removal between two that join",
+        "war: a tag joins twice",
+        "war: booked under another tag",
+        "war: joins after two switches to the tag",
+        "war: joins as ---",
+        "war: joins before the start",
+        "war: joins on the day of a switch to the tag",
+        "war: joins the day before a switch to the tag",
+        "war: joins under a tag of nobody",
+        "war: joins under a tag that is somebody's only later",
+        "war: one without rows before one with rows",
+        "war: two have rows",
+    ];
+
+    #[test]
+    fn wars_are_drawn() {
+        let mut random = Random::new(1_001);
+        let mut seen = Seen::default();
+        for number in 0..1_000 {
+            let campaign = wars::campaign(&mut random);
+            assert_eq!(compare(&campaign, number, usize::MAX, &mut seen), Ok(()));
+        }
+        let few = 3 * seen.times("campaign: all") / 20;
+        let times = WAR_CASES.map(|what| (what, seen.times(what)));
+        let rare: Vec<_> = times.into_iter().filter(|&(_, times)| times <= few).collect();
+        assert_eq!(rare, []);
+    }
+
     /// The worked record alone has few of them, so that the two tests above could fail.
     #[test]
     fn hard_cases_of_the_worked_record() {
@@ -187,7 +218,7 @@ mod found {
         let mut random = Random::new(1618);
         let mut seen = Seen::default();
         for number in 0..5_000 {
-            let campaign = draw(&mut random);
+            let campaign = wars::campaign(&mut random);
             let outcome = compare(&campaign, number, usize::MAX, &mut seen);
             assert_eq!(outcome, Ok(()), "{campaign:#?}");
         }

@@ -164,6 +164,15 @@ const STACKED: &[Stacked] = &[
         let room = chronicle_host::Room { nations, entries, holders, held, changes, counts };
         chronicle_host::nation_events(record, room).is_ok()
     }),
+    #[cfg(feature = "war_participants")]
+    ("war_participants", 1_024, |record| {
+        use chronicle_host::rows::{entry_words, nation_words};
+        let campaign = chronicle_host::unpack::unpack(record).expect("it is accepted");
+        let nations = chronicle_host::model::chronicle(&campaign).nations;
+        let [nations, entries] = [nation_words(&nations), entry_words(&nations)];
+        let rows = chronicle_host::Chronicle { nations: &nations, entries: &entries };
+        rows.bookings(record).is_ok()
+    }),
 ];
 
 /// The smallest thread stack, in steps of 4 KiB, that each function gets by with; each size is

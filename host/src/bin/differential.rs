@@ -1,4 +1,5 @@
-//! Compares the proved `check` with the independent checker on many records.
+//! Compares the proved `check` with the independent checker on many records, and tries demand 3 on
+//! those that are accepted.
 //!
 //! `differential [CALLS] [SEED]`; one difference ends the run, its record in difference.atl.
 
@@ -7,18 +8,23 @@ use std::process::ExitCode;
 
 use chronicle_host::cases::Cases;
 use chronicle_host::damage::Target;
+use chronicle_host::demand::{self, Met};
 use chronicle_host::generate::{campaign, Knobs, Random};
-use chronicle_host::pack::pack;
-use chronicle_host::{check, number, reference, sample};
+use chronicle_host::pack::{pack, Campaign};
+use chronicle_host::unpack::unpack;
+use chronicle_host::{check, number, reference, sample, wars};
 
 const DIFFERENCE: &str = "difference.atl";
+
+/// Events of the war that is added.
+const MORE_EVENTS: usize = 6;
 
 fn main() -> ExitCode {
     let Some((calls, seed)) = arguments() else {
         eprintln!("usage: differential [CALLS] [SEED]");
         return ExitCode::FAILURE;
     };
-    let mut run = Run::default();
+    let mut run = Run { calls: 0, seen: [0; 10], random: Random::new(seed), met: Met::default() };
     let outcome = run.sweeps(calls, seed).and_then(|()| run.draws(calls, seed));
     if let Err(message) = outcome {
         eprintln!("{message}");
@@ -37,11 +43,12 @@ fn arguments() -> Option<(u64, u64)> {
     arguments.next().is_none().then_some(given)
 }
 
-/// How many records were tried, and how often each number came.
-#[derive(Default)]
+/// How many records were tried, how often each number came, and what demand 3 met.
 struct Run {
     calls: u64,
     seen: [u64; 10],
+    random: Random,
+    met: Met,
 }
 
 impl Run {
@@ -80,17 +87,35 @@ impl Run {
         let independent = reference::refusal_number(record);
         self.calls += 1;
         self.seen[usize::from(independent)] += 1;
-        if proved == independent {
-            return Ok(());
+        if proved != independent {
+            let differs = format!("check gives {proved}, the independent checker {independent}");
+            return Err(self.stored(record, &differs));
         }
+        match unpack(record) {
+            Ok(campaign) => self.demand(record, campaign),
+            Err(_) => Ok(()),
+        }
+    }
+
+    /// Tries demand 3 on an accepted record, and on the same with one war more.
+    fn demand(&mut self, record: &[u8], mut campaign: Campaign) -> Result<(), String> {
+        let (random, met) = (&mut self.random, &mut self.met);
+        let war = wars::draw(random, &campaign, 1, MORE_EVENTS);
+        if let Err(error) = demand::tried(record, &campaign, usize::MAX, random, met) {
+            return Err(self.stored(record, &error));
+        }
+        campaign.wars.extend(war);
+        let record = pack(&campaign);
+        demand::tried(&record, &campaign, usize::MAX, random, met)
+            .map_err(|error| self.stored(&record, &error))
+    }
+
+    fn stored(&self, record: &[u8], message: &str) -> String {
         let stored = match std::fs::write(DIFFERENCE, record) {
             Ok(()) => format!("the record is in {DIFFERENCE}"),
             Err(error) => format!("{DIFFERENCE} could not be written: {error}"),
         };
-        Err(format!(
-            "call {}: check gives {proved}, the independent checker {independent}; {stored}",
-            self.calls
-        ))
+        format!("call {}: {message}; {stored}", self.calls)
     }
 
     fn report(&self, seed: u64) -> ExitCode {
@@ -102,6 +127,14 @@ impl Run {
         if self.seen.contains(&0) {
             eprintln!("some number never came: the run says too little");
             return ExitCode::FAILURE;
+        }
+        if demand::TRIED {
+            print!("demand 3 on the accepted ones:\n{}", self.met);
+            let never = self.met.never();
+            if !never.is_empty() {
+                eprintln!("never met, so the run says too little: {}", never.join("; "));
+                return ExitCode::FAILURE;
+            }
         }
         ExitCode::SUCCESS
     }

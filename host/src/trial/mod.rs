@@ -3,6 +3,8 @@
 //! Each function is called with ample, exact and short slices between guard cells. What the
 //! library does not have yet is not called: [`TRIED`] says what was.
 
+#[cfg(feature = "war_participants")]
+mod bookings;
 #[cfg(feature = "nation_events")]
 mod nations;
 #[cfg(feature = "province_owners")]
@@ -10,12 +12,14 @@ mod owners;
 #[cfg(feature = "resolver")]
 mod resolver;
 
+#[cfg(feature = "war_participants")]
+pub use bookings::booked;
 #[cfg(feature = "resolver")]
 pub use resolver::{asked, asked_each};
 
 use crate::model::Chronicle;
 use crate::pack::Date;
-use crate::rows::{Nation, Question, Resolved, Run};
+use crate::rows::{Booking, Nation, Question, Resolved, Run};
 use crate::{check, Refusal};
 
 /// The functions that are called.
@@ -29,6 +33,8 @@ pub const TRIED: &[&str] = &[
     "nation_events",
     #[cfg(feature = "resolver")]
     "resolve, initial, resolve_at, initial_at, resolve_each",
+    #[cfg(feature = "war_participants")]
+    "war_participants",
 ];
 
 /// Holds every function's answers on an accepted record against these; `Err` says what differs.
@@ -66,6 +72,8 @@ pub fn refused(record: &[u8], refusal: Refusal) -> Result<(), String> {
     owners::refused(record, refusal)?;
     #[cfg(feature = "nation_events")]
     nations::refused(record, refusal)?;
+    #[cfg(feature = "war_participants")]
+    bookings::refused(record, refusal)?;
     Ok(())
 }
 
@@ -86,6 +94,21 @@ pub fn refused(record: &[u8], refusal: Refusal) -> Result<(), String> {
 pub fn resolver(nations: &[Nation], asked: &[(Question, Option<Resolved>)]) -> Result<(), String> {
     #[cfg(feature = "resolver")]
     resolver::answered(nations, asked)?;
+    Ok(())
+}
+
+/// Holds the bookings of an accepted record by a list of nations against these.
+///
+/// ```
+/// use chronicle_host::{model, sample, trial};
+///
+/// let nations = model::chronicle(&sample::worked()).nations;
+/// assert_eq!(trial::bookings(sample::WORKED, &nations, &[]), Ok(()));
+/// ```
+#[cfg_attr(not(feature = "war_participants"), allow(unused_variables))]
+pub fn bookings(record: &[u8], nations: &[Nation], bookings: &[Booking]) -> Result<(), String> {
+    #[cfg(feature = "war_participants")]
+    bookings::accepted(record, nations, bookings)?;
     Ok(())
 }
 

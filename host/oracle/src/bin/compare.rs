@@ -1,7 +1,7 @@
 //! Compares the Rust, the model and the proved functions on many campaigns.
 //!
 //! `compare [CAMPAIGNS] [SEED] [EXTREMES]`: so many small campaigns (default 200,000), a quarter
-//! as many damaged records, and so many of the ten campaigns at 01's limits (default all). One
+//! as many damaged records, and so many of the eleven campaigns at 01's limits (default all). One
 //! difference ends the run; the smallest record found to show it is in difference.atl.
 
 use std::process::ExitCode;
@@ -21,14 +21,15 @@ mod run {
     use std::env;
     use std::process::ExitCode;
 
-    use chronicle_host::adversary;
     use chronicle_host::cases::Cases;
+    use chronicle_host::demand::{self, Met};
     use chronicle_host::extremes;
     use chronicle_host::generate::Random;
     use chronicle_host::pack::{pack, Campaign};
     use chronicle_host::shrink::shrink;
     use chronicle_host::trial;
     use chronicle_host::unpack::unpack;
+    use chronicle_host::wars;
     use chronicle_oracle::compare::compare;
     use chronicle_oracle::resolving;
     use chronicle_oracle::seen::Seen;
@@ -86,6 +87,12 @@ mod run {
         for what in LOOKED_FOR.into_iter().chain(resolving::looked_for()) {
             seen.add(what, 0);
         }
+        if cfg!(feature = "war_participants") {
+            seen.add("library: booking", 0);
+        }
+        if demand::TRIED {
+            seen.demand(&Met::default());
+        }
         small(campaigns, seed, &mut seen)?;
         damaged(campaigns / 4, seed, &mut seen)?;
         println!("{seen}");
@@ -99,18 +106,41 @@ mod run {
                 .map_err(|difference| format!("{name}: {difference}"))?;
             let found = seen.times("answer: resolver, not none");
             let asked: usize = resolving::looked_for().map(|what| seen.times(what)).sum();
+            for what in ["row: booking", "library: booking", "demand: a nation on a day"] {
+                if seen.times(what) == 0 {
+                    return Err(format!("{name}: never met at the limits: {what}"));
+                }
+            }
             println!(
                 "at the limits, {name}: no difference; resolver: {found} times somebody by the \
-                 Rust, {asked} answers by the library"
+                 Rust, {asked} answers by the library; {}",
+                at_war(&seen)
             );
         }
         Ok(())
     }
 
+    /// Bookings and demand 3 at the limits. The Rust gives fewer rows where a list is too large for it.
+    fn at_war(seen: &Seen) -> String {
+        let times = |what: &str| seen.times(what);
+        let [attacks, defends] = ["attacker", "defender"]
+            .map(|side| times(&format!("demand: worn alone, joins as {side}")));
+        format!(
+            "bookings: {} rows by the Rust, {} by the library ({} of the lists too large for the \
+             Rust); demand 3: {} pairs, {} worn alone, {} joining alone",
+            times("row: booking"),
+            times("library: booking"),
+            times("list: too large for the Rust's resolver"),
+            times("demand: a nation on a day"),
+            times("demand: worn alone"),
+            attacks + defends,
+        )
+    }
+
     fn small(campaigns: u64, seed: u64, seen: &mut Seen) -> Result<(), String> {
         let mut random = Random::new(seed);
         for number in 0..campaigns {
-            let campaign = adversary::draw(&mut random);
+            let campaign = wars::campaign(&mut random);
             compare(&campaign, number, usize::MAX, seen)
                 .map_err(|difference| smallest(campaign, number, &difference))?;
         }

@@ -2,6 +2,9 @@
 //!
 //! Every campaign made here is one whose record 01 accepts.
 
+mod knobs;
+mod random;
+
 use std::collections::BTreeSet;
 
 use crate::calendar::DAYS;
@@ -11,157 +14,11 @@ use crate::pack::{
     NONE,
 };
 
+pub use knobs::Knobs;
+pub use random::Random;
+
 /// The bytes a tag may have.
 pub const TAG_BYTES: &[u8; 63] = b"-0123456789ABCDEFGHIJKLMNOPQRSTUVWXYZabcdefghijklmnopqrstuvwxyz";
-
-/// A small seeded generator (splitmix64): the same seed gives the same runs everywhere.
-#[derive(Clone, Debug)]
-pub struct Random(u64);
-
-impl Random {
-    /// A generator that starts from this seed.
-    ///
-    /// ```
-    /// use chronicle_host::generate::Random;
-    ///
-    /// assert_eq!(Random::new(7).next(), Random::new(7).next());
-    /// ```
-    pub fn new(seed: u64) -> Random {
-        Random(seed)
-    }
-
-    /// The next 64 bits.
-    ///
-    /// ```
-    /// use chronicle_host::generate::Random;
-    ///
-    /// assert_eq!(Random::new(0).next(), 0xe220a8397b1dcdaf);
-    /// ```
-    #[allow(clippy::should_implement_trait)]
-    pub fn next(&mut self) -> u64 {
-        self.0 = self.0.wrapping_add(0x9e37_79b9_7f4a_7c15);
-        let mut z = self.0;
-        z = (z ^ (z >> 30)).wrapping_mul(0xbf58_476d_1ce4_e5b9);
-        z = (z ^ (z >> 27)).wrapping_mul(0x94d0_49bb_1331_11eb);
-        z ^ (z >> 31)
-    }
-
-    /// A number from 0 up to but not including `bound`, which is not 0.
-    ///
-    /// ```
-    /// use chronicle_host::generate::Random;
-    ///
-    /// assert!(Random::new(1).below(6) < 6);
-    /// ```
-    pub fn below(&mut self, bound: usize) -> usize {
-        (self.next() % bound as u64) as usize
-    }
-
-    /// One of the items, of which there is at least one.
-    ///
-    /// ```
-    /// use chronicle_host::generate::Random;
-    ///
-    /// assert!([3, 5].contains(&Random::new(1).pick(&[3, 5])));
-    /// ```
-    pub fn pick<T: Copy>(&mut self, items: &[T]) -> T {
-        items[self.below(items.len())]
-    }
-
-    /// A random byte.
-    ///
-    /// ```
-    /// use chronicle_host::generate::Random;
-    ///
-    /// assert_eq!(Random::new(0).byte(), 0xaf);
-    /// ```
-    pub fn byte(&mut self) -> u8 {
-        self.next() as u8
-    }
-}
-
-/// How large the drawn campaigns may become, and how often their rows meet.
-#[derive(Clone, Copy, Debug)]
-pub struct Knobs {
-    /// Most countries, provinces, wars, ledger names and strings.
-    pub rows: Counts,
-    /// Most previous tags of one country.
-    pub previous_tags: usize,
-    /// Most switches of one country.
-    pub switches: usize,
-    /// Most events of one province.
-    pub owner_events: usize,
-    /// Most events of one war.
-    pub war_events: usize,
-    /// Most points of one ledger name.
-    pub points: usize,
-    /// Longest string.
-    pub string_length: usize,
-    /// Tags to choose from beside the countries' own: few tags meet often.
-    pub other_tags: usize,
-    /// Dates to choose from: few dates give ties.
-    pub dates: usize,
-}
-
-impl Knobs {
-    /// Small campaigns, of some hundred bytes, with all sections.
-    ///
-    /// ```
-    /// use chronicle_host::{generate::{campaign, Knobs, Random}, pack::pack, reference};
-    ///
-    /// let record = pack(&campaign(&mut Random::new(1), &Knobs::small()));
-    /// assert_eq!(reference::refusal_number(&record), 0);
-    /// ```
-    pub fn small() -> Knobs {
-        Knobs {
-            rows: Counts {
-                countries: 4,
-                provinces: 4,
-                wars: 3,
-                ledger_names: 3,
-                strings: 4,
-                ..Counts::default()
-            },
-            previous_tags: 2,
-            switches: 3,
-            owner_events: 3,
-            war_events: 3,
-            points: 4,
-            string_length: 6,
-            other_tags: 6,
-            dates: 40,
-        }
-    }
-
-    /// Few tags, `---` among them, and few dates: ties, loops and meetings everywhere.
-    ///
-    /// ```
-    /// use chronicle_host::{generate::{campaign, Knobs, Random}, pack::pack, reference};
-    ///
-    /// let record = pack(&campaign(&mut Random::new(2), &Knobs::adversarial()));
-    /// assert_eq!(reference::refusal_number(&record), 0);
-    /// ```
-    pub fn adversarial() -> Knobs {
-        Knobs {
-            rows: Counts {
-                countries: 5,
-                provinces: 5,
-                wars: 2,
-                ledger_names: 4,
-                strings: 7,
-                ..Counts::default()
-            },
-            previous_tags: 3,
-            switches: 4,
-            owner_events: 5,
-            war_events: 4,
-            points: 5,
-            string_length: 3,
-            other_tags: 1,
-            dates: 4,
-        }
-    }
-}
 
 /// Draws a campaign within the knobs.
 ///

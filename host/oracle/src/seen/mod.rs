@@ -1,11 +1,14 @@
 //! What a run of comparisons has met: a run that never met a hard case says little about it.
 
+mod turns;
+mod wars;
+
 use std::collections::{BTreeMap, BTreeSet};
 use std::fmt;
 
+use chronicle_host::demand::Met;
 use chronicle_host::model::Chronicle;
-use chronicle_host::pack::{Campaign, Country, Date, Province, Tag, NONE};
-use chronicle_host::recount::{settled, start_holder};
+use chronicle_host::pack::{Campaign, Country, Province, Tag, NONE};
 use chronicle_host::rows::{Change, Entry, Kind, Nation};
 
 /// How often each thing was met.
@@ -50,6 +53,21 @@ impl Seen {
     /// ```
     pub fn times(&self, what: &str) -> usize {
         self.0.get(what).copied().unwrap_or(0)
+    }
+
+    /// Adds what demand 3 met.
+    ///
+    /// ```
+    /// use chronicle_host::demand::{Met, Premise};
+    /// use chronicle_oracle::seen::Seen;
+    ///
+    /// let (mut seen, mut met) = (Seen::default(), Met::default());
+    /// met.add(Premise::Alone, true);
+    /// seen.demand(&met);
+    /// assert_eq!(seen.times("demand: worn alone"), 1);
+    /// ```
+    pub fn demand(&mut self, met: &Met) {
+        met.all().for_each(|(what, times)| self.add(what, times));
     }
 
     /// Notes the hard cases of a campaign.
@@ -215,65 +233,10 @@ impl Seen {
             nations.iter().skip(1).any(|nation| !nation.entries.is_empty()),
         );
     }
-
-    /// Follows the holders through the changes; at the limits that takes too long, and is left out.
-    fn turns(&mut self, campaign: &Campaign, changes: &[Change]) {
-        if changes.len() > MOST_TURNS {
-            return;
-        }
-        let mut turns = Turns::start(campaign);
-        changes.iter().for_each(|change| turns.apply(campaign, change));
-        self.if_any("campaign: a change settles elsewhere than its tag", turns.elsewhere);
-        self.if_any("campaign: a change is too late for a switch from its tag", turns.too_late);
-        self.if_any("campaign: the old holder is not whom `from` settles to", turns.other_from);
-        self.if_any("campaign: the last slot lost and regained on one day", turns.regained);
-    }
 }
 
 fn is_switch(kind: Kind) -> bool {
     matches!(kind, Kind::Switch(_))
-}
-
-/// More changes than this are not followed.
-const MOST_TURNS: usize = 1_000;
-
-/// Who holds each slot by now, and what was met on the way.
-struct Turns {
-    holders: Vec<Option<Tag>>,
-    /// Who lost the last slot, and when.
-    fallen: Vec<(Tag, Date)>,
-    elsewhere: bool,
-    too_late: bool,
-    other_from: bool,
-    regained: bool,
-}
-
-impl Turns {
-    fn start(campaign: &Campaign) -> Turns {
-        let slots = 0..=campaign.provinces.len() as u16;
-        Turns {
-            holders: slots.map(|slot| start_holder(campaign, slot)).collect(),
-            fallen: Vec::new(),
-            elsewhere: false,
-            too_late: false,
-            other_from: false,
-            regained: false,
-        }
-    }
-
-    fn apply(&mut self, campaign: &Campaign, &Change { date, id, from, to }: &Change) {
-        let new = settled(campaign, to, date);
-        let old = self.holders[usize::from(id)].replace(new);
-        let mut switches = campaign.countries.iter().flat_map(|country| &country.switches);
-        self.elsewhere |= new != to;
-        self.too_late |= new == to && switches.any(|switch| switch.from == to);
-        self.other_from |= old.is_some_and(|old| old != settled(campaign, from, date));
-        let slots = |tag| self.holders.iter().filter(|&&holder| holder == Some(tag)).count();
-        self.regained |= slots(new) == 1 && self.fallen.contains(&(new, date));
-        if let Some(old) = old.filter(|&old| slots(old) == 0) {
-            self.fallen.push((old, date));
-        }
-    }
 }
 
 /// Whether a country gives up a tag that it gave up before, with another one in between.

@@ -1,13 +1,8 @@
-//! Small campaigns that are hard to agree about: few tags, few dates, and everything meets.
-//!
-//! Every campaign drawn here is one whose record 01 accepts, and its strings are UTF-8.
+//! The tags and dates that a campaign is drawn from, and its rows.
 
-use std::collections::BTreeSet;
-
-use crate::calendar::{day_after, day_before, ENDS};
 use crate::generate::{draw_date, repeat, shuffle, Random};
 use crate::pack::{
-    Campaign, Country, Date, LedgerName, OwnerEvent, Point, Province, Switch, Tag, War, WarEvent,
+    Country, Date, LedgerName, OwnerEvent, Point, Province, Switch, Tag, War, WarEvent,
     HAS_SWITCHED_NATION, HUMAN, NONE, WAS_PLAYER,
 };
 
@@ -22,106 +17,18 @@ const NAMES: [&str; 6] = ["Player", "Ann", "Bob", "", "Zoë", "ENG"];
 /// Texts that are no tag, `€` of three bytes among them.
 const NO_TAGS: [&str; 6] = ["", "EN", "ENGL", "€", "E G", "E_G"];
 
-/// The next campaign.
-///
-/// ```
-/// use chronicle_host::{adversary, generate::Random, pack::pack, reference};
-///
-/// let mut random = Random::new(1);
-/// for _ in 0..100 {
-///     let campaign = adversary::draw(&mut random);
-///     assert_eq!(reference::refusal_number(&pack(&campaign)), 0);
-/// }
-/// ```
-pub fn draw(random: &mut Random) -> Campaign {
-    let pools = Pools::draw(random);
-    Campaign {
-        wars: pools.wars(random),
-        ledger: pools.ledger(random),
-        strings: pools.strings(random),
-        ..draw_core(random, &pools)
-    }
-}
-
-/// As [`draw`], with countries and provinces and nothing else.
-///
-/// ```
-/// use chronicle_host::{adversary, generate::Random};
-///
-/// assert!(adversary::draw_bare(&mut Random::new(1)).wars.is_empty());
-/// ```
-pub fn draw_bare(random: &mut Random) -> Campaign {
-    let pools = Pools::draw(random);
-    draw_core(random, &pools)
-}
-
-fn draw_core(random: &mut Random, pools: &Pools) -> Campaign {
-    let countries = pools.countries(random);
-    let provinces = pools.provinces(random, &countries);
-    Campaign {
-        flags: random.byte() & 3,
-        start: pools.start,
-        current: pools.current,
-        countries,
-        provinces,
-        ..Campaign::default()
-    }
-}
-
-/// The days worth asking about: all that occur, their neighbours, the ends of the calendar and
-/// two at random.
-///
-/// ```
-/// use chronicle_host::{adversary::days_of, generate::Random, sample};
-///
-/// let days = days_of(&mut Random::new(1), &sample::worked());
-/// assert!([14460101, 14451231, 14460102, 14480601].iter().all(|day| days.contains(day)));
-/// ```
-pub fn days_of(random: &mut Random, campaign: &Campaign) -> Vec<Date> {
-    let switches = campaign.countries.iter().flat_map(|c| &c.switches).map(|s| s.date);
-    let events = campaign.provinces.iter().flat_map(|p| &p.events).map(|e| e.date);
-    let wars = campaign.wars.iter().flat_map(|w| &w.events).map(|e| e.date);
-    let occurring = switches.chain(events).chain(wars).chain([campaign.start, campaign.current]);
-    let around = |day| [Some(day), day_after(day), day_before(day)].into_iter().flatten();
-    let mut days: BTreeSet<Date> = occurring.flat_map(around).chain(ENDS).collect();
-    days.extend(repeat(2, || draw_date(random)));
-    days.into_iter().collect()
-}
-
-/// The tags worth asking about: all that occur, and one that does not.
-///
-/// ```
-/// use chronicle_host::{adversary::tags_of, sample};
-///
-/// assert_eq!(tags_of(&sample::worked()), [*b"---", *b"ENG", *b"FRA", *b"GBR", *b"QQQ"]);
-/// ```
-pub fn tags_of(campaign: &Campaign) -> Vec<Tag> {
-    let mut tags = BTreeSet::from([NONE, *b"QQQ"]);
-    for country in &campaign.countries {
-        tags.insert(country.tag);
-        tags.extend(&country.previous_tags);
-        tags.extend(country.switches.iter().map(|switch| switch.from));
-    }
-    for province in &campaign.provinces {
-        tags.insert(province.owner);
-        tags.extend(province.events.iter().map(|event| event.tag));
-    }
-    tags.extend(campaign.wars.iter().flat_map(|w| &w.events).map(|event| event.tag));
-    tags.into_iter().collect()
-}
-
 /// The tags and dates a campaign is made of.
-struct Pools {
+pub(super) struct Pools {
     tags: Vec<Tag>,
     dates: Vec<Date>,
-    start: Date,
-    current: Date,
+    pub(super) start: Date,
+    pub(super) current: Date,
     /// Several countries may begin with this one.
     shared: Tag,
 }
 
 impl Pools {
-    fn draw(random: &mut Random) -> Pools {
+    pub(super) fn draw(random: &mut Random) -> Pools {
         let mut tags: Vec<Tag> = TAGS[1..].iter().map(|&&tag| tag).collect();
         shuffle(random, &mut tags);
         tags.truncate(1 + random.below(5));
@@ -144,7 +51,7 @@ impl Pools {
         random.pick(&self.dates)
     }
 
-    fn countries(&self, random: &mut Random) -> Vec<Country> {
+    pub(super) fn countries(&self, random: &mut Random) -> Vec<Country> {
         let mut tags = self.tags.clone();
         shuffle(random, &mut tags);
         let most = tags.len() + 1;
@@ -206,7 +113,7 @@ impl Pools {
     }
 
     /// Owners are countries' first tags more often than chance would have it: those hold slots.
-    fn provinces(&self, random: &mut Random, countries: &[Country]) -> Vec<Province> {
+    pub(super) fn provinces(&self, random: &mut Random, countries: &[Country]) -> Vec<Province> {
         let mut owners = self.tags.clone();
         owners.extend(countries.iter().map(initial));
         let count = random.pick(&[0, 1, 1, 1, 2, 2, 3, 4, 5]);
@@ -233,7 +140,7 @@ impl Pools {
         Province { id, owner, events: events.collect() }
     }
 
-    fn wars(&self, random: &mut Random) -> Vec<War> {
+    pub(super) fn wars(&self, random: &mut Random) -> Vec<War> {
         let event = |random: &mut Random| WarEvent {
             date: self.date(random),
             kind: random.pick(&[0, 0, 1, 1, 2, 3, 4]),
@@ -246,7 +153,7 @@ impl Pools {
         })
     }
 
-    fn ledger(&self, random: &mut Random) -> Vec<LedgerName> {
+    pub(super) fn ledger(&self, random: &mut Random) -> Vec<LedgerName> {
         let names = random.below(5);
         repeat(names, || {
             let points = random.below(6);
@@ -270,7 +177,7 @@ impl Pools {
     }
 
     /// Names and tag texts by turns.
-    fn strings(&self, random: &mut Random) -> Vec<Vec<u8>> {
+    pub(super) fn strings(&self, random: &mut Random) -> Vec<Vec<u8>> {
         let string = |random: &mut Random, number: usize| match (number % 2, random.below(6)) {
             (0, _) => random.pick(&NAMES).as_bytes().to_vec(),
             (_, 0) => random.pick(&NO_TAGS).as_bytes().to_vec(),
@@ -306,23 +213,6 @@ fn draw_ids(random: &mut Random, count: u16) -> Vec<u16> {
             shuffle(random, &mut ids);
             ids.truncate(usize::from(count));
             ids
-        }
-    }
-}
-
-#[cfg(test)]
-mod tests {
-    use super::*;
-    use crate::pack::pack;
-    use crate::reference::refusal_number;
-
-    #[test]
-    fn drawn_campaigns_are_accepted_and_their_strings_are_texts() {
-        let mut random = Random::new(2);
-        for round in 0..5_000 {
-            let campaign = draw(&mut random);
-            assert_eq!(refusal_number(&pack(&campaign)), 0, "round {round}");
-            assert!(campaign.strings.iter().all(|text| std::str::from_utf8(text).is_ok()));
         }
     }
 }

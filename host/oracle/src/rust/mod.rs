@@ -1,12 +1,16 @@
 //! The Rust's answers, as the rows of 01.
 
+mod resolver;
+
+pub use resolver::Resolver;
+
 use chronicle_host::pack::{Campaign, Date, Tag};
-use chronicle_host::rows::{Booking, Change, Entry, Kind, LedgerRow, Nation, Resolved, Run};
+use chronicle_host::rows::{Booking, Change, Entry, Kind, LedgerRow, Nation, Run};
 use eu4save::query::{
     NationEvent, NationEventKind, NationEvents, PlayerHistory, ProvinceOwnerChange, ProvinceOwners,
-    Query,
+    Query, ResolvedWarParticipant, ResolvedWarParticipants,
 };
-use eu4save::{CountryTag, TagData, TagResolver};
+use eu4save::{CountryTag, TagResolver};
 
 use crate::save::{self, save};
 
@@ -74,6 +78,24 @@ impl Rust {
         nations
     }
 
+    /// The Rust's own answer, with the resolver that it made for it: what is freed later takes none
+    /// of its time.
+    ///
+    /// ```
+    /// use chronicle_host::sample;
+    /// use chronicle_oracle::rust::Rust;
+    ///
+    /// assert!(Rust::of(&sample::worked()).war_participants(&[]).1.is_empty());
+    /// ```
+    pub fn war_participants(
+        &self,
+        nations: &[NationEvents],
+    ) -> (TagResolver, Vec<ResolvedWarParticipants>) {
+        let resolver = TagResolver::create(nations);
+        let wars = self.query.resolved_war_participants(&resolver);
+        (resolver, wars)
+    }
+
     /// The rows of all wars, numbered from 0.
     ///
     /// ```
@@ -83,10 +105,10 @@ impl Rust {
     /// assert!(Rust::of(&sample::worked()).bookings(&[]).is_empty());
     /// ```
     pub fn bookings(&self, nations: &[NationEvents]) -> Vec<Booking> {
-        let wars = self.query.resolved_war_participants(&TagResolver::create(nations));
+        let (_, wars) = self.war_participants(nations);
         let mut bookings = Vec::new();
         for (war, participants) in wars.iter().map(|war| &war.participants).enumerate() {
-            let row = |p: &eu4save::query::ResolvedWarParticipant| Booking {
+            let row = |p: &ResolvedWarParticipant| Booking {
                 war,
                 tag: bytes(p.tag),
                 stored: bytes(p.stored),
@@ -239,71 +261,6 @@ pub fn nation(events: &NationEvents) -> Nation {
         stored: bytes(events.stored),
         entries: events.events.iter().map(entry).collect(),
     }
-}
-
-/// The Rust's resolver over a list of nations.
-#[derive(Debug)]
-pub struct Resolver(TagResolver);
-
-impl Resolver {
-    /// Made from any list.
-    ///
-    /// ```
-    /// use chronicle_oracle::rust::Resolver;
-    ///
-    /// assert_eq!(Resolver::of(&[]).resolve(*b"ENG", 14441111), None);
-    /// ```
-    pub fn of(nations: &[NationEvents]) -> Resolver {
-        Resolver(TagResolver::create(nations))
-    }
-
-    /// Plain resolve.
-    ///
-    /// ```
-    /// use chronicle_oracle::rust::Resolver;
-    ///
-    /// assert_eq!(Resolver::of(&[]).resolve(*b"ENG", 14441111), None);
-    /// ```
-    pub fn resolve(&self, tag: Tag, date: Date) -> Option<Resolved> {
-        self.0.resolve(save::tag(tag), save::date(date)).map(resolved)
-    }
-
-    /// Plain initial.
-    ///
-    /// ```
-    /// use chronicle_oracle::rust::Resolver;
-    ///
-    /// assert_eq!(Resolver::of(&[]).initial(*b"ENG"), None);
-    /// ```
-    pub fn initial(&self, tag: Tag) -> Option<Resolved> {
-        self.0.initial(save::tag(tag)).map(resolved)
-    }
-
-    /// Resolve of the resolver set to a day.
-    ///
-    /// ```
-    /// use chronicle_oracle::rust::Resolver;
-    ///
-    /// assert_eq!(Resolver::of(&[]).resolve_at(14441111, *b"ENG", 14441111), None);
-    /// ```
-    pub fn resolve_at(&self, day: Date, tag: Tag, date: Date) -> Option<Resolved> {
-        self.0.at(save::date(day)).resolve(save::tag(tag), save::date(date)).map(resolved)
-    }
-
-    /// Initial of the resolver set to a day.
-    ///
-    /// ```
-    /// use chronicle_oracle::rust::Resolver;
-    ///
-    /// assert_eq!(Resolver::of(&[]).initial_at(14441111, *b"ENG"), None);
-    /// ```
-    pub fn initial_at(&self, day: Date, tag: Tag) -> Option<Resolved> {
-        self.0.at(save::date(day)).initial(save::tag(tag)).map(resolved)
-    }
-}
-
-fn resolved(data: TagData) -> Resolved {
-    Resolved { current: bytes(data.current), stored: bytes(data.stored) }
 }
 
 /// A tag's three bytes.

@@ -1,0 +1,60 @@
+//! `province_owners`.
+
+use std::hint::black_box;
+
+use chronicle_host::extremes::{in_order, owners, reversed, rising};
+use chronicle_host::pack::{pack, Campaign};
+use chronicle_oracle::rust::Rust;
+
+use crate::race::{self, heading, spent, Timed};
+
+/// How the province rows stand, and what puts them so; they are drawn shuffled.
+type Order = (&'static str, fn(Campaign) -> Campaign);
+
+const ORDERS: [Order; 3] =
+    [("in order", in_order), ("in reverse", reversed), ("shuffled", |campaign| campaign)];
+
+/// Owner events in a growing record.
+pub const GROWTH: [usize; 4] = [7_500, 15_000, 30_000, 60_000];
+
+/// The ratio that is asked for first: the whole record is countries, provinces and owner events.
+pub fn all(rounds: usize) {
+    heading("province_owners: C = 2,000, P = 8,000, E = 60,000");
+    let drawn = owners(60_000, 1);
+    race("dates as drawn", &drawn, 60_000, rounds);
+    race("dates rising", &rising(drawn), 60_000, rounds);
+    for (order, arranged) in ORDERS {
+        heading(&format!("province_owners: growth, provinces {order}"));
+        for events in GROWTH {
+            race(&format!("{events} events"), &arranged(owners(events, 1)), events, rounds);
+        }
+    }
+}
+
+fn race(name: &str, campaign: &Campaign, rows: usize, rounds: usize) {
+    let (rust, record) = (Rust::of(campaign), pack(campaign));
+    let ours = &mut || ours(&record, campaign);
+    race::race(name, rows, rounds, &mut || Some(theirs(&rust)), ours);
+}
+
+fn theirs(rust: &Rust) -> Timed {
+    let before = spent();
+    let owners = black_box(black_box(rust).owners());
+    let time = spent() - before;
+    (owners.changes.len(), time)
+}
+
+#[cfg(not(feature = "province_owners"))]
+fn ours(_: &[u8], _: &Campaign) -> Option<Timed> {
+    None
+}
+
+#[cfg(feature = "province_owners")]
+fn ours(record: &[u8], campaign: &Campaign) -> Option<Timed> {
+    let events: usize = campaign.provinces.iter().map(|province| province.events.len()).sum();
+    let mut out = vec![0; 4 * events];
+    let before = spent();
+    let rows = black_box(chronicle_host::province_owners(black_box(record), &mut out));
+    let time = spent() - before;
+    Some((rows.expect("there is room for every event"), time))
+}

@@ -1,0 +1,213 @@
+//! The stored sample of what is answered of lent chronicles, which the proved program replays
+//! without Rust at hand: the resolver's answers and war bookings, as the Rust gives them.
+//!
+//! One file, vectors back to back; every number is 32 bits, low byte first. A vector has
+//!
+//! - how many numbers follow;
+//! - ten of them: its kind (0 resolver, 1 bookings), 1 if an answer is falsified, nation words,
+//!   entry words, questions asked one at a time, words of questions asked at once, cells lent for
+//!   the answers to those or for bookings, their refusal's number or 0, words of their answers,
+//!   bytes of the record;
+//! - the nation words and the entry words;
+//! - seven words for each question asked one at a time: form (0 resolve, 1 initial, 2 and 3 the
+//!   same set to a day), day, tag, date, and the answer: the refusal's number or 0, current and
+//!   stored tag or zeros; what a form does not take is 0;
+//! - the questions asked at once, tag and date each;
+//! - the answers to those, two words each, or the bookings, three words each;
+//! - the bytes of the record, which only bookings have.
+//!
+//! What is refused is refused by 01 alone: the Rust has no say in it.
+
+mod bookings;
+mod resolver;
+
+use chronicle_host::adversary::{draw, tags_of};
+use chronicle_host::generate::Random;
+use chronicle_host::lists::altered;
+use chronicle_host::model::nations_told;
+use chronicle_host::pack::{Campaign, Tag};
+use chronicle_host::rows::{Nation, Question, Resolved};
+use chronicle_host::Refusal;
+
+use crate::rust::Rust;
+use crate::vectors;
+
+const SEED: u64 = 1448;
+
+/// Campaigns whose chronicles are lent to the resolver, and to bookings; each as it is and altered.
+const ASKED: usize = 120;
+const BOOKED: usize = 60;
+
+/// Of so many campaigns one's are stored with a falsified answer as well, and one's for each way to
+/// be refused.
+const EVERY: usize = 8;
+
+/// The tag of no campaign that is drawn.
+const NOBODY: Tag = *b"0zZ";
+
+/// What an answer tells, or a refusal.
+type Outcome<T> = Result<T, Refusal>;
+
+/// What a vector is about.
+#[derive(Clone, Copy, Debug, PartialEq, Eq)]
+#[allow(missing_docs)]
+pub enum Kind {
+    Resolver,
+    Bookings,
+}
+
+/// What is asked about a lent chronicle, and what is to be answered.
+#[derive(Clone, Debug)]
+#[allow(missing_docs)]
+pub struct Vector {
+    pub kind: Kind,
+    pub falsified: bool,
+    pub record: Vec<u8>,
+    pub nations: Vec<u32>,
+    pub entries: Vec<u32>,
+    pub single: Vec<(Question, Outcome<Option<Resolved>>)>,
+    pub many: Vec<u32>,
+    /// Cells lent for the answers to the many, or for bookings.
+    pub room: usize,
+    pub answers: Outcome<Vec<u32>>,
+}
+
+/// The list, the same every time.
+///
+/// ```
+/// use chronicle_oracle::lent_vectors::{list, Kind};
+///
+/// for kind in [Kind::Resolver, Kind::Bookings] {
+///     let vectors: Vec<_> = list().into_iter().filter(|vector| vector.kind == kind).collect();
+///     let refused = |number: u8| {
+///         vectors.iter().any(|v| v.answers.as_ref().is_err_and(|r| r.number() == number))
+///     };
+///     assert!([10, 11].into_iter().all(refused));
+///     assert!(vectors.iter().any(|vector| vector.falsified));
+/// }
+/// ```
+pub fn list() -> Vec<Vector> {
+    let mut random = Random::new(SEED);
+    let mut list = Vec::new();
+    for (number, (campaign, _)) in vectors::list().into_iter().take(ASKED).enumerate() {
+        for nations in lent(&mut random, &campaign) {
+            let vector = resolver::asked(&mut random, &campaign, &nations);
+            let other = resolver::OTHERS.get(number % EVERY);
+            list.extend(other.map(|other| other(&mut random, &vector)));
+            list.push(vector);
+        }
+    }
+    for number in 0..BOOKED {
+        let campaign = at_war(&mut random);
+        for nations in lent(&mut random, &campaign) {
+            let vector = bookings::booked(&mut random, &campaign, &nations);
+            let other = bookings::OTHERS.get(number % EVERY);
+            list.extend(other.map(|other| other(&mut random, &vector)));
+            list.push(vector);
+        }
+    }
+    list
+}
+
+/// The file.
+///
+/// ```
+/// use chronicle_oracle::lent_vectors::file;
+///
+/// assert!(file().len() < 400_000);
+/// ```
+pub fn file() -> Vec<u8> {
+    list().iter().flat_map(Vector::bytes).collect()
+}
+
+/// A campaign's own nations, and these told anew.
+fn lent(random: &mut Random, campaign: &Campaign) -> [Vec<Nation>; 2] {
+    let rust = Rust::of(campaign);
+    let nations = rust.nations(&rust.owners());
+    let altered = altered(random, &nations, &tags_of(campaign));
+    [nations, altered]
+}
+
+/// Draws until somebody enters a war.
+fn at_war(random: &mut Random) -> Campaign {
+    loop {
+        let campaign = draw(random);
+        let mut events = campaign.wars.iter().flat_map(|war| &war.events);
+        if events.any(|event| event.kind < 2) {
+            return campaign;
+        }
+    }
+}
+
+/// Changes, cuts off or adds words until they are no chronicle's.
+fn spoil(random: &mut Random, nations: &mut Vec<u32>, entries: &mut Vec<u32>) {
+    while nations_told(nations, entries).is_some() {
+        let words = match random.below(2) {
+            0 => &mut *nations,
+            _ => &mut *entries,
+        };
+        let any = random.pick(&[0, 1, 3, 14440229, 0x45_4e_47, u32::MAX]);
+        match random.below(4) {
+            0 => words.push(any),
+            1 => _ = words.pop(),
+            _ if words.is_empty() => {}
+            _ => {
+                let place = random.below(words.len());
+                words[place] = any;
+            }
+        }
+    }
+}
+
+/// A cell too few for the answers, or none at all.
+fn without_room(random: &mut Random, vector: &Vector) -> Vector {
+    let needed = vector.answers.as_ref().map_or(0, Vec::len);
+    let room = random.pick(&[0, needed - 1]);
+    Vector { room, answers: Err(Refusal::NoRoom), ..vector.clone() }
+}
+
+impl Vector {
+    /// As it is stored.
+    fn bytes(&self) -> Vec<u8> {
+        let answers = self.answers.as_deref().unwrap_or_default();
+        let head = [
+            self.kind as u32,
+            u32::from(self.falsified),
+            count(self.nations.len()),
+            count(self.entries.len()),
+            count(self.single.len()),
+            count(self.many.len()),
+            count(self.room),
+            number(&self.answers),
+            count(answers.len()),
+            count(self.record.len()),
+        ];
+        let single = self.single.iter().flat_map(|(question, answer)| row(*question, *answer));
+        let mut words: Vec<u32> = [&head[..], &self.nations, &self.entries].concat();
+        words.extend(single);
+        words.extend([&self.many, answers].concat());
+        words.insert(0, count(words.len()));
+        let mut bytes: Vec<u8> = words.into_iter().flat_map(u32::to_le_bytes).collect();
+        bytes.extend(&self.record);
+        bytes
+    }
+}
+
+fn row(question: Question, answer: Outcome<Option<Resolved>>) -> [u32; 7] {
+    let [form, day, tag, date] = match question {
+        Question::Resolve { tag, date } => [0, 0, tag, date],
+        Question::Initial { tag } => [1, 0, tag, 0],
+        Question::ResolveAt { day, tag, date } => [2, day, tag, date],
+        Question::InitialAt { day, tag } => [3, day, tag, 0],
+    };
+    let [current, stored] = answer.ok().flatten().map_or([0; 2], |found| found.words());
+    [form, day, tag, date, number(&answer), current, stored]
+}
+
+fn number<T>(outcome: &Outcome<T>) -> u32 {
+    outcome.as_ref().err().map_or(0, |refusal| u32::from(refusal.number()))
+}
+
+fn count(length: usize) -> u32 {
+    u32::try_from(length).expect("a vector is short")
+}
