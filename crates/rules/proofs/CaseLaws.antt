@@ -7,52 +7,52 @@ use Rattle.format.specs.Campaign.{Campaign}
 use Rattle.rules.specs.Changes.{changesOf}
 use Rattle.rules.specs.Nations.{nationsOf}
 use Rattle.rules.specs.PageOutcomes.{limitsNumber}
-use Rattle.rules.specs.CaseForms.{Hold}
-use Rattle.rules.specs.RecordCases.{changeCases, eventsOnCases, nationCases, holderCases, wornCases, dayCases, countedCases}
-use Rattle.rules.specs.LentCases.{resolveCases, dayResolveCases, askedCases, shapeCases, misshapenCases, bookingCases, ledgerCases}
-use Rattle.rules.specs.PlayerCases.{playerCases, releaseCases, historyCases, startingCases, startingShapeCases}
-use Rattle.rules.specs.PageCases.{pageCases, pageRoomCases, bytesCases}
+use Rattle.rules.specs.cases.CaseForms.{Hold}
+use Rattle.rules.specs.cases.RecordCases.{changeCases, eventsOnCases, nationCases, holderCases, wornCases, dayCases, countedCases}
+use Rattle.rules.specs.cases.LentCases.{resolveCases, dayResolveCases, askedCases, shapeCases, misshapenCases, bookingCases, ledgerCases}
+use Rattle.rules.specs.cases.PlayerCases.{playerCases, releaseCases, historyCases, startingCases, startingShapeCases}
+use Rattle.rules.specs.cases.PageCases.{pageCases, pageRoomCases, bytesCases}
 use Rattle.rules.proofs.Computes.{computes}
 
 pub changes : Hold changeCases × Hold eventsOnCases
 unfolding computes changeCases eventsOnCases
-changes = (refl, refl)
+changes = ((refl, (refl, (refl, (refl, tt)))), (refl, (refl, (refl, (refl, (refl, (refl, (refl, tt))))))))
 
 pub nations : Hold nationCases
 unfolding computes nationCases
-nations = refl
+nations = (refl, (refl, (refl, (refl, (refl, (refl, (refl, (refl, tt))))))))
 
 pub days : Hold holderCases × Hold wornCases × Hold dayCases × Hold countedCases
 unfolding computes holderCases wornCases dayCases countedCases
-days = (refl, refl, refl, refl)
+days = ((refl, (refl, (refl, (refl, (refl, tt))))), (refl, (refl, (refl, (refl, tt)))), (refl, (refl, (refl, (refl, (refl, (refl, (refl, tt))))))), (refl, (refl, (refl, tt))))
 
 pub resolver : Hold resolveCases × Hold dayResolveCases × Hold askedCases
 unfolding computes resolveCases dayResolveCases askedCases
-resolver = (refl, refl, refl)
+resolver = ((refl, (refl, (refl, (refl, (refl, (refl, (refl, (refl, (refl, (refl, tt)))))))))), (refl, (refl, (refl, (refl, (refl, (refl, (refl, (refl, (refl, tt))))))))), (refl, (refl, (refl, (refl, (refl, (refl, (refl, (refl, tt)))))))))
 
 pub shapes : Hold shapeCases × Hold misshapenCases
 unfolding computes shapeCases misshapenCases
-shapes = (refl, refl)
+shapes = ((refl, (refl, tt)), (refl, (refl, (refl, tt))))
 
 pub bookings : Hold bookingCases
 unfolding computes bookingCases
-bookings = refl
+bookings = (refl, (refl, (refl, (refl, (refl, tt)))))
 
 pub ledger : Hold ledgerCases
 unfolding computes ledgerCases
-ledger = refl
+ledger = (refl, (refl, (refl, (refl, (refl, (refl, (refl, (refl, (refl, tt)))))))))
 
 pub players : Hold playerCases × Hold releaseCases × Hold historyCases
 unfolding computes playerCases releaseCases historyCases
-players = (refl, refl, refl)
+players = ((refl, (refl, (refl, (refl, tt)))), (refl, (refl, (refl, (refl, (refl, (refl, (refl, (refl, (refl, tt))))))))), (refl, (refl, (refl, (refl, (refl, tt))))))
 
 pub starting : Hold startingCases × Hold startingShapeCases
 unfolding computes startingCases startingShapeCases
-starting = (refl, refl)
+starting = ((refl, (refl, (refl, (refl, (refl, (refl, tt)))))), (refl, (refl, (refl, (refl, (refl, (refl, tt)))))))
 
 pub page : Hold pageCases × Hold pageRoomCases × Hold bytesCases
 unfolding computes pageCases pageRoomCases bytesCases
-page = (refl, refl, refl)
+page = ((refl, (refl, (refl, (refl, (refl, (refl, (refl, (refl, (refl, (refl, (refl, tt))))))))))), (refl, (refl, (refl, tt))), (refl, (refl, (refl, tt))))
 
 -- All of them.
 pub cases :

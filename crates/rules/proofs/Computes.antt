@@ -12,7 +12,7 @@ use Rattle.rules.specs.Players.{pairsFrom, playerOf, playersOf, playerRo
 use Rattle.rules.specs.Histories.{historyOf, namesOf, playedHistories, isReleased, arranged, historiesOf, namesIn}
 use Rattle.rules.specs.HistoryRows.{historyRowsFrom, historyWords, historyRowsIn, historiesShaped}
 use Rattle.rules.specs.StartingCountry.{startingOf, startingCountry}
-use Rattle.rules.specs.Outcomes.{callProvinceOwners, callEventsOn, answersOf, cellsOf, countsOf, callNationEvents, callResolve, callInitial, callResolveOn, callInitialOn, callWarParticipants, callNationLedger}
+use Rattle.rules.specs.Outcomes.{callProvinceOwners, callEventsOn, answersOf, cellsOf, countsOf, callNationEvents, callResolve, callInitial, callResolveOn, callInitialOn, callWarParticipants, callNationLedger, callNationLedgerRows, ledgerCellsOf, callNationLedgers}
 use Rattle.rules.specs.Questions.{questionsIn, answerRows, callResolveEach}
 use Rattle.rules.specs.PlayerOutcomes.{callPlayers, historyCellsOf, historyCountsOf, callPlayerHistories, callStartingCountry}
 use Rattle.rules.specs.Page.{selectionOf, digits, line, isLiving, tagLine, pageText}
@@ -29,6 +29,6 @@ unfolding
     historyOf namesOf playedHistories isReleased arranged historiesOf namesIn historyRowsFrom historyWords historyRowsIn historiesShaped
     startingOf startingCountry
     callProvinceOwners callEventsOn answersOf cellsOf countsOf callNationEvents callResolve callInitial callResolveOn callInitialOn
-    callWarParticipants callNationLedger questionsIn answerRows callResolveEach callPlayers historyCellsOf historyCountsOf callPlayerHistories callStartingCountry
+    callWarParticipants callNationLedger callNationLedgerRows ledgerCellsOf callNationLedgers questionsIn answerRows callResolveEach callPlayers historyCellsOf historyCountsOf callPlayerHistories callStartingCountry
     selectionOf digits line isLiving tagLine pageText bytesNumber limitsNumber pageNumber pageOf callPage callProgram
 computes = Type 0

@@ -16,9 +16,9 @@ use Rattle.rules.specs.NationRows.{nationsIn}
 use Rattle.rules.specs.Bookings.{Booking}
 use Rattle.rules.specs.Outcomes.{NationCells, Counts, callNationEvents, callResolveOn, callWarParticipants}
 use Rattle.rules.specs.Demand.{counted, nationsGiven, entriesGiven, changesGiven, bookingsGiven, Chronicled, Demand3}
-use Rattle.rules.specs.Worked.{ENG, GBR, FRA, dated, startsOn, workedWars}
+use Rattle.rules.specs.cases.Worked.{ENG, GBR, FRA, dated, startsOn, workedWars}
 use Rattle.rules.specs.Table.{sevens}
-use Rattle.rules.specs.CaseForms.{change, nation, turned, came, went, rows}
+use Rattle.rules.specs.cases.CaseForms.{change, nation, turned, came, went, rows}
 use Rattle.rules.proofs.Computes.{computes}
 use Rattle.rules.proofs.DemandLaws.{demand3}
 

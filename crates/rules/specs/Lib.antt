@@ -16,13 +16,7 @@ pub mod Outcomes
 pub mod Questions
 pub mod PlayerOutcomes
 pub mod Demand
-pub mod Packing
-pub mod Worked
+pub mod cases
 pub mod Page
 pub mod PageOutcomes
 pub mod Table
-pub mod CaseForms
-pub mod RecordCases
-pub mod LentCases
-pub mod PlayerCases
-pub mod PageCases

@@ -4,7 +4,7 @@
 use mathlib.Core.Bool.{Bool, _&&_}
 use mathlib.Core.List.{List, [], _∷_, map}
 use mathlib.Core.Option.{Option, none, some}
-use Prim.Native.Nat.{ℕ}
+use Prim.Native.Nat.{ℕ, min}
 use lib.ListN.{length, getElem?}
 use Rattle.lists.specs.Lists.{joinOf}
 use Rattle.format.specs.declared.tag.CountryTag.{CountryTag}
@@ -164,3 +164,39 @@ callNationLedger xs ws es number before =
     let rows = pointRows points in
     outcome (firstOf (refusal xs ∷ chronicleNumber ws es ∷ askedNationNumber nation ∷ roomNumber (fits rows before) ∷ []))
     (length points) (written rows before) before
+
+-- ## `nation_ledger_rows`: how many points `nation_ledger` would give, asked before room is lent
+
+-- No more than a given number is counted. Refused by the record's number, 11, or 13; it is lent nothing.
+unfoldable pub callNationLedgerRows : List ℕ → List ℕ → List ℕ → ℕ → ℕ → Answer ℕ
+callNationLedgerRows xs ws es number most =
+    let nation = getElem? (nationsIn ws es) number in
+    answered (firstOf (refusal xs ∷ chronicleNumber ws es ∷ askedNationNumber nation ∷ []))
+    (min (length (askedPoints (campaignOf xs) nation)) most)
+
+-- ## `nation_ledgers`: the points of every nation in turn, and how many each has
+
+-- The slices that are lent to it, or the words that it writes into each.
+pub record LedgerCells : Type 0 where
+  pub rows : List ℕ
+  pub counts : List ℕ
+
+-- The rows of the first nation, behind them those of the next, and so on; and for each nation the number of its points.
+unfoldable pub ledgerCellsOf : Campaign → List Nation → LedgerCells
+ledgerCellsOf c ns =
+    record { rows = pointRows (joinOf (nationLedger c) ns); counts = map (λ n. length (nationLedger c n)) ns }
+
+-- Refused by the record's number, 11, or 10 where either slice is too short. The answer is the number of all points.
+unfoldable pub callNationLedgers : List ℕ → List ℕ → List ℕ → LedgerCells → Outcome ℕ LedgerCells
+callNationLedgers xs ws es before =
+    let nations = nationsIn ws es in
+    let cells = ledgerCellsOf (campaignOf xs) nations in
+    outcome
+    (firstOf
+    (refusal xs
+    ∷ chronicleNumber ws es
+    ∷ roomNumber (fits (cells .rows) (before .rows) && fits (cells .counts) (before .counts))
+    ∷ []))
+    (length (joinOf (nationLedger (campaignOf xs)) nations))
+    (record { rows = written (cells .rows) (before .rows); counts = written (cells .counts) (before .counts) })
+    before

@@ -14,7 +14,7 @@ use Rattle.rules.specs.Players.{playersOf, playerRows}
 use Rattle.rules.specs.Histories.{History, historiesOf, namesIn}
 use Rattle.rules.specs.HistoryRows.{historyWords, historyRowsIn}
 use Rattle.rules.specs.StartingCountry.{startingCountry}
-use Rattle.rules.specs.Refusals.{chronicleNumber, historiesNumber}
+use Rattle.rules.specs.Refusals.{chronicleNumber, historiesNumber, numberedNumber}
 
 -- ## `players`: the number of players, and their rows
 
@@ -57,9 +57,10 @@ historyCountsOf hs = record { histories = length hs; names = length (namesIn hs)
 -- Refused by the record's number, 11, or 10. It is given the record, the nation and entry words, and the lent slices.
 unfoldable pub callPlayerHistories : List ℕ → List ℕ → List ℕ → HistoryCells → Outcome HistoryCounts HistoryCells
 callPlayerHistories xs ws es before =
-    let histories = historiesOf (campaignOf xs) (nationsIn ws es) in
+    let nations = nationsIn ws es in
+    let histories = historiesOf (campaignOf xs) nations in
     let cells = historyCellsOf histories in
-    outcome (firstOf (refusal xs ∷ chronicleNumber ws es ∷ roomNumber (bothFit cells before) ∷ []))
+    outcome (firstOf (refusal xs ∷ chronicleNumber ws es ∷ numberedNumber nations ∷ roomNumber (bothFit cells before) ∷ []))
     (historyCountsOf histories) (bothWritten cells before) before
 
 -- ## `starting_country`: its tag, or none

@@ -4,6 +4,8 @@ use mathlib.Core.Bool.{cond}
 use mathlib.Core.List.{List}
 use mathlib.Core.Option.{Option, none, some}
 use Prim.Native.Nat.{ℕ}
+use lib.Dec.{leb}
+use lib.ListN.{length}
 use Rattle.format.specs.declared.tag.CountryTag.{CountryTag}
 use Rattle.format.specs.declared.date.Eu4Date.{Eu4Date}
 use Rattle.format.specs.Tags.{isTag}
@@ -19,6 +21,11 @@ chronicleNumber ws es = cond (wellShaped ws es) 0 11
 -- 11: history rows not well shaped, with the nations that they point at.
 abbrev pub historiesNumber : List Nation → List ℕ → ℕ
 historiesNumber ns hs = cond (historiesShaped ns hs) 0 11
+
+-- 11: more nations than the words of history rows can number. Such a row points at a nation by one word, its number plus 1.
+-- (DECISIONS, 'Histories of a chronicle that no word can number'.)
+abbrev pub numberedNumber : List Nation → ℕ
+numberedNumber ns = cond (leb (length ns) 4294967295) 0 11
 
 -- A question's tag or date, given as a word.
 abbrev pub askedTag : ℕ → CountryTag

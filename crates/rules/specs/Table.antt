@@ -20,7 +20,7 @@ use Rattle.rules.specs.Holding.{wears}
 use Rattle.rules.specs.Resolver.{TagData}
 use Rattle.rules.specs.Outcomes.{callResolve, callResolveOn, callInitialOn, callNationLedger}
 use Rattle.rules.specs.Demand.{isNamed}
-use Rattle.rules.specs.Worked.{ENG, GBR, dated, worked, startsOn, workedLedger, sameDay}
+use Rattle.rules.specs.cases.Worked.{ENG, GBR, dated, worked, startsOn, workedLedger, sameDay}
 use Rattle.rules.specs.PageOutcomes.{callPage, callProgram}
 
 -- ## What is asked

@@ -7,9 +7,9 @@ use Prim.Native.String.{String}
 use Rattle.rules.specs.Lent.{Answer, gives, refused, Outcome}
 use Rattle.rules.specs.Resolver.{TagData}
 use Rattle.rules.specs.Outcomes.{callResolve, callInitial, callResolveOn, callInitialOn, callWarParticipants, callNationLedger}
-use Rattle.rules.specs.Packing.{tagged, word, DraftWarEvent, DraftLedger, war, point, ledger, packed}
+use Rattle.rules.specs.cases.Packing.{tagged, word, DraftWarEvent, DraftLedger, war, point, ledger, packed}
 use Rattle.rules.specs.Table.{sevens}
-use Rattle.rules.specs.CaseForms.{Case, case, spoiled, nation, turned, came, went, rows, wrote, kept}
+use Rattle.rules.specs.cases.CaseForms.{Case, case, spoiled, nation, turned, came, went, rows, wrote, kept}
 
 -- The words of a chronicle.
 record Told : Type 0 where

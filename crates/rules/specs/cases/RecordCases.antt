@@ -15,10 +15,10 @@ use Rattle.rules.specs.NationRows.{nationsIn}
 use Rattle.rules.specs.Holding.{holderOn, holdsOn, wears}
 use Rattle.rules.specs.Demand.{counted, isNamed}
 use Rattle.rules.specs.Outcomes.{callProvinceOwners, callEventsOn, NationCells, Counts, callNationEvents}
-use Rattle.rules.specs.Packing.{tagged, word, DraftCountry, DraftProvince, on, country, province, packed}
-use Rattle.rules.specs.Worked.{dated, worked}
+use Rattle.rules.specs.cases.Packing.{tagged, word, DraftCountry, DraftProvince, on, country, province, packed}
+use Rattle.rules.specs.cases.Worked.{dated, worked}
 use Rattle.rules.specs.Table.{sevens}
-use Rattle.rules.specs.CaseForms.{Case, case, spoiled, change, nation, turned, came, went, rows, wrote, kept}
+use Rattle.rules.specs.cases.CaseForms.{Case, case, spoiled, change, nation, turned, came, went, rows, wrote, kept}
 
 -- A record of countries and provinces, from 14440101 to 14500101.
 abbrev landed : List DraftCountry → List DraftProvince → List ℕ

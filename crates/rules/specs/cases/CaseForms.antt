@@ -7,7 +7,7 @@ use Prim.Native.String.{String}
 use lib.ListN.{take, drop}
 use Rattle.lists.specs.Lists.{joinOf}
 use Rattle.rules.specs.Lent.{gives, refused, Outcome}
-use Rattle.rules.specs.Packing.{word}
+use Rattle.rules.specs.cases.Packing.{word}
 use Rattle.rules.specs.Table.{sevens}
 
 -- A case: what the rules compute, and what is expected.
@@ -20,7 +20,8 @@ case computed expected = record { computed = computed; expected = expected }
 
 -- Each case of a list is as expected.
 abbrev pub Hold : {A : Type 0} → List (Case A) → Type 0
-Hold cs = map (λ c. c .computed) cs ≡ map (λ c. c .expected) cs
+Hold [] = Unit {0}
+Hold (c ∷ cs) = (c .computed ≡ c .expected) × Hold cs
 
 -- A record in version 2: refused by that number, though each of its rows can be read.
 abbrev pub spoiled : List ℕ → List ℕ

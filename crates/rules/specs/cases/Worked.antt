@@ -3,7 +3,7 @@ use mathlib.Core.List.{List, [], _∷_}
 use Prim.Native.Nat.{ℕ}
 use Rattle.format.specs.declared.tag.CountryTag.{CountryTag}
 use Rattle.format.specs.declared.date.Eu4Date.{Eu4Date}
-use Rattle.rules.specs.Packing.{tagged, DraftWarEvent, DraftLedger, on, country, province, war, point, ledger, packed}
+use Rattle.rules.specs.cases.Packing.{tagged, DraftWarEvent, DraftLedger, on, country, province, war, point, ledger, packed}
 
 -- The tags of the cases.
 abbrev pub ENG : CountryTag

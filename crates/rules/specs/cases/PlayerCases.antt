@@ -6,9 +6,9 @@ use Prim.Native.String.{String}
 use Rattle.format.specs.declared.tag.CountryTag.{CountryTag}
 use Rattle.rules.specs.Lent.{Answer, gives, refused, Outcome}
 use Rattle.rules.specs.PlayerOutcomes.{callPlayers, HistoryCells, HistoryCounts, callPlayerHistories, callStartingCountry}
-use Rattle.rules.specs.Packing.{tagged, word, DraftCountry, played, packed}
+use Rattle.rules.specs.cases.Packing.{tagged, word, DraftCountry, played, packed}
 use Rattle.rules.specs.Table.{sevens}
-use Rattle.rules.specs.CaseForms.{Case, case, spoiled, nation, turned, came, went, rows, wrote, kept}
+use Rattle.rules.specs.cases.CaseForms.{Case, case, spoiled, nation, turned, came, went, rows, wrote, kept}
 
 -- A record of countries and strings, with flags: 1 ironman, 2 multiplayer.
 abbrev named : ℕ → List DraftCountry → List String → List ℕ

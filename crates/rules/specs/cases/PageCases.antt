@@ -8,10 +8,10 @@ use Rattle.lists.specs.Lists.{joinOf}
 use Rattle.lists.specs.Text.{ascii}
 use Rattle.rules.specs.Lent.{gives, Outcome}
 use Rattle.rules.specs.PageOutcomes.{callPage, callProgram}
-use Rattle.rules.specs.Worked.{worked}
-use Rattle.rules.specs.RecordCases.{realms}
+use Rattle.rules.specs.cases.Worked.{worked}
+use Rattle.rules.specs.cases.RecordCases.{realms}
 use Rattle.rules.specs.Table.{sevens}
-use Rattle.rules.specs.CaseForms.{Case, case, spoiled, kept}
+use Rattle.rules.specs.cases.CaseForms.{Case, case, spoiled, kept}
 
 -- The page that a record and a selection print.
 abbrev page : List ℕ → String → List ℕ
