@@ -138,6 +138,11 @@ module _ {A B : Type 0} where
   map-at f (x ∷ xs) zero = refl
   map-at f (x ∷ xs) (suc i) = map-at f xs i
 
+-- The lists that the elements of a map give.
+pub join-map : {A B C : Type 0} (f : B → List C) (g : A → B) (xs : List A) → joinOf f (map g xs) ≡ joinOf (λ x. f (g x)) xs
+join-map f g [] = refl
+join-map f g (x ∷ xs) = ap (λ (l : List _). f (g x) ++ l) (join-map f g xs)
+
 pub map-then : {A B C : Type 0} (f : A → B) (g : B → C) (xs : List A) → map g (map f xs) ≡ map (λ a. g (f a)) xs
 map-then f g [] = refl
 map-then f g (x ∷ xs) = ap (λ (l : List _). g (f x) ∷ l) (map-then f g xs)

@@ -10,4 +10,3 @@ pub mod GoodLaws
 pub mod RowsLaws
 pub mod BetweenLaws
 pub mod ResolveEachLaws
-pub mod SearchLaws

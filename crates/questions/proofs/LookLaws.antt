@@ -13,7 +13,8 @@ use Rattle.sorting.specs.Sort.{sortBy}
 use Rattle.sorting.proofs.SortedKeyLaws.{sorted-up}
 use Rattle.format.specs.declared.tag.CountryTag.{CountryTag}
 use Rattle.format.specs.declared.date.Eu4Date.{Eu4Date}
-use Rattle.questions.specs.Keys.{lowestKey, CountsBelow, isAskedKey, lastAsked}
+use Rattle.search.specs.Halving.{CountsBelow}
+use Rattle.questions.specs.Keys.{lowestKey, isAskedKey, lastAsked}
 
 -- The count that a search for an odd number gives, where that is the highest key of a tag and a date.
 pub odd-upto : (tag : CountryTag) (date : Eu4Date) (keys : List ℕ) (key i : ℕ) → key ≡ lowestKey tag date → CountsBelow keys ((key + 65535) / 2 * 2 + 2) i

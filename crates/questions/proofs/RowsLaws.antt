@@ -12,7 +12,7 @@ use lib.ListN.{length, drop, getD, List·getD-append}
 use lib.Seq.{drop-at}
 use Rattle.lists.specs.Lists.{All, allOf, joinOf, numbersFrom, keep}
 use Rattle.lists.proofs.BoolLaws.{and-left, and-right}
-use Rattle.lists.proofs.ListLaws.{all-map, all-keep, join-same, length-join, rows-join, row-at, length-numbers, numbers-at}
+use Rattle.lists.proofs.ListLaws.{all-map, all-keep, join-map, join-same, length-join, rows-join, row-at, length-numbers, numbers-at}
 use Rattle.sorting.specs.Sort.{sortBy}
 use Rattle.format.specs.declared.tag.CountryTag.{CountryTag}
 use Rattle.format.specs.declared.date.Eu4Date.{Eu4Date}
@@ -157,7 +157,3 @@ module _ (ws es : List ℕ) (shaped : wellShaped ws es ≡ true) where
       all-every : {P : ℕ → Type 0} (is : List ℕ) → ((i : ℕ) → P i) → All P is
       all-every [] f = tt
       all-every (i ∷ is) f = (f i, all-every is f)
-
-      join-map : (f : Question → List ℕ) (g : ℕ → Question) (is : List ℕ) → joinOf f (map g is) ≡ joinOf (λ i. f (g i)) is
-      join-map f g [] = refl
-      join-map f g (i ∷ is) = ap (λ (l : List ℕ). f (g i) ++ l) (join-map f g is)

@@ -4,10 +4,10 @@ use mathlib.Core.Path.{_≡_}
 use mathlib.Core.Bool.{Bool, _&&_}
 use mathlib.Core.List.{List, [], _∷_, map}
 use mathlib.Core.Option.{Option, none, some}
-use Prim.Native.Nat.{ℕ, _+_, _*_, _/_, _%_, _≤_, min}
+use Prim.Native.Nat.{ℕ, _+_, _*_, _/_, _%_, min}
 use lib.Dec.{leb, ltb}
 use lib.ListN.{length, take, drop}
-use Rattle.lists.specs.Lists.{keep, countOf, last}
+use Rattle.lists.specs.Lists.{keep, last}
 use Rattle.sorting.specs.Sort.{sortBy, cleared}
 use Rattle.format.specs.declared.tag.CountryTag.{CountryTag}
 use Rattle.format.specs.declared.date.Eu4Date.{Eu4Date}
@@ -46,11 +46,6 @@ pub record SortsBlock (left rest : List Claim) (room count : ℕ) (keys₀ keys�
 -- The room of a block: both slices must hold its claims, and a number takes 16 bits.
 abbrev pub roomOf : List ℕ → List ℕ → ℕ
 roomOf keys owners = min (min (length keys) (length owners)) 65536
-
--- How many keys are below a number, if they are in order; never more than there are.
-pub record CountsBelow (keys : List ℕ) (x count : ℕ) : Type 0 where
-  pub inside : count ≤ length keys
-  pub counted : sortBy leb keys ≡ keys → count ≡ countOf (λ k. ltb k x) keys
 
 -- The keys to a tag that are dated not after a date, of a claim with any number.
 abbrev pub isAskedKey : CountryTag → Eu4Date → ℕ → Bool

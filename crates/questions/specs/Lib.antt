@@ -2,4 +2,3 @@ pub mod Cases
 pub mod Asked
 pub mod Keys
 pub mod Passes
-pub mod Search

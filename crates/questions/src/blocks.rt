@@ -1,17 +1,18 @@
 // Blocks of claims as sorted keys. A key holds a claim's tag, date and number in the block, so that the claims to a tag stand together
 // in the order of their dates, those of one date in list order.
-use crate::search;
 use record::CountryTag;
 use record::Eu4Date;
 use resolver::NextClaim;
 use resolver::Walk;
+use search::count_near;
 use sorting::sort_keys;
 ghost use mathlib.Core.Path.{_≡_};
 ghost use Prim.Native.Nat.{_+_, _<_, _≤_, min};
 ghost use lib.Dec.{leb};
 ghost use Rattle.sorting.specs.Sort.{sortBy};
+ghost use Rattle.search.specs.Halving.{CountsBelow};
 ghost use Rattle.resolver.specs.Claims.{claimsLeft};
-ghost use Rattle.questions.specs.Keys.{tagBits, lowestKey, Fills, SortsBlock, roomOf, CountsBelow, lastAsked, lookedTold};
+ghost use Rattle.questions.specs.Keys.{tagBits, lowestKey, Fills, SortsBlock, roomOf, lastAsked, lookedTold};
 
 // How many claims are sorted at a time: a chronicle at 01's limits is one block.
 pub const BLOCK: usize = 24576;
@@ -122,6 +123,6 @@ fn key_before(keys: &[u64], i: usize, tag: CountryTag, date: Eu4Date) -> Looked
 pub fn look_up_near(keys: &[u64], starts: &[u64], tag: CountryTag, date: Eu4Date) -> Looked
     ensures { λ r. ⌜ (sortBy leb (now (keys .entry)) ≡ now (keys .entry) → lookedTold r ≡ lastAsked tag date (now (keys .entry))) ⌝ }
 {
-    let i = search::count_near(keys, starts, key_of(tag, date) + 65535);
+    let i = count_near(keys, starts, key_of(tag, date) + 65535);
     key_before(keys, i, tag, date)
 }

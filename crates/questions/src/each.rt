@@ -2,14 +2,14 @@
 use crate::asked;
 use crate::blocks;
 use crate::blocks::BLOCK;
-use crate::search;
-use crate::search::CELLS;
 use crate::words;
 use crate::words::Words;
 use chronicle_rows::is_well_shaped;
 use chronicle_rows::nation_count;
 use resolver::Walk;
 use resolver::best_claim;
+use search::CELLS;
+use search::index_block;
 ghost use mathlib.Core.Path.{_≡_};
 ghost use Prim.Native.Nat.{_*_, _≤_};
 ghost use lib.Dec.{leb};
@@ -51,7 +51,7 @@ fn answer_block(questions: &[u32], keys: &[u64], owners: &[u64], out: &mut [u32]
     ensures { λ _. ⌜ now (out .exit) ≡ rowsWith (blockRow (now (questions .entry)) (now (keys .entry)) (now (owners .entry)) (now (out .entry))) (length (questionsIn (now (questions .entry)))) (now (out .entry)) ⌝ }
 {
     let mut starts = [0u64; CELLS];
-    search::index_block(keys, &mut starts);
+    index_block(keys, &mut starts);
     let n = asked::question_count(questions);
     let mut i = 0;
     while i < n {

@@ -3,7 +3,6 @@
 mod asked;
 mod blocks;
 mod each;
-mod search;
 mod words;
 
 pub use asked::Question;
@@ -16,7 +15,5 @@ pub use blocks::look_up_near;
 pub use blocks::sort_block;
 pub use each::Each;
 pub use each::resolve_each;
-pub use search::CELLS;
-pub use search::index_block;
 pub use words::Words;
 pub use words::updated_row;

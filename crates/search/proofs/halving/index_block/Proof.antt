@@ -6,10 +6,10 @@ use native.Mathlib.Nat.{sub-zero}
 use native.Mathlib.Omega.{arith}
 use lib.ListN.{length}
 use Rattle.lists.proofs.FillLaws.{Filling, filling-new, filling-put, filling-whole}
-use Rattle.questions.specs.Search.{startsOf}
-use Rattle.questions.proofs.SearchLaws.{startOf, startsFrom, start-grows, starts-next, starts-none, starts-long}
-use Rattle.questions.proofs.search.index_block.Statement.{statement}
-use Rattle.questions.proofs.search.index_block.Tie as tie
+use Rattle.search.specs.Halving.{startsOf}
+use Rattle.search.proofs.HalvingLaws.{startOf, startsFrom, start-grows, starts-next, starts-none, starts-long}
+use Rattle.search.proofs.halving.index_block.Statement.{statement}
+use Rattle.search.proofs.halving.index_block.Tie as tie
 
 abbrev Inv-loop : tie.InvT-loop
 Inv-loop keys starts₀ at₀ cell₀ starts at cell =

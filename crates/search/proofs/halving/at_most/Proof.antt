@@ -4,9 +4,9 @@ use native.Mathlib.Omega.{arith}
 use Prim.Native.Nat.{_+_, _*_, _/_}
 use lib.Dec.{ltb}
 use Rattle.lists.proofs.ListLaws.{count-le}
-use Rattle.questions.proofs.SearchLaws.{shown-most}
-use Rattle.questions.proofs.search.at_most.Statement.{statement}
-use Rattle.questions.proofs.search.at_most.Tie as tie
+use Rattle.search.proofs.HalvingLaws.{shown-most}
+use Rattle.search.proofs.halving.at_most.Statement.{statement}
+use Rattle.search.proofs.halving.at_most.Tie as tie
 
 returns : tie.Need-returns
 returns c =

@@ -1,8 +1,8 @@
 -- The last of n keys in order tells of all of them.
 use borrow.Author.Needs.{needs}
-use Rattle.questions.proofs.SearchLaws.{shown-least}
-use Rattle.questions.proofs.search.at_least.Statement.{statement}
-use Rattle.questions.proofs.search.at_least.Tie as tie
+use Rattle.search.proofs.HalvingLaws.{shown-least}
+use Rattle.search.proofs.halving.at_least.Statement.{statement}
+use Rattle.search.proofs.halving.at_least.Tie as tie
 
 returns : tie.Need-returns
 returns c = λ t s. search needs

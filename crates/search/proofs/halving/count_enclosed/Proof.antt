@@ -3,10 +3,10 @@ use borrow.Author.Needs.{needs}
 use mathlib.Core.Path.{_≡_, refl}
 use Prim.Native.Nat.{_+_, _-_, _*_, _/_}
 use native.Mathlib.Omega.{arith}
-use Rattle.questions.specs.Search.{Encloses}
-use Rattle.questions.proofs.SearchLaws.{encloses-from, encloses-one, halved}
-use Rattle.questions.proofs.search.count_enclosed.Statement.{statement}
-use Rattle.questions.proofs.search.count_enclosed.Tie as tie
+use Rattle.search.specs.Halving.{Encloses}
+use Rattle.search.proofs.HalvingLaws.{encloses-from, encloses-one, halved}
+use Rattle.search.proofs.halving.count_enclosed.Statement.{statement}
+use Rattle.search.proofs.halving.count_enclosed.Tie as tie
 
 abbrev Inv-loop : tie.InvT-loop
 Inv-loop keys x from end top base₀ size₀ base size = (top ≡ x / 2 + 9223372036854775808) × Encloses keys (x / 2 * 2 + 2) base (base + size)

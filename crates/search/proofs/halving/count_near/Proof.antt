@@ -1,8 +1,8 @@
 -- Enclosed by the two starts, as the keys beside them show, else by all keys.
 use borrow.Author.Needs.{needs}
-use Rattle.questions.proofs.SearchLaws.{encloses-all, encloses-shown}
-use Rattle.questions.proofs.search.count_near.Statement.{statement}
-use Rattle.questions.proofs.search.count_near.Tie as tie
+use Rattle.search.proofs.HalvingLaws.{encloses-all, encloses-shown}
+use Rattle.search.proofs.halving.count_near.Statement.{statement}
+use Rattle.search.proofs.halving.count_near.Tie as tie
 
 add-if1 : tie.Need-add-if1
 add-if1 c = search needs

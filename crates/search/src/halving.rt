@@ -7,8 +7,7 @@ ghost use lib.Dec.{leb, ltb};
 ghost use lib.ListN.{length};
 ghost use Rattle.lists.specs.Lists.{countOf, leading};
 ghost use Rattle.sorting.specs.Sort.{sortBy};
-ghost use Rattle.questions.specs.Keys.{CountsBelow};
-ghost use Rattle.questions.specs.Search.{Encloses, inCellBefore, startsOf};
+ghost use Rattle.search.specs.Halving.{CountsBelow, Encloses, inCellBefore, startsOf};
 
 // Half of what 64 bits hold.
 const HALF: u64 = 9223372036854775808;
@@ -16,7 +15,7 @@ const HALF: u64 = 9223372036854775808;
 // A cell holds keys with the same first 12 bits.
 const CELL: u64 = 4503599627370496;
 
-// How many starts a block's table has: one for each cell of 64-bit keys, and one behind the last.
+// How many starts a table has: one for each cell of 64-bit keys, and one behind the last.
 pub const CELLS: usize = 4097;
 
 // How far a search goes on: by `half` if the key is at most x, else not at all. `top` is x / 2 + 2^63.
@@ -70,7 +69,7 @@ fn at_most(keys: &[u64], x: u64, n: usize) -> bool
 }
 
 // How many of the keys, which are in order, are at most x: searched for between the starts of x's cell and of the next one, if the keys there show it.
-pub(crate) fn count_near(keys: &[u64], starts: &[u64], x: u64) -> usize
+pub fn count_near(keys: &[u64], starts: &[u64], x: u64) -> usize
     ensures { λ r. ⌜ CountsBelow (now (keys .entry)) (x / 2 * 2 + 2) r ⌝ }
 {
     let cell = (x / CELL) as usize;
@@ -82,6 +81,16 @@ pub(crate) fn count_near(keys: &[u64], starts: &[u64], x: u64) -> usize
         }
     }
     count_enclosed(keys, x, 0, keys.len())
+}
+
+// How many of the keys, which are in order, are below x, an even number.
+pub fn count_below(keys: &[u64], x: u64) -> usize
+    ensures { λ r. ⌜ CountsBelow (now (keys .entry)) (x / 2 * 2) r ⌝ }
+{
+    if x < 2 {
+        return 0;
+    }
+    count_enclosed(keys, x - 2, 0, keys.len())
 }
 
 // From a key on, where the first one stands that is in the cell or behind it.

@@ -1,20 +1,20 @@
 -- A search among keys: the count of those below a number stays enclosed while the two ends move together. And the table of starts, cell by cell.
-use mathlib.Core.Path.{_≡_, refl, sym, ap, _∙_}
+use mathlib.Core.Path.{_≡_, refl, sym, ap}
 use mathlib.Core.Bool.{Bool, true, false, _&&_}
 use mathlib.Core.List.{List, [], _∷_, map}
 use Prim.Native.Nat.{ℕ, zero, suc, _+_, _-_, _*_, _/_, _<_, _≤_}
 use native.Mathlib.Omega.{arith}
-use borrow.Author.Tests.{leb-true, ltb-true, ltb-false, lt-ltb}
+use borrow.Author.Tests.{leb-true, ltb-true, ltb-false, lt-ltb, le-ltb}
 use lib.Dec.{leb, ltb}
 use lib.ListN.{length, getD}
 use Rattle.lists.specs.Lists.{countOf, leading, numbersFrom}
 use Rattle.lists.proofs.BoolLaws.{cases, and-left, and-right}
-use Rattle.lists.proofs.ListLaws.{count-le}
+use Rattle.lists.proofs.ListLaws.{count-le, count-none}
+use Rattle.lists.proofs.EachLaws.{all-each}
 use Rattle.lists.proofs.BoundLaws.{bound-up, bound-down}
 use Rattle.sorting.specs.Sort.{sortBy}
 use Rattle.sorting.proofs.SortedKeyLaws.{sorted-up}
-use Rattle.questions.specs.Keys.{CountsBelow}
-use Rattle.questions.specs.Search.{Encloses, inCellBefore, startsOf}
+use Rattle.search.specs.Halving.{CountsBelow, Encloses, inCellBefore, startsOf}
 
 -- ## One of two products
 
@@ -72,6 +72,15 @@ encloses-one keys x from end e q =
       inside = omega (arith, e .inside);
       counted = λ s. omega (arith, e .low s, e .high s);
     }
+
+-- Below 0 is none, and an even number is found by the one two before it.
+pub none-below : (keys : List ℕ) (x : ℕ) → x < 2 → CountsBelow keys (x / 2 * 2) 0
+none-below keys x h =
+    let e : x / 2 * 2 ≡ 0 = omega arith in
+    rw e (record { inside = omega arith; counted = λ s. sym (count-none (λ k. ltb k 0) keys (all-each (λ k. le-ltb k 0 (omega arith)) keys)) })
+
+pub even-below : (keys : List ℕ) (x n : ℕ) → 2 ≤ x → CountsBelow keys ((x - 2) / 2 * 2 + 2) n → CountsBelow keys (x / 2 * 2) n
+even-below keys x n h k = let e : (x - 2) / 2 * 2 + 2 ≡ x / 2 * 2 = omega arith in rw e at k
 
 -- The key in the middle tells which half the count lies in.
 module _ (keys : List ℕ) (x base size half mid top r : ℕ) (e : Encloses keys (x / 2 * 2 + 2) base (base + size)) (some : 0 < half) (most : half ≤ size)

@@ -1,4 +1,4 @@
--- The search among keys, and the table that narrows it. It renders no rule: inner promises alone cite it.
+-- The search among keys, and the table that narrows it. It renders no rule, and no promise of a call of 01 cites it.
 use mathlib.Core.Path.{_≡_}
 use mathlib.Core.Bool.{Bool}
 use mathlib.Core.List.{List, map}
@@ -22,3 +22,8 @@ inCellBefore cell key = ltb (key / 4503599627370496) cell
 -- For so many cells, how many keys at the front are of cells before each.
 abbrev pub startsOf : List ℕ → ℕ → List ℕ
 startsOf keys cells = map (λ c. length (leading (inCellBefore c) keys)) (numbersFrom 0 cells)
+
+-- How many keys are below a number, if they are in order; never more than there are.
+pub record CountsBelow (keys : List ℕ) (x count : ℕ) : Type 0 where
+  pub inside : count ≤ length keys
+  pub counted : sortBy leb keys ≡ keys → count ≡ countOf (λ k. ltb k x) keys

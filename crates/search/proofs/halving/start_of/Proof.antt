@@ -1,14 +1,13 @@
 -- The invariant: all keys passed are of cells before this one.
 use borrow.Author.Needs.{needs}
-use mathlib.Core.Path.{_≡_}
 use Prim.Native.Nat.{_-_, _≤_}
 use native.Mathlib.Omega.{arith}
 use borrow.Author.Tests.{lt-ltb, le-ltb}
 use lib.ListN.{length}
-use Rattle.questions.specs.Search.{inCellBefore}
-use Rattle.questions.proofs.SearchLaws.{startOf, front-most, front-more, front-stop}
-use Rattle.questions.proofs.search.start_of.Statement.{statement}
-use Rattle.questions.proofs.search.start_of.Tie as tie
+use Rattle.search.specs.Halving.{inCellBefore}
+use Rattle.search.proofs.HalvingLaws.{startOf, front-most, front-more, front-stop}
+use Rattle.search.proofs.halving.start_of.Statement.{statement}
+use Rattle.search.proofs.halving.start_of.Tie as tie
 
 abbrev Inv-loop : tie.InvT-loop
 Inv-loop keys from cell at₀ at = at ≤ startOf keys cell

@@ -2,9 +2,9 @@
 use borrow.Author.Needs.{needs}
 use Prim.Native.Nat.{_-_, _/_}
 use native.Mathlib.Omega.{arith}
-use Rattle.questions.proofs.SearchLaws.{factor-none, factor-one, factor-most}
-use Rattle.questions.proofs.search.step.Statement.{statement}
-use Rattle.questions.proofs.search.step.Tie as tie
+use Rattle.search.proofs.HalvingLaws.{factor-none, factor-one, factor-most}
+use Rattle.search.proofs.halving.step.Statement.{statement}
+use Rattle.search.proofs.halving.step.Tie as tie
 
 sub-result : tie.Need-sub-result
 sub-result c = search needs
