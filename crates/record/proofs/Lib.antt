@@ -3,3 +3,4 @@ pub mod StepLaws
 pub mod RepeatLaws
 pub mod OpenedLaws
 pub mod ToldLaws
+pub mod PointLaws

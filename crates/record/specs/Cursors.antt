@@ -125,6 +125,10 @@ ledgerOf xs r = record { tag = r .tag; points = pointsLeft xs (r .points) }
 abbrev pub ledgersLeft : List ℕ → Ledgers → List Ledger
 ledgersLeft xs c = groupLedgers (runRows (ledgerAt xs) 5 xs (c .rows)) (runRows (pointAt xs) 6 xs (c .points))
 
+-- The points that the names left share.
+abbrev pub allPoints : List ℕ → Ledgers → List Point
+allPoints xs c = runRows (pointAt xs) 6 xs (c .points)
+
 abbrev pub ledgerTold : List ℕ → NextLedger.NextLedger → List Ledger
 ledgerTold xs (NextLedger.the-variants.Row r c) = ledgerOf xs r ∷ ledgersLeft xs c
 ledgerTold xs NextLedger.the-variants.End = []

@@ -4,7 +4,8 @@ use crate::runs::Run;
 use format::CountryTag;
 use format::Point;
 ghost use mathlib.Core.Path.{_≡_};
-ghost use Rattle.record.specs.Cursors.{pointsLeft, pointTold, ledgersLeft, ledgerTold};
+ghost use lib.ListN.{length, take, drop};
+ghost use Rattle.record.specs.Cursors.{pointsLeft, pointTold, ledgersLeft, ledgerTold, allPoints};
 
 // A ledger's points.
 pub struct Points(Run);
@@ -29,6 +30,14 @@ impl Points {
             value: bytes::u32_at(s, at + 2),
         };
         NextPoint::Row(row, Points(run.past(s, 6)))
+    }
+
+    // How many points are left.
+    pub fn len(self, s: &[u8]) -> usize
+        ensures { λ r. ⌜ r ≡ length (pointsLeft (now (s .entry)) self) ⌝ }
+    {
+        let run = self.0;
+        run.count(s, 6)
     }
 }
 
@@ -69,5 +78,17 @@ impl Ledgers {
             points: points.skip(s, 6, n),
         };
         NextLedger::Row(row, rest)
+    }
+
+    // So many of the points that all names left share, from a number on; as far as there are any.
+    pub fn points_from(self, s: &[u8], first: usize, n: usize) -> Points
+        ensures { λ r. ⌜ pointsLeft (now (s .entry)) r ≡ take n (drop first (allPoints (now (s .entry)) self)) ⌝ }
+    {
+        let points = self.points;
+        if s.len() / 6 < first {
+            return Points(points.first(0));
+        }
+        let behind = points.skip(s, 6, first);
+        Points(behind.first(n))
     }
 }

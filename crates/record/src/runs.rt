@@ -1,6 +1,6 @@
 // A run of rows of one width, which is how a cursor holds its rows: the steps that all cursors share.
 ghost use mathlib.Core.Path.{_≡_};
-ghost use Prim.Native.Nat.{_-_, _+_, _<_, _≤_, min};
+ghost use Prim.Native.Nat.{_-_, _+_, _*_, _<_, _≤_, min};
 ghost use lib.ListN.{length};
 ghost use Rattle.record.specs.Runs.{hasRow, wholeLeft, firstRun, pastRun, skipRun};
 
@@ -67,8 +67,7 @@ impl Run {
 
     // The run behind its first n rows; where those end past the bytes, nothing is left to read.
     pub(crate) fn skip(self, s: &[u8], width: usize, n: usize) -> Run
-        requires { ⌜ width ≤ 8 ⌝ }
-        requires { ⌜ n < 65536 ⌝ }
+        requires { ⌜ width * n < 18446744073709551616 ⌝ }
         ensures { λ r. ⌜ r ≡ skipRun (length (now (s .entry))) width n self ⌝ }
     {
         let left = difference(self.left, n);

@@ -1,8 +1,6 @@
 -- `Run::skip` meets its contract. It tests by differences where the skipped rows end, since their sum need not fit: past the bytes it stops at
--- their end, as `skipRun` does. The product fits, as a row has few bytes and a count few rows. Assumes nothing.
+-- their end, as `skipRun` does. Assumes nothing.
 use mathlib.Core.Path.{sym}
-use Prim.Native.Nat.{_≤_}
-use native.Mathlib.Nat.{mul-le-mul}
 use native.Mathlib.Omega.{arith}
 use borrow.Author.Needs.{needs}
 use Rattle.record.proofs.RunLaws.{skip-inside, skip-past}
@@ -19,11 +17,7 @@ sub-if2 : tie.Need-sub-if2
 sub-if2 c = search needs
 
 mul-if2 : tie.Need-mul-if2
-mul-if2 c =
-    let a = c .before .before .before .before .before .args in
-    let narrow : a .width ≤ 8 = omega arith in
-    let few : a .n ≤ 65535 = omega arith in
-    omega (arith, mul-le-mul narrow few)
+mul-if2 c = search needs
 
 returns-2 : tie.Need-returns-2
 returns-2 c = rw (c .before .before .before .before .difference .ensures) (sym (skip-past _ _ _ _ (omega arith)))
