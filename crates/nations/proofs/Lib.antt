@@ -1,3 +1,2 @@
-pub mod tables
-pub mod slots
+pub mod walks
 pub mod answer

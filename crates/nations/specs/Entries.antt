@@ -14,8 +14,8 @@ use Rattle.rules.specs.Chronicle.{Entry}
 use Rattle.rules.specs.Lent.{written}
 use Rattle.rules.specs.Nations.{targets}
 use Rattle.rules.specs.NationRows.{entryRow, entryRowWords}
-use Rattle.nations.specs.Turning.{byDate}
-use Rattle.nations.specs.Switches.{dateIn, switchIn}
+use Rattle.nation_tables.specs.Turning.{byDate}
+use Rattle.nation_tables.specs.Switches.{dateIn, switchIn}
 
 -- The entries of a run of keys, merged with others: at a tie the switch comes first.
 abbrev pub mergedEntries : List ℕ → List ℕ → List Entry → List Entry

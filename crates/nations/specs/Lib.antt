@@ -1,12 +1,4 @@
-pub mod Layout
-pub mod Turning
-pub mod Keys
-pub mod Lookup
-pub mod Countries
-pub mod Settling
-pub mod Starting
-pub mod Holders
-pub mod Switches
+pub mod Walks
 pub mod Entries
 pub mod Listing
 pub mod NationSteps

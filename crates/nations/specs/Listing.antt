@@ -1,66 +1,30 @@
 -- The listed nations in the order of the keys of initials, as they are read from cells. No public promise cites these: they are how the
 -- nations are computed.
 use mathlib.Core.Path.{_≡_}
-use mathlib.Core.Bool.{Bool, false, cond, _&&_, _||_}
+use mathlib.Core.Bool.{Bool, cond, _&&_, _||_}
 use mathlib.Core.List.{List, [], _∷_}
-use Prim.Native.Nat.{ℕ, suc, _+_, _-_, _*_, _/_, _≤_, _<_}
+use Prim.Native.Nat.{ℕ, suc, _+_, _-_, _*_, _≤_, _<_}
 use lib.Dec.{leb, ltb, eqb}
 use lib.ListN.{length, getD, take, drop}
-use Rattle.lists.specs.Lists.{All, joinOf, twice}
+use Rattle.lists.specs.Lists.{All, joinOf}
 use Rattle.sorting.specs.Sort.{sortBy}
-use Rattle.format.specs.declared.date.Eu4Date.{Eu4Date}
-use Rattle.format.specs.Sound.{Sound}
-use Rattle.format.specs.Campaign.{Campaign}
 use Rattle.nations.specs.declared.lives.Lives.{Lives}
 use Rattle.nations.specs.declared.listing.Listed.{Listed}
 use Rattle.rules.specs.Chronicle.{Entry, Nation}
 use Rattle.rules.specs.Lent.{written}
 use Rattle.rules.specs.NationRows.{nationRowWords, nationRowsFrom, nationWords, entryWords}
-use Rattle.owner_changes.specs.ChangeSteps.{mostChanges}
-use Rattle.nations.specs.Layout.{mostSwitches, mostSlots, keyRows, keyNumbers, rowKeySpan, half, noChange}
-use Rattle.nations.specs.Keys.{wordIn}
-use Rattle.nations.specs.Lookup.{rowIn, lastWithin}
-use Rattle.nations.specs.Countries.{tagWords, initialWords, rowKeys, Keyed}
-use Rattle.nations.specs.Turning.{highHalves, lowHalves, Lived, livedLeft, firstLives, Chained, Linked, Rowed, rowTurnsOf}
-use Rattle.nations.specs.Holders.{startedOf}
-use Rattle.nations.specs.Switches.{runStart, runKeys, targetWords}
+use Rattle.nation_tables.specs.Layout.{keyRows, keyNumbers, rowKeySpan, half, noChange}
+use Rattle.nation_tables.specs.Keys.{wordIn}
+use Rattle.nation_tables.specs.Lookup.{rowIn, lastWithin}
+use Rattle.nation_tables.specs.Turning.{Lived}
+use Rattle.nations.specs.Walks.{livedLeft, firstLives, Chained}
+use Rattle.nation_tables.specs.Switches.{runStart}
+use Rattle.nation_tables.specs.Gathering.{Cells}
 use Rattle.nations.specs.Entries.{mergedEntries, latestTag}
 
 -- ## What is read
 
--- The words of tags, the keys of initials, the keys and targets of switches, the chains of changes with their first ones for each row, the
--- slots that each row starts with, the keys of changes, and the start date.
-pub record Cells : Type 0 where
-  pub tags : List ℕ
-  pub initials : List ℕ
-  pub runs : List ℕ
-  pub targets : List ℕ
-  pub losses : List ℕ
-  pub gains : List ℕ
-  pub started : List ℕ
-  pub keys : List ℕ
-  pub olds : List ℕ
-  pub news : List ℕ
-  pub start : Eu4Date
-
--- The cells as they are lent: the first losses and gains share cells, and so do the links of changes.
-abbrev pub cellsFrom : List ℕ → List ℕ → List ℕ → List ℕ → List ℕ → List ℕ → List ℕ → List ℕ → Eu4Date → Cells
-cellsFrom tags initials runs targets firsts started keys turns start =
-    record {
-      tags = tags;
-      initials = initials;
-      runs = runs;
-      targets = targets;
-      losses = highHalves firsts;
-      gains = lowHalves firsts;
-      started = started;
-      keys = keys;
-      olds = highHalves turns;
-      news = lowHalves turns;
-      start = start;
-    }
-
--- The same cells with other tags and targets.
+-- The cells that are gathered, with other tags and targets.
 abbrev pub retold : Cells → List ℕ → List ℕ → Cells
 retold w tags targets =
     record {
@@ -160,27 +124,3 @@ pub record NationsPut (ns : List Nation) (first : ℕ) (r : Listed) (rows₀ row
 pub record NationsWritten (ns : List Nation) (rows₀ rows₁ entries₀ entries₁ : List ℕ) : Type 0 where
   pub rows : rows₁ ≡ written (nationWords ns) rows₀
   pub entries : entries₁ ≡ written (entryWords ns) entries₀
-
--- ## Cells of a campaign
-
--- The tables of its countries, the runs and targets of its switches, and the chains of its turns by rows.
-pub record CampaignCells (c : Campaign) (w : Cells) : Type 0 where
-  pub keyed : Keyed (c .countries)
-  pub once : twice (tagWords (c .countries)) ≡ false
-  pub sound : Sound c
-  pub tags : w .tags ≡ tagWords (c .countries)
-  pub initials : w .initials ≡ rowKeys (initialWords (c .countries))
-  pub runs : w .runs ≡ runKeys (c .countries)
-  pub fewRuns : length (w .runs) ≤ mostSwitches
-  pub targets : w .targets ≡ targetWords (c .countries)
-  pub start : w .start ≡ c .start
-  pub started : w .started ≡ startedOf c
-  pub oldRows : List ℕ
-  pub newRows : List ℕ
-  pub rowed : Rowed (w .keys) oldRows newRows (rowTurnsOf c)
-  pub few : length (w .keys) ≤ mostChanges
-  pub losses : Linked oldRows (w .olds) (w .losses)
-  pub gains : Linked newRows (w .news) (w .gains)
-  pub lossRows : length (c .countries) ≤ length (w .losses)
-  pub gainRows : length (c .countries) ≤ length (w .gains)
-  pub slots : length (c .provinces) < mostSlots

@@ -1,11 +1,11 @@
 // The entries of one country: its switches by date, merged with its Annexed and Appeared.
-use crate::layout::KEY_DATES;
-use crate::layout::KEY_NUMBERS;
-use crate::layout::WORD_SPAN;
 use crate::lives::Lives;
 use crate::lives::NextLife;
 use chronicle_rows::ENTRY_WIDTH;
 use chronicle_rows::Kind;
+use nation_tables::KEY_DATES;
+use nation_tables::KEY_NUMBERS;
+use nation_tables::WORD_SPAN;
 use record::CountryTag;
 use record::Eu4Date;
 ghost use mathlib.Core.Path.{_≡_};
@@ -14,8 +14,9 @@ ghost use Prim.Native.Nat.{_*_, _≤_};
 ghost use lib.ListN.{length, drop};
 ghost use Rattle.rules.specs.NationRows.{entryWidth, kindWord, targetWord, entryRow, entryRowWords};
 ghost use Rattle.chronicle_rows.specs.Cases.{kindTold};
-ghost use Rattle.nations.specs.Turning.{highHalves, lowHalves, lifeKind, livedLeft, Chained, Light};
-ghost use Rattle.nations.specs.Switches.{dateIn, targetIn};
+ghost use Rattle.nation_tables.specs.Turning.{highHalves, lowHalves};
+ghost use Rattle.nations.specs.Walks.{lifeKind, livedLeft, Chained, Light};
+ghost use Rattle.nation_tables.specs.Switches.{dateIn, targetIn};
 ghost use Rattle.nations.specs.Entries.{latestTag, switchFirst, mergedEntries, EntriesWritten};
 
 // The date of a switch, by its key.

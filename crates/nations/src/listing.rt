@@ -1,12 +1,11 @@
 // The listed nations, in the order of the keys of initials.
 use crate::entries;
-use crate::layout::KEY_ROWS;
 use crate::lives;
 use crate::lives::Lives;
-use crate::lookup;
-use crate::switches;
 use chronicle_rows::ENTRY_WIDTH;
 use chronicle_rows::NATION_WIDTH;
+use nation_tables::KEY_ROWS;
+use nation_tables::ROW_SPAN;
 use record::CountryTag;
 use record::Eu4Date;
 ghost use mathlib.Core.Path.{_≡_};
@@ -16,8 +15,10 @@ ghost use lib.Dec.{leb};
 ghost use lib.ListN.{length, drop, getD};
 ghost use Rattle.sorting.specs.Sort.{sortBy};
 ghost use Rattle.rules.specs.NationRows.{nationWidth};
-ghost use Rattle.nations.specs.Layout.{wordSpan, rowKeySpan};
-ghost use Rattle.nations.specs.Listing.{cellsFrom, isListed, keyNations, nationsAt, listedOf, Readable, Counted};
+ghost use Rattle.nation_tables.specs.Layout.{keyRows, wordSpan, rowKeySpan};
+ghost use Rattle.nation_tables.specs.Switches.{runStart};
+ghost use Rattle.nation_tables.specs.Gathering.{cellsFrom};
+ghost use Rattle.nations.specs.Listing.{isListed, keyNations, nationsAt, listedOf, Readable, Counted};
 ghost use Rattle.nations.specs.Listing.{NationsRoom, NationsPut, NationsWritten};
 
 // How many nations are listed, and how many entries they have.
@@ -33,8 +34,16 @@ fn is_listed(initial_keys: &[u64], key: u64, walk: Lives) -> bool
 {
     let row = (key % KEY_ROWS) as u16;
     let low = key / KEY_ROWS * KEY_ROWS;
-    let mapped = lookup::last_within(initial_keys, initial_keys.len(), low, low + KEY_ROWS);
+    let mapped = nation_tables::last_within(initial_keys, initial_keys.len(), low, low + KEY_ROWS);
     (mapped == row) & walk.holds_ever()
+}
+
+// Where the keys of a row's switches begin.
+fn run_start(runs: &[u64], row: usize) -> usize
+    requires { ⌜ (sortBy leb (now runs) ≡ now runs) × (row ≤ keyRows) ⌝ }
+    ensures { λ r. ⌜ r ≡ runStart row (now (runs .entry)) ⌝ }
+{
+    nation_tables::lower_bound(runs, row as u64 * ROW_SPAN)
 }
 
 // Counts the nation of key i of the initials, if it is listed, and its entries.
@@ -56,8 +65,8 @@ fn count_nation(
     let row = (key % KEY_ROWS) as usize;
     let walk = lives::first_lives(firsts, row, started[row]);
     if is_listed(initial_keys, key, walk) {
-        let from = switches::run_start(runs, row);
-        let end = switches::run_start(runs, row + 1);
+        let from = run_start(runs, row);
+        let end = run_start(runs, row + 1);
         let lived = walk.count(keys, turns, start);
         return Listed {
             nations: 1,
@@ -140,8 +149,8 @@ fn write_nation(
     let row = (key % KEY_ROWS) as usize;
     let walk = lives::first_lives(firsts, row, started[row]);
     if is_listed(initial_keys, key, walk) {
-        let from = switches::run_start(runs, row);
-        let end = switches::run_start(runs, row + 1);
+        let from = run_start(runs, row);
+        let end = run_start(runs, row + 1);
         let initial = CountryTag::kept((key / KEY_ROWS) as u32);
         let run = &runs[from..end];
         let latest = entries::latest(run, targets, initial);

@@ -1,7 +1,7 @@
 // The Annexed and Appeared of one country, told one by one along its two chains of changes. A walk is a cursor by value: the next
 // change at which the country loses a slot, the next at which it gains one, and the slots that it holds now.
-use crate::layout::HALF;
-use crate::layout::NO_CHANGE;
+use nation_tables::HALF;
+use nation_tables::NO_CHANGE;
 use owner_changes::PER_DATE;
 use record::Eu4Date;
 ghost use mathlib.Core.Path.{_≡_};
@@ -9,8 +9,9 @@ ghost use mathlib.Core.Bool.{true, _||_};
 ghost use Prim.Native.Nat.{_-_, _≤_, _<_};
 ghost use lib.Dec.{ltb};
 ghost use lib.ListN.{length, getD};
-ghost use Rattle.nations.specs.Layout.{noChange};
-ghost use Rattle.nations.specs.Turning.{highHalves, lowHalves, keyDate, livedLeft, livesCount, firstLives, Chained, Light, Turns, TellsLife};
+ghost use Rattle.nation_tables.specs.Layout.{noChange};
+ghost use Rattle.nation_tables.specs.Turning.{highHalves, lowHalves, keyDate};
+ghost use Rattle.nations.specs.Walks.{livedLeft, livesCount, firstLives, Chained, Light, Turns, TellsLife};
 
 pub(crate) struct Lives {
     pub lose: usize,

@@ -5,11 +5,12 @@ use Prim.Native.Nat.{ℕ, _+_, _-_, _*_, _≤_, _<_}
 use native.Mathlib.Omega.{arith}
 use lib.ListN.{length, getD, drop, length-append}
 use Rattle.lists.proofs.BoolLaws.{cases}
-use Rattle.nations.specs.Layout.{keyRows}
+use Rattle.nation_tables.specs.Layout.{keyRows}
 use Rattle.nations.specs.declared.listing.Listed.{Listed}
 use Rattle.rules.specs.Chronicle.{Nation}
-use Rattle.nations.specs.Lookup.{rowIn}
-use Rattle.nations.specs.Listing.{Cells, retold, walkOf, isListed, nationOfKey, keyNations, nationsAt, listedOf}
+use Rattle.nation_tables.specs.Lookup.{rowIn}
+use Rattle.nation_tables.specs.Gathering.{Cells}
+use Rattle.nations.specs.Listing.{retold, walkOf, isListed, nationOfKey, keyNations, nationsAt, listedOf}
 use Rattle.nations.specs.Listing.{Readable, Counted}
 use Rattle.rules.proofs.RowLaws.{allEntries}
 use Rattle.nations.proofs.answer.ListingLaws.{key-few, key-short, length-entries, key-one, key-none, one-entries, key-nations-next, nations-end, length-all-entries}

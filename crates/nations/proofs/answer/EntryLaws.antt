@@ -20,7 +20,7 @@ use Rattle.format.specs.Dates.{earlier}
 use Rattle.format.specs.Campaign.{Campaign, Country}
 use Rattle.rules.specs.Chronicle.{appeared, annexed, Entry}
 use Rattle.rules.specs.Nations.{matches, switchEntries, startHolders, Move, movesOf, Turn, turnsFrom, turnsOf, turnEntries, turnCount, livesFrom, livesOf, entriesOf}
-use Rattle.nations.specs.Turning.{byDate}
+use Rattle.nation_tables.specs.Turning.{byDate}
 use Rattle.rules.proofs.CampaignLaws.{moves-order}
 
 -- ## Dates of lives

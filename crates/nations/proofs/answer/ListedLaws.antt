@@ -18,11 +18,11 @@ use Rattle.sorting.specs.Sort.{sortBy}
 use Rattle.sorting.proofs.SortLaws.{Agrees, all-sort, keep-sort, map-sort, leb-total, leb-trans}
 use Rattle.format.specs.Campaign.{Campaign, Country}
 use Rattle.rules.specs.Nations.{initialOf, matches, isMapped, nationOf, heldEver, listedCountries, nationsOf}
-use Rattle.nations.specs.Layout.{keyRows}
-use Rattle.nations.specs.Lookup.{noRow, rowIn, lastWithin}
-use Rattle.nations.specs.Countries.{tagAtRow, tagWords, initialWords, placesOf, mappedRow, wordKeys, rowKeys}
-use Rattle.nations.proofs.tables.MappedLaws.{places-within, mapped-row, row-single, row-same}
-use Rattle.nations.proofs.slots.TurningLaws.{eqb-sym}
+use Rattle.nation_tables.specs.Layout.{keyRows}
+use Rattle.nation_tables.specs.Lookup.{noRow, rowIn, lastWithin}
+use Rattle.nation_tables.specs.Countries.{tagAtRow, tagWords, initialWords, placesOf, mappedRow, wordKeys, rowKeys}
+use Rattle.nation_tables.proofs.tables.MappedLaws.{places-within, mapped-row, row-single, row-same}
+use Rattle.nation_tables.proofs.slots.TurningLaws.{eqb-sym}
 
 -- ## The country of a key
 

@@ -15,19 +15,21 @@ use Rattle.lists.proofs.ElementLaws.{all-inside}
 use Rattle.lists.proofs.ListLaws.{count-le, count-more, join-append}
 use Rattle.lists.proofs.WriteLaws.{Behind}
 use Rattle.format.specs.declared.tag.CountryTag.{CountryTag}
-use Rattle.nations.specs.Layout.{keyRows, rowKeySpan, rowSpan, half}
+use Rattle.nation_tables.specs.Layout.{keyRows, rowKeySpan, rowSpan, half}
 use Rattle.nations.specs.declared.lives.Lives.{Lives}
 use Rattle.nations.specs.declared.lives.LivesCount.{LivesCount}
 use Rattle.rules.specs.Chronicle.{Entry, Nation}
 use Rattle.rules.specs.NationRows.{nationRowsFrom, entryWords, nationWidth, entryWidth}
-use Rattle.nations.specs.Lookup.{rowIn}
-use Rattle.nations.specs.Turning.{highHalves, livedLeft, livesCount, Light}
-use Rattle.nations.specs.Switches.{runStart, switchIn}
+use Rattle.nation_tables.specs.Lookup.{rowIn}
+use Rattle.nation_tables.specs.Turning.{highHalves}
+use Rattle.nations.specs.Walks.{livedLeft, livesCount, Light}
+use Rattle.nation_tables.specs.Switches.{runStart, switchIn}
 use Rattle.nations.specs.Entries.{mergedEntries, latestTag, EntriesWritten}
-use Rattle.nations.specs.Listing.{Cells, walkOf, livedOf, runOf, rowEntries, isListed, nationOfKey, keyNations, nationsAt, listedOf}
+use Rattle.nation_tables.specs.Gathering.{Cells}
+use Rattle.nations.specs.Listing.{walkOf, livedOf, runOf, rowEntries, isListed, nationOfKey, keyNations, nationsAt, listedOf}
 use Rattle.nations.specs.Listing.{Readable, NationsRoom, NationsPut}
 use Rattle.rules.proofs.RowLaws.{allEntries, length-nationWords, length-entryWords}
-use Rattle.nations.proofs.slots.WalkLaws.{lived-short}
+use Rattle.nations.proofs.walks.WalkLaws.{lived-short}
 use Rattle.nations.proofs.answer.MergeEntryLaws.{length-merge}
 
 -- ## Runs of switches

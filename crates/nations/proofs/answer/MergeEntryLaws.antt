@@ -19,8 +19,9 @@ use Rattle.nations.specs.declared.lives.NextLife.the-variants.{Life, End
 use Rattle.rules.specs.Chronicle.{Entry}
 use Rattle.rules.specs.Nations.{targets}
 use Rattle.rules.specs.NationRows.{entryWidth, entryRow, entryRowWords}
-use Rattle.nations.specs.Turning.{Lived, byDate, livedLeft, lifeEntry, lifeTold, lifeOnward, Light, TellsLife}
-use Rattle.nations.specs.Switches.{targetIn, switchIn}
+use Rattle.nation_tables.specs.Turning.{Lived, byDate}
+use Rattle.nations.specs.Walks.{livedLeft, lifeEntry, lifeTold, lifeOnward, Light, TellsLife}
+use Rattle.nation_tables.specs.Switches.{targetIn, switchIn}
 use Rattle.nations.specs.Entries.{mergedEntries, switchFirst, entriesWords, latestTag, EntriesWritten}
 
 -- ## The last target

@@ -1,6 +1,6 @@
 -- The outcome of `nation_events`, by case: the record's number, too short a slice, or the rows.
-use mathlib.Core.Path.{_≡_, refl, sym, ap, ap₂, _∙_}
-use mathlib.Core.Bool.{Bool, true, false, not, _&&_}
+use mathlib.Core.Path.{_≡_, sym, ap, ap₂, _∙_}
+use mathlib.Core.Bool.{Bool, true, false, _&&_}
 use mathlib.Core.List.{List, [], _∷_}
 use Prim.Native.Nat.{ℕ, suc, _*_, _≤_, _<_}
 use native.Mathlib.Omega.{arith}
@@ -14,25 +14,26 @@ use Rattle.format.specs.Refusal.{refusal, firstOf}
 use Rattle.format.proofs.FirstLaws.{first-stop, first-pass, first-one, first-zero}
 use Rattle.rules.specs.Changes.{changeWidth}
 use Rattle.owner_changes.specs.ChangeSteps.{mostChanges}
-use Rattle.nations.specs.Layout.{mostCountries, mostSlots}
-use Rattle.nations.specs.declared.nations.NationCounts.{NationCounts}
+use Rattle.nation_tables.specs.Layout.{mostCountries, mostSlots}
 use Rattle.rules.specs.Lent.{refused, gives, roomNumber}
 use Rattle.rules.specs.Nations.{matches, slotsOf, movesOf, lastHolder, holdersOf, heldOf}
 use Rattle.rules.specs.NationRows.{holderWord, nationWidth, entryWidth}
 use Rattle.rules.specs.Outcomes.{Answers, answersOf, NationCells, cellsOf, allFit, allWritten, Counts, countsOf, callNationEvents}
-use Rattle.nations.specs.Cases.{countsIn}
-use Rattle.nations.specs.NationSteps.{roomFor, FewRows}
 use Rattle.rules.proofs.RowLaws.{length-nationWords, length-entryWords, length-changeRows}
 use Rattle.rules.proofs.LentLaws.{outcome-refused, outcome-gives, answered-given}
 use Rattle.owner_changes.proofs.ChangeLaws.{changes-few}
-use Rattle.nations.proofs.tables.KeyedLaws.{countries-few, provinces-few}
+use Rattle.nation_tables.proofs.tables.KeyedLaws.{countries-few, provinces-few}
 use Rattle.nations.proofs.answer.NationSizeLaws.{nations-few, entries-few}
 
 -- ## Room
 
 -- The counts tell whether the cells fit.
-pub room-fits : (a : Answers) (r : NationCounts) (before : NationCells) → countsIn r ≡ countsOf a
-    → roomFor r (length (before .nations)) (length (before .entries)) (length (before .holders)) (length (before .held)) (length (before .changes))
+pub room-fits : (a : Answers) (r : Counts) (before : NationCells) → r ≡ countsOf a
+    → (leb (nationWidth * r .nations) (length (before .nations))
+    && leb (entryWidth * r .entries) (length (before .entries))
+    && leb (r .slots) (length (before .holders))
+    && leb (r .countries) (length (before .held))
+    && leb (changeWidth * r .changes) (length (before .changes)))
     ≡ allFit (cellsOf a) before
 unfolding countsOf cellsOf
 room-fits a r before e =
@@ -119,34 +120,3 @@ unfolding callNationEvents
 nations-given xs before counts e =
     let g = answered-given (firstOf (refusal xs ∷ roomNumber (allFit (cellsOf (answersOf (campaignOf xs))) before) ∷ [])) (countsOf (answersOf (campaignOf xs))) counts e in
     rw (g .1) (counts-small xs (first-zero (refusal xs) _ (g .0) .0))
-
--- ## By what the code counts
-
--- The counts have room in 32 bits.
-pub counts-few : (xs : List ℕ) (r : NationCounts) → refusal xs ≡ 0 → countsIn r ≡ countsOf (answersOf (campaignOf xs)) → FewRows r
-counts-few xs r z e =
-    let q : SmallCounts (countsIn r) = rw e (counts-small xs z) in
-    let a = q .nations in
-    let b = q .entries in
-    let d = q .changes in
-    record { nations = omega arith; entries = omega arith; changes = omega arith }
-
-module _ (xs : List ℕ) (before : NationCells) (r : NationCounts) (z : refusal xs ≡ 0) (e : countsIn r ≡ countsOf (answersOf (campaignOf xs)))
-    (b : Bool) (told : b ≡ roomFor r (length (before .nations)) (length (before .entries)) (length (before .holders)) (length (before .held)) (length (before .changes))) where
-  pub no-room : not b ≡ true → record { answer = refused 10; memory = before } ≡ callNationEvents xs before
-  no-room f = nations-short xs before z (sym (room-fits (answersOf (campaignOf xs)) r before e) ∙ sym told ∙ go b f)
-    where
-      go : (a : Bool) → not a ≡ true → a ≡ false
-      go true h = sym h
-      go false h = refl
-
-  pub all-fit : not b ≡ false → allFit (cellsOf (answersOf (campaignOf xs))) before ≡ true
-  all-fit t = sym (room-fits (answersOf (campaignOf xs)) r before e) ∙ sym told ∙ go b t
-    where
-      go : (a : Bool) → not a ≡ false → a ≡ true
-      go true h = refl
-      go false h = sym h
-
-  pub rows-given : (after : NationCells) → not b ≡ false → after ≡ allWritten (cellsOf (answersOf (campaignOf xs))) before
-      → record { answer = gives (countsIn r); memory = after } ≡ callNationEvents xs before
-  rows-given after t w = nations-rows xs before (countsIn r) after z (all-fit t) e w

@@ -19,14 +19,14 @@ use Rattle.format.specs.Refusal.{refusal}
 use Rattle.rules.specs.Chronicle.{Nation}
 use Rattle.rules.specs.Changes.{changesOf}
 use Rattle.rules.specs.Nations.{matches, initialOf, lastTarget, switchEntries, startHolders, allSwitches, moveOf, Move, movesOf, Turn, turnsFrom, turnsOf, turnEntries, turnCount, livesFrom, livesOf, entriesOf, nationOf, isMapped, heldEver, listedCountries, nationsOf}
-use Rattle.nations.specs.Layout.{mostCountries, mostSwitches}
-use Rattle.nations.specs.Countries.{switchKey, switchKeysFrom}
-use Rattle.nations.specs.Turning.{byDate}
+use Rattle.nation_tables.specs.Layout.{mostCountries, mostSwitches}
+use Rattle.nation_tables.specs.Countries.{switchKey, switchKeysFrom}
+use Rattle.nation_tables.specs.Turning.{byDate}
 use Rattle.rules.specs.NationRows.{targetWord}
-use Rattle.nations.proofs.tables.SwitchLaws.{length-chain}
+use Rattle.nation_tables.proofs.tables.SwitchLaws.{length-chain}
 use Rattle.owner_changes.proofs.ChangeLaws.{changes-few}
-use Rattle.nations.proofs.tables.KeyedLaws.{countries-few, switches-few}
-use Rattle.nations.proofs.slots.WalkLaws.{turn-short}
+use Rattle.nation_tables.proofs.tables.KeyedLaws.{countries-few, switches-few}
+use Rattle.nations.proofs.walks.WalkLaws.{turn-short}
 
 -- ## One country
 

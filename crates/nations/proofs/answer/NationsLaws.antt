@@ -23,20 +23,22 @@ use Rattle.format.specs.Campaign.{Campaign, Country}
 use Rattle.format.specs.Sound.{GoodCountry}
 use Rattle.rules.specs.Chronicle.{Entry, Nation}
 use Rattle.rules.specs.Nations.{initialOf, switchEntries, matches, isMapped, startHolders, Turn, turnsOf, turnEntries, turnCount, livesFrom, livesOf, entriesOf, kindTarget, targets, nationOf, heldEver, nationsOf}
-use Rattle.nations.specs.Layout.{keyRows, keyTags, rowKeySpan, half, noChange}
-use Rattle.nations.specs.Lookup.{rowIn, lastWithin}
-use Rattle.nations.specs.Countries.{tagWords, initialWords, wordKeys, rowKeys}
-use Rattle.nations.specs.Switches.{runsFrom, runKeys, targetWords, switchIn}
+use Rattle.nation_tables.specs.Layout.{keyRows, keyTags, rowKeySpan, half, noChange}
+use Rattle.nation_tables.specs.Lookup.{rowIn, lastWithin}
+use Rattle.nation_tables.specs.Countries.{tagWords, initialWords, wordKeys, rowKeys}
+use Rattle.nation_tables.specs.Switches.{runsFrom, runKeys, targetWords, switchIn}
 use Rattle.nations.specs.Entries.{latestTag}
-use Rattle.nations.specs.Turning.{byDate, firstAt, rowTag, rowTurn, rowTurnsOf, Lived, livedLeft, firstLives}
-use Rattle.nations.specs.Listing.{Cells, runOf, livedOf, rowEntries, nationOfKey, keyNations, nationsAt, Readable, CampaignCells}
+use Rattle.nation_tables.specs.Turning.{byDate, firstAt, rowTag, rowTurn, rowTurnsOf, Lived}
+use Rattle.nations.specs.Walks.{livedLeft, firstLives}
+use Rattle.nation_tables.specs.Gathering.{Cells, CampaignCells}
+use Rattle.nations.specs.Listing.{runOf, livedOf, rowEntries, nationOfKey, keyNations, nationsAt, Readable}
 use Rattle.rules.proofs.CampaignLaws.{length-start}
-use Rattle.nations.proofs.tables.CountryLaws.{length-word-keys}
+use Rattle.nation_tables.proofs.tables.CountryLaws.{length-word-keys}
 use Rattle.nations.proofs.answer.EntryLaws.{turn-all, entries-merge}
-use Rattle.nations.proofs.tables.KeyedLaws.{tag-small}
-use Rattle.nations.proofs.slots.LivesLaws.{count-turns, chained, walk-lives}
+use Rattle.nation_tables.proofs.tables.KeyedLaws.{tag-small}
+use Rattle.nations.proofs.walks.LivesLaws.{count-turns, chained, walk-lives}
 use Rattle.rules.proofs.ShapeLaws.{initial-tag}
-use Rattle.nations.proofs.slots.TurningLaws.{held-ever}
+use Rattle.nation_tables.proofs.slots.TurningLaws.{held-ever}
 use Rattle.nations.proofs.answer.ListedLaws.{countryIn, InitialKey, initial-keys, mapped-key, listed, nations-by-key}
 
 -- ## Targets of merged entries

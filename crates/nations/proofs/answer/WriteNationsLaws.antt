@@ -11,7 +11,8 @@ use Rattle.lists.proofs.WriteLaws.{Behind, Writing, writing-none, writing-more,
 use Rattle.nations.specs.declared.listing.Listed.{Listed}
 use Rattle.rules.specs.Chronicle.{Entry, Nation}
 use Rattle.rules.specs.NationRows.{NationRow, nationWidth, nationRowWords, nationRowsFrom, entryRow, entryRowWords, nationWords, entryWords, entryWidth}
-use Rattle.nations.specs.Listing.{Cells, keyNations, nationsAt, listedOf}
+use Rattle.nation_tables.specs.Gathering.{Cells}
+use Rattle.nations.specs.Listing.{keyNations, nationsAt, listedOf}
 use Rattle.nations.specs.Listing.{Readable, NationsRoom, NationsWritten}
 use Rattle.rules.proofs.RowLaws.{allEntries, length-rowsFrom, length-nationWords, length-entryWords}
 use Rattle.nations.proofs.answer.ListingLaws.{key-short, key-nations-next, nations-end}

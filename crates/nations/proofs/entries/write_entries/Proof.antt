@@ -6,8 +6,9 @@ use borrow.Author.Needs.{needs}
 use lib.ListN.{length, getD}
 use Rattle.lists.proofs.WriteLaws.{behind}
 use Rattle.rules.specs.NationRows.{entryRow, entryRowWords, entryWidth}
-use Rattle.nations.specs.Turning.{highHalves, lowHalves, lifeEntry}
-use Rattle.nations.specs.Switches.{switchIn}
+use Rattle.nation_tables.specs.Turning.{highHalves, lowHalves}
+use Rattle.nations.specs.Walks.{lifeEntry}
+use Rattle.nation_tables.specs.Switches.{switchIn}
 use Rattle.nations.proofs.answer.MergeEntryLaws.{entriesAhead, switch-inside, Merging, merging-none, merging-done}
 use Rattle.nations.proofs.answer.MergeEntryLaws.{switch-room, switch-less, switch-more, life-room, life-light, life-less, life-more}
 use Rattle.nations.proofs.entries.write_entries.Statement.{statement}

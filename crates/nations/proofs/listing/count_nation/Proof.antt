@@ -3,7 +3,7 @@ use mathlib.Core.Path.{refl, sym, _∙_}
 use native.Mathlib.Omega.{arith}
 use borrow.Author.Needs.{needs}
 use lib.ListN.{getD}
-use Rattle.nations.specs.Lookup.{rowIn}
+use Rattle.nation_tables.specs.Lookup.{rowIn}
 use Rattle.nations.proofs.answer.ListingLaws.{run-rises, key-started, key-first, key-narrow, key-light, count-silent, count-listed, count-small}
 use Rattle.nations.proofs.listing.count_nation.Statement.{statement}
 use Rattle.nations.proofs.listing.count_nation.Tie as tie

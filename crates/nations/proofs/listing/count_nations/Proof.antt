@@ -5,7 +5,7 @@ use Prim.Native.Nat.{_-_}
 use native.Mathlib.Omega.{arith}
 use borrow.Author.Needs.{needs}
 use lib.ListN.{length}
-use Rattle.nations.specs.Listing.{cellsFrom}
+use Rattle.nation_tables.specs.Gathering.{cellsFrom}
 use Rattle.nations.proofs.answer.CountNationsLaws.{NationsCounting, nations-counting-none, nations-counting-few, nations-counting-short, nations-counting-more, nations-counting-done}
 use Rattle.nations.proofs.listing.count_nations.Statement.{statement}
 use Rattle.nations.proofs.listing.count_nations.Tie as tie

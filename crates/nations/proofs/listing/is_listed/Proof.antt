@@ -2,9 +2,11 @@
 use mathlib.Core.Path.{sym, ap, _∙_}
 use native.Mathlib.Omega.{arith}
 use borrow.Author.Needs.{needs}
+use lib.ListN.{length}
 use lib.Seq.{take-length}
 use lib.Dec.{leb}
 use Rattle.sorting.specs.Sort.{sortBy}
+use Rattle.nation_tables.specs.Lookup.{FirstSorted}
 use Rattle.nations.proofs.listing.is_listed.Statement.{statement}
 use Rattle.nations.proofs.listing.is_listed.Tie as tie
 
@@ -18,17 +20,18 @@ add-last-within : tie.Need-add-last-within
 add-last-within c = search needs
 
 last-within-requires : tie.Need-last-within-requires
-last-within-requires c κs =
-    let all = take-length (c .before .args .initial-keys .now) in
-    record { inside = omega arith; sorted = ap (sortBy leb) all ∙ c .before .pre .0 ∙ sym all }
+last-within-requires c κs = tt
 
 holds-ever-requires : tie.Need-holds-ever-requires
 holds-ever-requires c κs = search needs
 
 returns : tie.Need-returns
 returns c =
-    let all = take-length (c .before .before .before .args .initial-keys .now) in
-    rw (c .before .last-within .ensures, c .holds-ever .ensures, all)
+    let s0 = c .before .before .before in
+    let all = take-length (s0 .args .initial-keys .now) in
+    let first : FirstSorted (length (s0 .args .initial-keys .now)) (s0 .args .initial-keys .now) =
+    record { inside = omega arith; sorted = ap (sortBy leb) all ∙ s0 .pre .0 ∙ sym all } in
+    rw (c .before .last-within .ensures first, c .holds-ever .ensures, all)
 
 pub is-listed-spec : {M : Type 1} → statement M
 is-listed-spec =

@@ -4,7 +4,7 @@ use Prim.Native.Nat.{_+_, _≤_}
 use native.Mathlib.Omega.{arith}
 use borrow.Author.Needs.{needs}
 use lib.ListN.{length, getD}
-use Rattle.nations.specs.Lookup.{rowIn}
+use Rattle.nation_tables.specs.Lookup.{rowIn}
 use Rattle.nations.proofs.answer.ListingLaws.{run-rises, run-inside, key-tagged, key-started, key-first, key-narrow, key-light}
 use Rattle.nations.proofs.answer.ListingLaws.{put-silent, room-row, room-entries, count-narrow, put-listed}
 use Rattle.nations.proofs.listing.write_nation.Statement.{statement}

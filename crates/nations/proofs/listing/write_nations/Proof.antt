@@ -6,7 +6,7 @@ use borrow.Author.Needs.{needs}
 use lib.ListN.{length}
 use Rattle.lists.proofs.WriteLaws.{behind}
 use Rattle.rules.specs.NationRows.{nationWidth, entryWidth}
-use Rattle.nations.specs.Listing.{cellsFrom}
+use Rattle.nation_tables.specs.Gathering.{cellsFrom}
 use Rattle.nations.proofs.answer.WriteNationsLaws.{Listing, listing-none, listing-room, listing-more, listing-done}
 use Rattle.nations.proofs.answer.WriteNationsLaws.{rows-fit, entries-fit, nations-inside, entries-inside}
 use Rattle.nations.proofs.listing.write_nations.Statement.{statement}

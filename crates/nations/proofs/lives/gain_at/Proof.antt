@@ -4,7 +4,7 @@ use Prim.Native.Nat.{_/_, _%_}
 use native.Mathlib.Omega.{arith}
 use borrow.Author.Needs.{needs}
 use lib.ListN.{List·getD-map}
-use Rattle.nations.specs.Layout.{half}
+use Rattle.nation_tables.specs.Layout.{half}
 use Rattle.nations.proofs.lives.gain_at.Statement.{statement}
 use Rattle.nations.proofs.lives.gain_at.Tie as tie
 

@@ -2,8 +2,9 @@
 -- may still follow, which also keeps the count small. Assumes nothing.
 use native.Mathlib.Omega.{arith}
 use borrow.Author.Needs.{needs}
-use Rattle.nations.specs.Turning.{highHalves, lowHalves, ahead}
-use Rattle.nations.proofs.slots.WalkLaws.{LivesCounted, counted-none, counted-more, counted-end}
+use Rattle.nation_tables.specs.Turning.{highHalves, lowHalves}
+use Rattle.nations.specs.Walks.{ahead}
+use Rattle.nations.proofs.walks.WalkLaws.{LivesCounted, counted-none, counted-more, counted-end}
 use Rattle.nations.proofs.lives.Lives.count.Statement.{statement}
 use Rattle.nations.proofs.lives.Lives.count.Tie as tie
 

@@ -3,7 +3,7 @@ use mathlib.Core.Path.{ap, sym, _∙_}
 use mathlib.Core.Bool.{Bool, _&&_}
 use lib.Dec.{eqb}
 use borrow.Author.Needs.{needs}
-use Rattle.nations.proofs.slots.WalkLaws.{turn-inside, gain-told, gain-silent}
+use Rattle.nations.proofs.walks.WalkLaws.{turn-inside, gain-told, gain-silent}
 use Rattle.nations.proofs.lives.Lives.gained.Statement.{statement}
 use Rattle.nations.proofs.lives.Lives.gained.Tie as tie
 

@@ -4,7 +4,7 @@ use Prim.Native.Nat.{_-_}
 use native.Mathlib.Omega.{arith}
 use borrow.Author.Tests.{eq-eqb, ne-eqb}
 use borrow.Author.Needs.{needs}
-use Rattle.nations.proofs.slots.WalkLaws.{turn-inside, loss-told, loss-silent}
+use Rattle.nations.proofs.walks.WalkLaws.{turn-inside, loss-told, loss-silent}
 use Rattle.nations.proofs.lives.Lives.lost.Statement.{statement}
 use Rattle.nations.proofs.lives.Lives.lost.Tie as tie
 

@@ -2,8 +2,9 @@
 -- how many links it may still follow. Assumes nothing.
 use mathlib.Core.Path.{sym, _∙_}
 use borrow.Author.Needs.{needs}
-use Rattle.nations.specs.Turning.{highHalves, lowHalves, ahead}
-use Rattle.nations.proofs.slots.WalkLaws.{Walked, walked-none, walked-more, walked-told, walked-end}
+use Rattle.nation_tables.specs.Turning.{highHalves, lowHalves}
+use Rattle.nations.specs.Walks.{ahead}
+use Rattle.nations.proofs.walks.WalkLaws.{Walked, walked-none, walked-more, walked-told, walked-end}
 use Rattle.nations.proofs.lives.Lives.next.Statement.{statement}
 use Rattle.nations.proofs.lives.Lives.next.Tie as tie
 

@@ -1,7 +1,7 @@
 -- `Lives::turn` meets its contract: of the next loss and the next gain the earlier one is among the changes. Assumes nothing.
 use native.Mathlib.Omega.{arith}
 use borrow.Author.Needs.{needs}
-use Rattle.nations.proofs.slots.WalkLaws.{lower-in}
+use Rattle.nations.proofs.walks.WalkLaws.{lower-in}
 use Rattle.nations.proofs.lives.Lives.turn.Statement.{statement}
 use Rattle.nations.proofs.lives.Lives.turn.Tie as tie
 

@@ -1,0 +1,85 @@
+-- There are at most 60,000 changes, so their keys and cells have room.
+use mathlib.Core.Path.{ap, _∙_}
+use Prim.Native.Nat.{_≤_}
+use native.Mathlib.Omega.{arith}
+use borrow.Author.Needs.{needs, zero≤}
+use lib.ListN.{length, length-map}
+use Rattle.format.specs.Campaign.{campaignOf}
+use Rattle.owner_changes.specs.ChangeSteps.{KeysFilled, mostChanges}
+use Rattle.owner_changes.proofs.ChangeLaws.{entered-few}
+use Rattle.owner_changes.proofs.WrittenLaws.{keys-filled}
+use Rattle.nation_tables.proofs.tables.KeyedLaws.{countries-few}
+use Rattle.nation_tables.proofs.slots.HoldersLaws.{stepped}
+use Rattle.nation_tables.proofs.holders.sort_steps.Statement.{statement}
+use Rattle.nation_tables.proofs.holders.sort_steps.Tie as tie
+
+abbrev start : tie.After-fill-keys → tie.Start
+start c = c .before .before .before .before .before .before .before
+
+-- The keys of all changes are filled in.
+filled-all : (c : tie.After-fill-keys) → KeysFilled (start c .args .s .now) (c .fill-keys .result) (c .fill-keys .last .1 .1 .0)
+filled-all c = keys-filled _ _ (start c .pre .0) _ _ _ (start c .pre .1 .1 .0) (c .fill-keys .ensures)
+
+-- There are not many changes.
+few : (c : tie.After-fill-keys) → c .fill-keys .result ≤ mostChanges
+few c = omega (arith, entered-few _ (start c .pre .0 .accepted), filled-all c .counted)
+
+fill-keys-requires : tie.Need-fill-keys-requires
+fill-keys-requires c κs = search needs
+
+sub-sort-keys : tie.Need-sub-sort-keys
+sub-sort-keys c = zero≤
+
+part-sort-keys-start : tie.Need-part-sort-keys-start
+part-sort-keys-start c = zero≤
+
+part-sort-keys-end : tie.Need-part-sort-keys-end
+part-sort-keys-end c = let filled = c .before .before in omega (arith, few filled, filled .fill-keys .kept .1 .1 .0, start filled .pre .1 .1)
+
+sort-keys-requires : tie.Need-sort-keys-requires
+sort-keys-requires c κs = search needs
+
+settle-changes-requires : tie.Need-settle-changes-requires
+settle-changes-requires c κs =
+    let sorted = c .before .before .before .before .before in
+    let filled = sorted .before .before .before .before .before in
+    let s0 = start filled in
+    let p = s0 .pre in
+    let words = ap length (p .1 .0 .words) ∙ length-map (campaignOf (s0 .args .s .now) .countries) (λ k. k .tag .0) in (
+      p .0,
+      (
+        (
+          filled-all filled .counted,
+          omega (arith, few filled, sorted .sort-keys .kept .1 .0, p .1 .1 .1),
+          omega (arith, words, countries-few _ (p .0 .accepted)),
+        ),
+        p .1 .0,
+      ),
+    )
+
+same-length : tie.Need-same-length
+same-length c = search needs
+
+same-length-2 : tie.Need-same-length-2
+same-length-2 c = search needs
+
+returns : tie.Need-returns
+returns c =
+    let settled = c .before .before in
+    let sorted = settled .before .before .before .before .before .before in
+    let filled = sorted .before .before .before .before .before in
+    stepped _ (start filled .pre .0 .accepted) _ _ _ _ _ (filled-all filled) (sorted .sort-keys .ensures .keys) (settled .settle-changes .ensures)
+
+pub sort-steps-spec : {M : Type 1} → statement M
+sort-steps-spec =
+    tie.close
+    (tie.spec
+    fill-keys-requires
+    sub-sort-keys
+    part-sort-keys-start
+    part-sort-keys-end
+    sort-keys-requires
+    settle-changes-requires
+    same-length
+    same-length-2
+    returns)

@@ -1,0 +1,10 @@
+pub mod Layout
+pub mod Turning
+pub mod Keys
+pub mod Lookup
+pub mod Countries
+pub mod Settling
+pub mod Starting
+pub mod Holders
+pub mod Switches
+pub mod Gathering

@@ -1,0 +1,204 @@
+// The keys of all switches, by either order, and the targets of the switches.
+use crate::keys;
+use record::Countries;
+use record::CountryTag;
+use record::NextCountry;
+use record::NextPreviousTag;
+use record::NextSwitch;
+use record::PreviousTags;
+use record::Switch;
+use record::Switches;
+ghost use mathlib.Core.Path.{_≡_};
+ghost use mathlib.Core.List.{map};
+ghost use Prim.Native.Nat.{_+_, _≤_, _<_};
+ghost use lib.Dec.{leb};
+ghost use lib.ListN.{length, drop, getD};
+ghost use Rattle.lists.specs.Lists.{All};
+ghost use Rattle.sorting.specs.Sort.{sortBy};
+ghost use Rattle.record.specs.Cursors.{countriesLeft, switchesLeft, previousLeft};
+ghost use Rattle.rules.specs.Lent.{written};
+ghost use Rattle.rules.specs.Nations.{initialFrom};
+ghost use Rattle.nation_tables.specs.Layout.{keyRows, keyNumbers};
+ghost use Rattle.nation_tables.specs.Countries.{Filled, FilledFrom};
+ghost use Rattle.nation_tables.specs.Switches.{placed, ownPlaced, allPlaced, keyBy, KeyFits};
+ghost use Rattle.nation_tables.specs.Switches.{runsFrom, runKeys, chainWords, targetWords};
+
+// What the keys of switches are in order by: the tag that was left and the date, or the row of the country and the date.
+pub(crate) enum SwitchOrder {
+    ByFrom,
+    ByRow,
+}
+
+// The key of the record's switch of a number, made by the country in a row.
+fn switch_key(order: SwitchOrder, row: u64, number: usize, x: Switch) -> u64
+    requires { ⌜ (row < keyRows) × KeyFits order (placed row number x) ⌝ }
+    ensures { λ r. ⌜ r ≡ keyBy order (placed row number x) ⌝ }
+{
+    match order {
+        SwitchOrder::ByFrom => keys::settling_key(x.from, x.date, row),
+        SwitchOrder::ByRow => keys::run_key(row, x.date, number),
+    }
+}
+
+// Writes the keys of one country's switches from a place on, which is the number of the first, and returns the place behind them.
+fn own_keys(
+    s: &[u8],
+    switches: Switches,
+    row: u64,
+    order: SwitchOrder,
+    cells: &mut [u64],
+    at: usize,
+) -> usize
+    requires { ⌜ (row < keyRows) × (at + length (switchesLeft (now s) switches) ≤ length (now cells)) × All (KeyFits order) (ownPlaced row at (switchesLeft (now s) switches)) ⌝ }
+    ensures { λ r. ⌜ FilledFrom (map (keyBy order) (ownPlaced row at (switchesLeft (now (s .entry)) switches))) at r (now (cells .entry)) (now (cells .exit)) ⌝ }
+{
+    let mut left = switches;
+    let mut k = at;
+    loop {
+        match left.next(s) {
+            NextSwitch::Row(x, rest) => {
+                cells[k] = switch_key(order, row, k, x);
+                k += 1;
+                left = rest;
+            }
+            NextSwitch::End => return k,
+        }
+    }
+}
+
+// Writes the keys of all switches in the order of the rows, and returns how many there are.
+fn all_keys(s: &[u8], countries: Countries, order: SwitchOrder, cells: &mut [u64]) -> usize
+    requires { ⌜ (length (countriesLeft (now s) countries) ≤ keyRows) × (length (allPlaced 0 0 (countriesLeft (now s) countries)) ≤ length (now cells)) ⌝ }
+    requires { ⌜ All (KeyFits order) (allPlaced 0 0 (countriesLeft (now s) countries)) ⌝ }
+    ensures { λ r. ⌜ Filled (map (keyBy order) (allPlaced 0 0 (countriesLeft (now (s .entry)) countries))) r (now (cells .entry)) (now (cells .exit)) ⌝ }
+{
+    let mut left = countries;
+    let mut row = 0;
+    let mut k = 0;
+    loop {
+        match left.next(s) {
+            NextCountry::Row(country, rest) => {
+                let switches = country.switches;
+                k = own_keys(s, switches, row, order, cells, k);
+                row += 1;
+                left = rest;
+            }
+            NextCountry::End => return k,
+        }
+    }
+}
+
+// Writes the keys of all switches, in order, and returns how many there are. The scratch is to have room for as many.
+pub(crate) fn sorted_keys(
+    s: &[u8],
+    countries: Countries,
+    order: SwitchOrder,
+    cells: &mut [u64],
+    scratch: &mut [u64],
+) -> usize
+    requires { ⌜ (length (countriesLeft (now s) countries) ≤ keyRows) × (length (allPlaced 0 0 (countriesLeft (now s) countries)) ≤ length (now cells)) ⌝ }
+    requires { ⌜ All (KeyFits order) (allPlaced 0 0 (countriesLeft (now s) countries)) ⌝ }
+    ensures { λ r. ⌜ Filled (sortBy leb (map (keyBy order) (allPlaced 0 0 (countriesLeft (now (s .entry)) countries)))) r (now (cells .entry)) (now (cells .exit)) ⌝ }
+{
+    let n = all_keys(s, countries, order, cells);
+    sorting::sort_keys(&mut cells[0..n], scratch);
+    n
+}
+
+// The keys of all switches by the rows of their countries, in order, and how many there are.
+pub(crate) fn run_keys(
+    s: &[u8],
+    countries: Countries,
+    keys: &mut [u64],
+    scratch: &mut [u64],
+) -> usize
+    requires { ⌜ (length (countriesLeft (now s) countries) ≤ keyRows) × (length (runsFrom 0 0 (countriesLeft (now s) countries)) ≤ keyNumbers) ⌝ }
+    requires { ⌜ length (runsFrom 0 0 (countriesLeft (now s) countries)) ≤ length (now keys) ⌝ }
+    ensures { λ r. ⌜ Filled (runKeys (countriesLeft (now (s .entry)) countries)) r (now (keys .entry)) (now (keys .exit)) ⌝ }
+{
+    sorted_keys(s, countries, SwitchOrder::ByRow, keys, scratch)
+}
+
+// The previous tags behind the first one.
+fn past_first(s: &[u8], previous: PreviousTags) -> PreviousTags
+    ensures { λ r. ⌜ previousLeft (now (s .entry)) r ≡ drop 1 (previousLeft (now (s .entry)) previous) ⌝ }
+{
+    match previous.next(s) {
+        NextPreviousTag::Row(_, rest) => rest,
+        NextPreviousTag::End => previous,
+    }
+}
+
+// The from of the first switch, else the first previous tag, else the country's tag. Over all switches of a country this is its initial, and
+// over those behind a switch, each with its previous tag, it is that switch's target.
+pub(crate) fn first_tag(
+    s: &[u8],
+    switches: Switches,
+    previous: PreviousTags,
+    tag: CountryTag,
+) -> CountryTag
+    ensures { λ r. ⌜ r ≡ initialFrom (switchesLeft (now (s .entry)) switches) (previousLeft (now (s .entry)) previous) tag ⌝ }
+{
+    match switches.next(s) {
+        NextSwitch::Row(first, _) => first.from,
+        NextSwitch::End => match previous.next(s) {
+            NextPreviousTag::Row(first, _) => first,
+            NextPreviousTag::End => tag,
+        },
+    }
+}
+
+// Writes the target of each of one country's switches from a place on, and returns the place behind them. One previous tag is passed for
+// each switch, so the last switch finds the one of its number.
+fn own_targets(
+    s: &[u8],
+    switches: Switches,
+    previous: PreviousTags,
+    tag: CountryTag,
+    targets: &mut [u64],
+    at: usize,
+) -> usize
+    requires { ⌜ at + length (switchesLeft (now s) switches) ≤ length (now targets) ⌝ }
+    ensures { λ r. ⌜ FilledFrom (chainWords (getD (previousLeft (now (s .entry)) previous) (length (switchesLeft (now (s .entry)) switches)) tag) (switchesLeft (now (s .entry)) switches)) at r (now (targets .entry)) (now (targets .exit)) ⌝ }
+{
+    let mut left = switches;
+    let mut tags = previous;
+    let mut k = at;
+    loop {
+        match left.next(s) {
+            NextSwitch::Row(_, rest) => {
+                tags = past_first(s, tags);
+                let target = first_tag(s, rest, tags, tag);
+                targets[k] = target.word() as u64;
+                k += 1;
+                left = rest;
+            }
+            NextSwitch::End => return k,
+        }
+    }
+}
+
+// Writes the word of each switch's target, in the order of the rows.
+pub(crate) fn fill_targets(s: &[u8], countries: Countries, targets: &mut [u64])
+    requires { ⌜ length (targetWords (countriesLeft (now s) countries)) ≤ length (now targets) ⌝ }
+    ensures { λ _. ⌜ now (targets .exit) ≡ written (targetWords (countriesLeft (now (s .entry)) countries)) (now (targets .entry)) ⌝ }
+{
+    let mut left = countries;
+    let mut k = 0;
+    loop {
+        match left.next(s) {
+            NextCountry::Row(country, rest) => {
+                k = own_targets(
+                    s,
+                    country.switches,
+                    country.previous,
+                    country.tag,
+                    targets,
+                    k,
+                );
+                left = rest;
+            }
+            NextCountry::End => return,
+        }
+    }
+}
