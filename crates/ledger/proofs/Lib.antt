@@ -1,0 +1,4 @@
+pub mod IndexLaws
+pub mod LedgerLaws
+pub mod NationLaws
+pub mod LedgerOutcomeLaws

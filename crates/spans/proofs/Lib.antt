@@ -1,0 +1,4 @@
+pub mod SpanLaws
+pub mod ReadLaws
+pub mod FilledLaws
+pub mod FillsLaws
