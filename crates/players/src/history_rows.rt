@@ -11,7 +11,7 @@ ghost use Rattle.players.specs.Cases.{historyTold};
 ghost use Rattle.players.specs.HistoryAt.{historyRowAt};
 
 // How many words a history row has.
-const HISTORY_WIDTH: usize = 7;
+pub const HISTORY_WIDTH: usize = 7;
 
 // A history row: three tags; its nation, counted from 1, or 0; 1 for a human; where its names begin in the list of names, and how many.
 pub struct History {

@@ -19,9 +19,9 @@ pub(crate) struct Pair {
 }
 
 // A cursor over pairs: the strings left, and the number of the first of them.
-pub(crate) struct Pairs {
-    pub(crate) number: u32,
-    pub(crate) strings: Strings,
+pub struct Pairs {
+    pub number: u32,
+    pub strings: Strings,
 }
 
 pub(crate) enum NextPair {

@@ -16,9 +16,9 @@ ghost use Rattle.players.specs.PlayerSteps.{madeOf, playersLeft, playerT
 const NAMELESS_LEN: usize = 6;
 
 // A player: the string number of the name, and the tag.
-pub(crate) struct Player {
-    pub(crate) name: u32,
-    pub(crate) tag: CountryTag,
+pub struct Player {
+    pub name: u32,
+    pub tag: CountryTag,
 }
 
 pub(crate) enum Made {
@@ -26,7 +26,7 @@ pub(crate) enum Made {
     Nobody,
 }
 
-pub(crate) enum NextPlayer {
+pub enum NextPlayer {
     Row(Player, Pairs),
     End,
 }
@@ -65,7 +65,7 @@ fn made_of(s: &[u8], pair: Pair, multiplayer: bool) -> Made
 }
 
 // The next player in string order, and where to go on.
-pub(crate) fn next_player(s: &[u8], start: Pairs, multiplayer: bool) -> NextPlayer
+pub fn next_player(s: &[u8], start: Pairs, multiplayer: bool) -> NextPlayer
     ensures { λ r. ⌜ playersLeft (now (s .entry)) multiplayer start ≡ playerTold (now (s .entry)) multiplayer r ⌝ }
 {
     let mut at = start;

@@ -1,0 +1,4 @@
+pub mod Cases
+pub mod Tables
+pub mod Drafts
+pub mod Arranging
