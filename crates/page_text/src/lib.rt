@@ -1,0 +1,15 @@
+// The text of the page: the selection read, and a line for each of its tags.
+mod decimal;
+mod fields;
+mod lines;
+mod selection;
+mod status;
+mod stored;
+mod tag_lines;
+mod text;
+
+pub use decimal::put_number;
+pub use selection::Selection;
+pub use selection::read_selection;
+pub use text::Text;
+pub use text::write_text;

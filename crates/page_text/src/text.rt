@@ -1,0 +1,148 @@
+// The text of the page: held against the room first, then written.
+use crate::decimal;
+use crate::fields;
+use crate::fields::LINE_FEED;
+use crate::selection;
+use crate::selection::NextTag;
+use crate::selection::Selection;
+use crate::selection::TAG_LINE;
+use crate::stored;
+use crate::stored::MOST_NATIONS;
+use crate::tag_lines;
+use chronicle_rows::nation_count;
+ghost use mathlib.Core.Path.{_≡_};
+ghost use mathlib.Core.List.{_++_};
+ghost use Prim.Native.Nat.{_≤_};
+ghost use lib.Dec.{leb};
+ghost use lib.ListN.{length};
+ghost use Rattle.rules.specs.Lent.{written};
+ghost use Rattle.rules.specs.Page.{selectionOf, tagsRead};
+ghost use Rattle.page_text.specs.Selecting.{IsTags};
+ghost use Rattle.page_text.specs.Lines.{heading};
+ghost use Rattle.page_text.specs.Stored.{Tabled, linesOf};
+ghost use Rattle.page_text.specs.Texts.{TextWritten, WritesText};
+
+// How many bytes were written, or that the page has no room.
+pub enum Text {
+    Bytes(usize),
+    NoRoom,
+}
+
+// Whether the lines of all tags have room.
+fn lines_fit(nations: &[u32], keys: &[u64], living: &[bool], selection: &[u8], room: usize) -> bool
+    requires { ⌜ (Tabled (now nations) (now keys) (now living)) × (IsTags (now selection)) ⌝ }
+    ensures { λ r. ⌜ r ≡ leb (length (linesOf (now (nations .entry)) (now (living .entry)) (tagsRead (selectionOf (now (selection .entry)))))) room ⌝ }
+{
+    let mut at = 0;
+    let mut left = room;
+    loop {
+        match selection::next_tag(selection, at) {
+            NextTag::Row(tag) => {
+                let need = tag_lines::tag_length(nations, keys, living, tag);
+                if left < need {
+                    return false;
+                }
+                left -= need;
+            }
+            NextTag::End => {
+                return true;
+            }
+            NextTag::NoTag => {
+                return true;
+            }
+        }
+        at += TAG_LINE;
+    }
+}
+
+// Writes the lines of all tags, and gives how many bytes they have.
+fn put_lines(
+    nations: &[u32],
+    keys: &[u64],
+    living: &[bool],
+    selection: &[u8],
+    out: &mut [u8],
+) -> usize
+    requires { ⌜ (Tabled (now nations) (now keys) (now living)) × (IsTags (now selection)) × (length (linesOf (now nations) (now living) (tagsRead (selectionOf (now selection)))) ≤ length (now out)) ⌝ }
+    ensures { λ r. ⌜ (r ≡ length (linesOf (now (nations .entry)) (now (living .entry)) (tagsRead (selectionOf (now (selection .entry)))))) × (now (out .exit) ≡ written (linesOf (now (nations .entry)) (now (living .entry)) (tagsRead (selectionOf (now (selection .entry))))) (now (out .entry))) ⌝ }
+{
+    let mut at = 0;
+    let mut k = 0;
+    loop {
+        match selection::next_tag(selection, at) {
+            NextTag::Row(tag) => {
+                k += tag_lines::put_line(nations, keys, living, tag, &mut out[k..]);
+            }
+            NextTag::End => {
+                return k;
+            }
+            NextTag::NoTag => {
+                return k;
+            }
+        }
+        at += TAG_LINE;
+    }
+}
+
+// How many bytes the first line has.
+fn heading_length(count: usize) -> usize
+    ensures { λ r. ⌜ r ≡ length (heading count) ⌝ }
+{
+    decimal::decimal_length(count as u64) + 10
+}
+
+// Writes the first line, and gives how many bytes it has.
+fn put_heading(count: usize, out: &mut [u8]) -> usize
+    requires { ⌜ length (heading count) ≤ length (now out) ⌝ }
+    ensures { λ r. ⌜ (r ≡ length (heading count)) × (now (out .exit) ≡ written (heading count) (now (out .entry))) ⌝ }
+{
+    fields::put_selected(out);
+    let k = 9 + decimal::write_decimal(count as u64, &mut out[9..]);
+    out[k] = LINE_FEED;
+    k + 1
+}
+
+// The page from tables of the nations, for a selection that is so many tags.
+fn write_tabled(
+    nations: &[u32],
+    keys: &[u64],
+    living: &[bool],
+    selection: &[u8],
+    count: usize,
+    out: &mut [u8],
+) -> Text
+    requires { ⌜ (Tabled (now nations) (now keys) (now living)) × (IsTags (now selection)) ⌝ }
+    ensures { λ r. ⌜ TextWritten r (heading count ++ linesOf (now (nations .entry)) (now (living .entry)) (tagsRead (selectionOf (now (selection .entry))))) (now (out .entry)) (now (out .exit)) ⌝ }
+{
+    let first = heading_length(count);
+    if out.len() < first {
+        return Text::NoRoom;
+    }
+    if !lines_fit(nations, keys, living, selection, out.len() - first) {
+        return Text::NoRoom;
+    }
+    put_heading(count, out);
+    let rest = put_lines(nations, keys, living, selection, &mut out[first..]);
+    Text::Bytes(first + rest)
+}
+
+// The page of a chronicle's nations for a selection: its first line, then a line for each tag read; held against the room before anything
+// is written. Promised of well-shaped words of at most 2,000 nations, and of a selection that is tags.
+pub fn write_text(nations: &[u32], entries: &[u32], selection: &[u8], out: &mut [u8]) -> Text
+    ensures { λ r. ⌜ WritesText (now (nations .entry)) (now (entries .entry)) (now (selection .entry)) r (now (out .entry)) (now (out .exit)) ⌝ }
+{
+    let n = nation_count(nations);
+    if MOST_NATIONS < n {
+        return Text::NoRoom;
+    }
+    match selection::read_selection(selection) {
+        Selection::Tags(count) => {
+            let mut keys = [0u64; MOST_NATIONS];
+            let mut living = [false; MOST_NATIONS];
+            stored::sort_stored(nations, &mut keys);
+            stored::fill_living(nations, entries, &mut living);
+            write_tabled(nations, &keys[0..n], &living[0..n], selection, count, out)
+        }
+        Selection::NotTags => Text::NoRoom,
+    }
+}

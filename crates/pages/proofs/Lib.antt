@@ -1,0 +1,9 @@
+pub mod AnswerLaws
+pub mod BeginLaws
+pub mod CutLaws
+pub mod PageLaws
+pub mod PrintLaws
+pub mod RefusalLaws
+pub mod RoomLaws
+pub mod SizeLaws
+pub mod TextLaws
