@@ -1,6 +1,13 @@
 // The chronicle of a campaign.
 pub use bookings::Bookings;
 pub use bookings::war_participants;
+pub use histories::HistoryCounts;
+pub use histories::PlayerHistories;
+pub use histories::player_histories;
+pub use ledger::NationLedger;
+pub use ledger::nation_ledger;
+pub use ledger::nation_ledger_rows;
+pub use ledger::nation_ledgers;
 pub use nations::NationCounts;
 pub use nations::NationEvents;
 pub use nations::nation_events;
@@ -8,6 +15,14 @@ pub use owner_changes::EventsOn;
 pub use owner_changes::Owners;
 pub use owner_changes::events_on;
 pub use owner_changes::province_owners;
+pub use players::History;
+pub use players::Players;
+pub use players::Starting;
+pub use players::history_at;
+pub use players::history_count;
+pub use players::is_history_shaped;
+pub use players::players;
+pub use players::starting_country;
 pub use questions::Each;
 pub use questions::resolve_each;
 pub use resolver::Resolved;

@@ -1,12 +1,21 @@
-// Replays what lent.bin has stored about lent chronicles: what the Rust answers to questions, one at a time and many at once, and which
-// wars it books, with what is refused. Counts the wrong answers, and those that were falsified in the list and noticed. The list is made
-// by host/oracle's lent_vectors; its numbers take 32 bits each, low byte first. A vector has the count of its numbers, then its head: its
-// kind (0 questions, 1 bookings), whether an answer is falsified, how many words of nations and of entries, questions asked one at a time,
-// words of questions asked at once, cells lent for all those or for bookings, the number of their refusal or 0, words of their answers,
-// and bytes of the record; then these. A question asked one at a time has seven: form, day, tag, date, refusal's number or 0, current,
-// stored.
+// Replays what lent.bin has stored about lent chronicles: what the Rust answers to questions, one at a time and many at once, which wars it
+// books, its ledgers, players, histories and starting countries, with what is refused. Counts the wrong answers, and those that were
+// falsified in the list and noticed. The list is made by host/oracle's lent_vectors; its numbers take 32 bits each, low byte first. A vector
+// has the count of its numbers, then its head: its kind, whether an answer is falsified, how many words of nations and of entries, questions
+// asked one at a time, words besides, cells lent for the answer, the number of its refusal or 0, words of the answer, and bytes of the
+// record; then these. By kind:
+// 0 questions; the words besides are those asked at once. One asked at a time has seven: form, day, tag, date, refusal's number or 0,
+//   current, stored.
+// 1 war bookings.
+// 2 a nation's ledger; besides: its number, how many rows to count at most, and what counting them gives, a refusal's number or 0 and rows.
+// 3 the ledgers of all nations; besides: cells lent for counts, then the counts.
+// 4 players.
+// 5 histories; besides: cells lent for names, then the names.
+// 6 a starting country; besides: the history words.
 mod asking;
 mod booking;
+mod ledgers;
+mod playing;
 mod stored;
 
 use libc::STDOUT_FILENO;
@@ -64,67 +73,65 @@ fn places_of(words: &[u32]) -> Places
     }
 }
 
-// How many questions asked one at a time are answered otherwise than stored.
-fn wrong_single(words: &[u32], at: Places) -> u64
-    requires { ⌜ (10 ≤ at .entries) × (at .entries ≤ at .single) × (at .single ≤ at .many) × (at .many ≤ length (now words)) × (length (now words) ≤ 4096) ⌝ }
-    ensures { λ r. ⌜ r ≤ 4096 ⌝ }
+// How many answers of a kind are other ones than stored: by the record, the parts of the vector in their order, and of its head the cells
+// lent and the refusal's number.
+fn other_answers(
+    kind: u32,
+    s: &[u8],
+    nations: &[u32],
+    entries: &[u32],
+    single: &[u32],
+    many: &[u32],
+    room: usize,
+    number: u32,
+    answers: &[u32],
+) -> u64
+    requires { ⌜ (room ≤ 4096) × (length (now single) ≤ 4096) ⌝ }
+    ensures { λ r. ⌜ r ≤ 4097 ⌝ }
 {
-    let entries = at.entries;
-    let single = at.single;
-    let many = at.many;
-    asking::wrong_answers(
-        &words[HEAD..entries],
-        &words[entries..single],
-        &words[single..many],
-    )
+    if kind == 0 {
+        return asking::wrong_answers(nations, entries, single)
+            + asking::wrong_rows(nations, entries, many, room, number, answers);
+    }
+    if kind == 1 {
+        return booking::wrong_rows(s, nations, entries, room, number, answers);
+    }
+    if kind == 2 {
+        return ledgers::wrong_ledger(s, nations, entries, many, room, number, answers)
+            + ledgers::wrong_count(s, nations, entries, many);
+    }
+    if kind == 3 {
+        return ledgers::wrong_ledgers(s, nations, entries, many, room, number, answers);
+    }
+    if kind == 4 {
+        return playing::wrong_players(s, room, number, answers);
+    }
+    if kind == 5 {
+        return playing::wrong_histories(s, nations, entries, many, room, number, answers);
+    }
+    playing::wrong_starting(many, nations, entries, number, answers)
 }
 
-// 1 if the questions asked at once are answered otherwise than stored.
-fn wrong_many(words: &[u32], at: Places) -> u64
-    requires { ⌜ (10 ≤ at .entries) × (at .entries ≤ at .single) × (at .single ≤ at .many) × (at .many ≤ at .answers) × (at .answers ≤ length (now words)) ⌝ }
-    ensures { λ r. ⌜ r ≤ 1 ⌝ }
+// The same of the parts that stand at these places.
+fn other_parts(s: &[u8], words: &[u32], at: Places) -> u64
+    requires { ⌜ (10 ≤ at .entries) × (at .entries ≤ at .single) × (at .single ≤ at .many) × (at .many ≤ at .answers) × (at .answers ≤ length (now words)) × (length (now words) ≤ 4096) ⌝ }
+    ensures { λ r. ⌜ r ≤ 4097 ⌝ }
 {
     let entries = at.entries;
     let single = at.single;
     let many = at.many;
     let answers = at.answers;
-    asking::wrong_rows(
+    other_answers(
+        words[0],
+        s,
         &words[HEAD..entries],
         &words[entries..single],
+        &words[single..many],
         &words[many..answers],
         stored::number(words, 6),
         words[7],
         &words[answers..words.len()],
     )
-}
-
-// 1 if the bookings are other ones than stored.
-fn wrong_bookings(s: &[u8], words: &[u32], at: Places) -> u64
-    requires { ⌜ (10 ≤ at .entries) × (at .entries ≤ at .single) × (at .single ≤ at .answers) × (at .answers ≤ length (now words)) ⌝ }
-    ensures { λ r. ⌜ r ≤ 1 ⌝ }
-{
-    let entries = at.entries;
-    let single = at.single;
-    let answers = at.answers;
-    booking::wrong_rows(
-        s,
-        &words[HEAD..entries],
-        &words[entries..single],
-        stored::number(words, 6),
-        words[7],
-        &words[answers..words.len()],
-    )
-}
-
-// How many answers are other ones than stored.
-fn other_answers(s: &[u8], words: &[u32], at: Places) -> u64
-    requires { ⌜ (10 ≤ at .entries) × (at .entries ≤ at .single) × (at .single ≤ at .many) × (at .many ≤ at .answers) × (at .answers ≤ length (now words)) × (length (now words) ≤ 4096) ⌝ }
-    ensures { λ r. ⌜ r ≤ 4097 ⌝ }
-{
-    if words[0] == 0 {
-        return wrong_single(words, at) + wrong_many(words, at);
-    }
-    wrong_bookings(s, words, at)
 }
 
 // Checks a vector of so many numbers, and its record.
@@ -136,11 +143,11 @@ fn replay_vector(s: &[u8], words: &[u32]) -> Replayed
     if at.end != words.len() {
         return broken();
     }
-    if words[0] > 1 {
+    if words[0] > 6 {
         return broken();
     }
     let questions = stored::number(words, 4) as u64;
-    let other = other_answers(s, words, at);
+    let other = other_parts(s, words, at);
     if words[1] == 0 {
         return Replayed {
             more: true,

@@ -75,3 +75,16 @@ pub(crate) fn same_cells(cells: &[u32], words: &[u32]) -> bool {
     }
     true
 }
+
+// The same of cells of 64 bits.
+pub(crate) fn same_counts(cells: &[u64], words: &[u32]) -> bool {
+    let mut i = 0;
+    while i < cells.len() {
+        let expected = if i < words.len() { words[i] } else { BEFORE };
+        if cells[i] != expected as u64 {
+            return false;
+        }
+        i += 1;
+    }
+    true
+}

@@ -35,6 +35,11 @@ minus-same n h = ap (λ (z : ℤ). pos 0 -ℤ z) (toZ-pos w64 {n = n} (omega ari
 pub returns-of : {M : Type 0} {o p : Outcome ℕ M} {r : ℤ} → p ≡ o → r ≡ returned (p .answer) → Returns o r (p .memory)
 returns-of e q = record { answer = q ∙ ap (λ x. returned (x .answer)) e; cells = ap (λ x. x .memory) e }
 
+-- A number is given only where the answer has room.
+pub room-true : (b : Bool) → roomNumber b ≡ 0 → b ≡ true
+room-true true h = refl
+room-true false h = absurd (omega arith)
+
 -- ## The run
 
 module _ (xs : List ℕ) (date : ℕ) (before : List ℕ) where

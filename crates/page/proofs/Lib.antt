@@ -1,2 +1,4 @@
 pub mod HostLaws
+pub mod LedgersLaws
+pub mod PlayingLaws
 pub mod ResolvingLaws

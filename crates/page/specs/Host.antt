@@ -2,6 +2,7 @@
 -- every call that has an outcome. `check` has none: it is lent nothing to write, and returns the record's number as it stands.
 use mathlib.Core.Path.{_≡_}
 use mathlib.Core.List.{List, [], _∷_}
+use mathlib.Core.Option.{Option, none, some}
 use Prim.Native.Nat.{ℕ}
 use lib.IntN.{ℤ, pos, negℤ}
 use lib.ListN.{length}
@@ -14,10 +15,24 @@ abbrev pub returned : Answer ℕ → ℤ
 returned (gives n) = pos n
 returned (refused n) = negℤ (pos n)
 
+-- The largest number that can be given.
+abbrev pub mostReturned : ℕ
+mostReturned = 9223372036854775807
+
 -- What a call returns and leaves in the memory that it was lent.
 pub record Returns {M : Type 0} (o : Outcome ℕ M) (r : ℤ) (after : M) : Type 0 where
   pub answer : r ≡ returned (o .answer)
   pub cells : after ≡ o .memory
+
+-- ## An answer that may be none, with its words in a lent slice
+
+-- Given how what is found is told in words. Refused as before; none writes nothing and asks for no room; what is found is written, and
+-- the number is that of its words, or it is refused by 10.
+abbrev pub foundCells : {A : Type 0} → (A → List ℕ) → Answer (Option A) → List ℕ → Outcome ℕ (List ℕ)
+foundCells words (refused n) before = record { answer = refused n; memory = before }
+foundCells words (gives none) before = record { answer = gives 0; memory = before }
+foundCells words (gives (some x)) before =
+    outcome (roomNumber (fits (words x) before)) (length (words x)) (written (words x) before) before
 
 -- ## `events_on`, with the run in a lent slice
 

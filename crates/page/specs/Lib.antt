@@ -1,3 +1,4 @@
 pub mod Host
 pub mod Inner
+pub mod Playing
 pub mod Resolving

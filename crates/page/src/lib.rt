@@ -1,11 +1,16 @@
 // What the Rust host calls: C functions over slices. A slice is a pointer and then a length.
 mod booking;
+mod ledgers;
+mod paging;
+mod playing;
 mod resolving;
 
 use chronicle::EventsOn;
 use chronicle::NationCounts;
 use chronicle::NationEvents;
 use chronicle::Owners;
+pub use pages::Paged;
+pub use pages::write_page;
 use record::Eu4Date;
 ghost use mathlib.Core.Path.{_≡_};
 ghost use mathlib.Core.List.{_∷_, []};

@@ -3,7 +3,8 @@ use mathlib.Core.Path.{sym, ap, _∙_}
 use mir.Syntax.{w64}
 use mir.Facts.{toZ-ofZ}
 use Rattle.resolver.specs.Cases.{resolvedAnswer}
-use Rattle.page.proofs.ResolvingLaws.{data-refused, data-none, data-short, data-found}
+use Rattle.page.specs.Resolving.{dataWords}
+use Rattle.page.proofs.ResolvingLaws.{found-refused, found-none, found-short, data-found}
 use borrow.Author.Needs.{needs}
 use Rattle.page.proofs.resolving.put_data.Statement.{statement}
 use Rattle.page.proofs.resolving.put_data.Tie as tie
@@ -16,7 +17,7 @@ minus-requires c κs = search needs
 
 returns : tie.Need-returns
 returns c =
-    data-short _ _ _ (ap resolvedAnswer (c .before .before .before .answer .given .1)) _ (c .before .if1 .taken) (toZ-ofZ {w = w64} (record { sfits = c .minus .ok }) ∙ c .minus .ensures)
+    found-short dataWords _ _ _ (ap resolvedAnswer (c .before .before .before .answer .given .1)) _ (c .before .if1 .taken) (toZ-ofZ {w = w64} (record { sfits = c .minus .ok }) ∙ c .minus .ensures)
 
 word-requires : tie.Need-word-requires
 word-requires c κs = search needs
@@ -48,11 +49,11 @@ returns-2 c =
     data-found _ _ _ (ap resolvedAnswer (found .before .before .answer .given .1)) _ _ (found .if1 .left) (c .before .word .ensures) (c .word2 .ensures)
 
 returns-3 : tie.Need-returns-3
-returns-3 c = data-none _ _ (ap resolvedAnswer (c .enum-told .given .1))
+returns-3 c = found-none dataWords _ _ (ap resolvedAnswer (c .enum-told .given .1))
 
 returns-4 : tie.Need-returns-4
 returns-4 c =
-    data-refused _ _ _ _ (ap resolvedAnswer (c .before .before .answer2 .given .1)) (toZ-ofZ {w = w64} (record { sfits = c .minus2 .ok }) ∙ c .minus2 .ensures)
+    found-refused dataWords _ _ _ _ (ap resolvedAnswer (c .before .before .answer2 .given .1)) (toZ-ofZ {w = w64} (record { sfits = c .minus2 .ok }) ∙ c .minus2 .ensures)
 
 pub put-data-spec : {M : Type 1} → statement M
 put-data-spec =
