@@ -1,11 +1,16 @@
 //! Campaigns at 01's limits, each with a shape that somebody's algorithm may dislike.
 
-use std::collections::BTreeSet;
+mod ledgers;
+pub mod pages;
+mod tags;
 
-use crate::generate::{at_limits, sized, Random, TAG_BYTES};
+pub use ledgers::{in_ledgers, overlong, yearly, OVERLONG_WORDS};
+
+use crate::generate::{at_limits, sized, Random};
 use crate::layout::{Counts, LIMITS};
 use crate::pack::{Campaign, Date, OwnerEvent, Switch, Tag, NONE};
 use crate::wars;
+use tags::own_tags;
 
 /// The day everything happens on, where it is one day; it lies after every start drawn here.
 const ONE_DAY: Date = 99991231;
@@ -23,16 +28,22 @@ pub type Extreme = (&'static str, fn() -> Campaign);
 pub const ALL: [Extreme; 11] = [
     ("everything at its limit", at_limits),
     ("everything at its limit, each country under tags of its own", own_tags),
-    ("all events in one province", || at_war(all_in_one_province())),
-    ("everything on one day", || at_war(on_one_day())),
-    ("all dates falling", || at_war(falling())),
-    ("two owners by turns", || at_war(by_turns())),
-    ("one country with all switches, from one tag", || at_war(late_changes(20_000))),
-    ("all countries began alike", || at_war(began_alike())),
-    ("provinces in reverse, dates rising", || at_war(reversed(rising(nations(8))))),
-    ("four tags and ten dates", || at_war(few_tags())),
-    ("one country with all switches, by turns under four tags", || switching(20_000, 4)),
+    ("all events in one province", || whole(all_in_one_province())),
+    ("everything on one day", || whole(on_one_day())),
+    ("all dates falling", || whole(falling())),
+    ("two owners by turns", || whole(by_turns())),
+    ("one country with all switches, from one tag", || whole(late_changes(20_000))),
+    ("all countries began alike", || whole(began_alike())),
+    ("provinces in reverse, dates rising", || whole(reversed(rising(nations(8))))),
+    ("four tags and ten dates", || whole(few_tags())),
+    ("one country with all switches, by turns under four tags", || {
+        in_ledgers(switching(20_000, 4))
+    }),
 ];
+
+fn whole(campaign: Campaign) -> Campaign {
+    in_ledgers(at_war(campaign))
+}
 
 /// The same campaign with as many wars as there may be, about its switches.
 ///
@@ -168,34 +179,6 @@ pub fn rising(mut campaign: Campaign) -> Campaign {
     campaign
 }
 
-/// No two countries ever have the same tag, so that whoever wears one wears it alone.
-fn own_tags() -> Campaign {
-    let mut campaign = sized(&LIMITS, 2);
-    let taken: BTreeSet<Tag> = campaign.countries.iter().map(|country| country.tag).collect();
-    let mut free = every_tag().filter(|tag| *tag != NONE && !taken.contains(tag));
-    for country in &mut campaign.countries {
-        country.previous_tags.iter_mut().zip(&mut free).for_each(|(tag, own)| *tag = own);
-        country.switches.iter_mut().zip(&mut free).for_each(|(switch, own)| switch.from = own);
-    }
-    let mut random = Random::new(11);
-    for province in &mut campaign.provinces {
-        let mut owner = || {
-            let country = &campaign.countries[random.below(campaign.countries.len())];
-            let switch = country.switches.get(random.below(4));
-            switch.map_or(country.tag, |switch| switch.from)
-        };
-        province.owner = owner();
-        province.events.iter_mut().for_each(|event| event.tag = owner());
-    }
-    at_war(campaign)
-}
-
-/// Every tag that there is.
-fn every_tag() -> impl Iterator<Item = Tag> {
-    let bytes = || TAG_BYTES.iter().rev().copied();
-    bytes().flat_map(move |a| bytes().flat_map(move |b| bytes().map(move |c| [a, b, c])))
-}
-
 fn all_in_one_province() -> Campaign {
     let mut campaign = nations(2);
     let rows = campaign.provinces.iter_mut();
@@ -285,6 +268,7 @@ mod tests {
             assert_eq!((counts.countries, counts.provinces), (2_000, 8_000), "{name}");
             assert_eq!((counts.switches, counts.owner_events), (20_000, 60_000), "{name}");
             assert_eq!((counts.wars, counts.war_events), (5_000, 100_000), "{name}");
+            assert_eq!((counts.ledger_names, counts.points), (2_000, 1_000_000), "{name}");
         }
     }
 }

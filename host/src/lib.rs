@@ -6,7 +6,8 @@
 //! [`adversary`], [`wars`], [`extremes`], [`lists`], [`edges`], [`damage`], [`cases`],
 //! [`vectors`]), memory to lend ([`guard`], [`seal`], [`trial`]), an independent checker
 //! ([`mod@reference`]), an independent model of the answers ([`model`]), a second count of who
-//! holds what ([`recount`]) and what the answers of one record owe each other ([`demand`]).
+//! holds what ([`recount`]), what the answers of one record owe each other ([`demand`]) and the program
+//! `page`, run ([`program`]).
 //!
 //! "01" in the comments is ../shared/docs/01-scope.md, the rules.
 
@@ -22,10 +23,17 @@ pub mod extremes;
 pub mod generate;
 pub mod guard;
 pub mod layout;
+#[cfg(feature = "nation_ledger")]
+mod ledger;
 mod library;
 pub mod lists;
 pub mod model;
 pub mod pack;
+#[cfg(feature = "page")]
+mod page;
+#[cfg(feature = "players")]
+mod players;
+pub mod program;
 pub mod recount;
 pub mod reference;
 mod refusal;
@@ -41,6 +49,10 @@ pub mod vectors;
 pub mod wars;
 
 pub use library::*;
+#[cfg(feature = "page")]
+pub use page::{page, write_page, LONGEST_PAGE};
+#[cfg(feature = "players")]
+pub use players::*;
 pub use refusal::Refusal;
 #[cfg(feature = "resolver")]
 pub use resolver::{Chronicle, TagData};

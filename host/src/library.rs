@@ -206,7 +206,12 @@ pub fn nation_events(record: &[u8], room: Room<'_>) -> Result<(), Refusal> {
 }
 
 /// A count, or minus the number of a refusal.
-#[cfg(any(feature = "province_owners", feature = "nation_events", feature = "resolver"))]
+#[cfg(any(
+    feature = "province_owners",
+    feature = "nation_events",
+    feature = "resolver",
+    feature = "page"
+))]
 pub(crate) fn counted(function: &str, answer: i64) -> Result<usize, Refusal> {
     match (usize::try_from(answer), answer.checked_neg().and_then(refusal)) {
         (Ok(count), _) => Ok(count),

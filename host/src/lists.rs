@@ -6,7 +6,7 @@ use std::collections::BTreeSet;
 use crate::calendar::{day_after, day_before};
 use crate::generate::{repeat, shuffle, Random};
 use crate::pack::{Date, Tag};
-use crate::rows::{tag_word, Entry, Kind, Nation, Question};
+use crate::rows::{tag_word, Entry, History, Kind, Nation, Question};
 
 /// No campaign drawn here has these.
 pub(crate) const NOBODY: [Tag; 2] = [*b"0zZ", *b"Zz0"];
@@ -76,6 +76,47 @@ fn to_nobody(random: &mut Random, entries: &mut [Entry]) {
         let place = random.below(entries.len());
         entries[place].kind = Kind::Switch(random.pick(&NOBODY));
     }
+}
+
+/// Histories told anew, as no campaign has them: some stand twice or are missing, point at another of
+/// so many nations or at none, and begin otherwise.
+///
+/// ```
+/// use chronicle_host::{generate::Random, lists::altered_histories, model, sample};
+///
+/// let histories = model::histories(&sample::worked(), &[]);
+/// let told = altered_histories(&mut Random::new(1), &histories, 0, &[*b"ENG"]);
+/// assert!(told.iter().all(|history| history.nation.is_none() && history.stored == *b"ENG"));
+/// ```
+pub fn altered_histories(
+    random: &mut Random,
+    histories: &[History],
+    nations: usize,
+    tags: &[Tag],
+) -> Vec<History> {
+    let mut list = histories.to_vec();
+    let more = random.below(4);
+    list.extend(repeat(more, || any_history(random, nations, tags)));
+    for history in &mut list {
+        match random.below(6) {
+            0 => history.nation = None,
+            1 => history.initial = random.pick(tags),
+            2 => *history = any_history(random, nations, tags),
+            _ => {}
+        }
+    }
+    shuffle(random, &mut list);
+    let fewer = random.below(4);
+    if random.below(2) == 0 {
+        list.truncate(fewer);
+    }
+    list
+}
+
+fn any_history(random: &mut Random, nations: usize, tags: &[Tag]) -> History {
+    let [initial, latest, stored] = [0; 3].map(|_| random.pick(tags));
+    let nation = random.below(nations + 1).checked_sub(1);
+    History { initial, latest, stored, nation, human: random.below(2) == 0, names: vec![] }
 }
 
 /// What to ask a resolver about a list, in all four forms: for these tags and every tag of the

@@ -1,5 +1,11 @@
 //! The rows of the answers, as values and as the 32-bit words that 01 writes for them.
 
+mod ledger;
+mod players;
+
+pub use ledger::{ledger_words, LedgerRow};
+pub use players::{history_words, name_words, player_words, History, Player};
+
 use crate::pack::{Date, Tag};
 
 /// A tag's word: its bytes a×65536 + b×256 + c.
@@ -238,36 +244,6 @@ impl Booking {
 /// ```
 pub fn booking_words(bookings: &[Booking]) -> Vec<u32> {
     bookings.iter().flat_map(Booking::words).collect()
-}
-
-/// A nation's value in a year, under the tag it wore.
-#[derive(Clone, Copy, Debug, PartialEq, Eq)]
-#[allow(missing_docs)]
-pub struct LedgerRow {
-    pub tag: Tag,
-    pub year: u16,
-    pub value: i32,
-}
-
-/// A player: the string number of the name, and the tag played.
-#[derive(Clone, Copy, Debug, PartialEq, Eq)]
-#[allow(missing_docs)]
-pub struct Player {
-    pub name: usize,
-    pub tag: Tag,
-}
-
-/// A country that had a player, with the string numbers of the names it has now.
-#[derive(Clone, Debug, PartialEq, Eq)]
-#[allow(missing_docs)]
-pub struct History {
-    pub initial: Tag,
-    pub latest: Tag,
-    pub stored: Tag,
-    /// Number of the nation in the list, if it is listed.
-    pub nation: Option<usize>,
-    pub human: bool,
-    pub names: Vec<usize>,
 }
 
 fn word(count: usize) -> u32 {

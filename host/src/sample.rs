@@ -1,4 +1,8 @@
-//! The worked record of 01.
+//! The worked record of 01, and a richer one of our own.
+
+mod isles;
+
+pub use isles::{isles, ISLES};
 
 use crate::pack::{Campaign, Country, OwnerEvent, Province, Switch};
 

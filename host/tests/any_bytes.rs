@@ -131,6 +131,23 @@ fn asked(record: &[u8]) {
         assert_eq!(rows.war_participants(record, &mut out).err(), answer.err());
         assert_eq!(rows.bookings(record).err(), answer.err());
     }
+    #[cfg(feature = "nation_ledger")]
+    {
+        let tag = 0x45_4e_47;
+        let nations = [tag, tag, tag, 0, 0];
+        let rows = chronicle_host::Chronicle { nations: &nations, entries: &[] };
+        let (most, mut out, mut counts) = (10_000, vec![0; 3 * 10_000], [0]);
+        assert_eq!(rows.nation_ledger(record, 0, &mut out).err(), answer.err());
+        assert_eq!(rows.nation_ledger_rows(record, 0, most).err(), answer.err());
+        assert_eq!(rows.nation_ledgers(record, &mut out, &mut counts).err(), answer.err());
+    }
+    #[cfg(feature = "players")]
+    assert_eq!(chronicle_host::named_players(record).err(), answer.err());
+    #[cfg(feature = "player_histories")]
+    {
+        let rows = chronicle_host::Chronicle { nations: &[], entries: &[] };
+        assert_eq!(rows.named_histories(record).err(), answer.err());
+    }
 }
 
 /// The bytes are lent: nobody writes to them, and nobody reads on behind them.

@@ -48,7 +48,7 @@ const BOOKED: [u32; 12] = [
     3, XXX, XXX,
 ];
 
-/// The cases that stand computed in crates/rules/specs/LentCases.antt, by the code.
+/// The cases that stand computed in crates/rules/specs/cases/LentCases.antt, by the code.
 #[test]
 fn cases_of_the_rules() {
     let record = fought();

@@ -12,12 +12,15 @@ use chronicle_host::generate::Random;
 use chronicle_host::lists::{altered, any_nations, questions, some_of};
 use chronicle_host::model::Chronicle;
 use chronicle_host::pack::{pack, Campaign, Date, Tag};
-use chronicle_host::rows::{Change, History, Kind, Nation, Run};
+use chronicle_host::rows::{Change, Kind, Nation, Run};
 use chronicle_host::{demand, model, recount, trial};
-use eu4save::query::{NationEvents, PlayerHistory, ProvinceOwners};
+use eu4save::query::{NationEvents, ProvinceOwners};
 
+use crate::ledgers::Ledgers;
+use crate::paging::Paged;
+use crate::playing::Played;
 use crate::resolving;
-use crate::rust::{self, Named, Resolver, Rust};
+use crate::rust::{self, Resolver, Rust};
 use crate::seen::Seen;
 
 /// The Rust's resolver copies a nation's entries for each of its switches; a list that would make
@@ -57,6 +60,9 @@ pub fn compare(campaign: &Campaign, seed: u64, most: usize, seen: &mut Seen) -> 
     let altered = altered(&mut random, &chronicle.nations, &tags);
     let record = pack(campaign);
     trial::accepted(&record, &chronicle, &runs)?;
+    Played { campaign, record: &record, rust: &rust }.players(seen)?;
+    let paged = Paged { record: &record, rust: &rust };
+    paged.drawn(&chronicle.nations, &tags, &mut random, seen)?;
     let mut asked = Asked { campaign, record, rust, random, days, tags, most, seen };
     for nations in [&chronicle.nations, &any, &altered] {
         asked.about(nations)?;
@@ -114,11 +120,8 @@ impl Asked<'_> {
         self.resolver(nations, small.then(|| Resolver::of(&theirs)).as_ref())?;
         self.bookings(nations, small.then_some(&theirs))?;
         self.ledgers(nations, &theirs)?;
-        if self.campaign.strings.iter().all(|string| std::str::from_utf8(string).is_ok()) {
-            self.players()?;
-            self.histories(nations, &theirs)?;
-        }
-        Ok(())
+        let Asked { campaign, record, rust, random, tags, seen, .. } = self;
+        Played { campaign, record, rust }.histories(nations, &theirs, tags, random, seen)
     }
 
     fn resolver(&mut self, nations: &[Nation], theirs: Option<&Resolver>) -> Result<(), String> {
@@ -157,63 +160,10 @@ impl Asked<'_> {
     }
 
     fn ledgers(&mut self, nations: &[Nation], theirs: &[NationEvents]) -> Result<(), String> {
-        for (ours, theirs) in nations.iter().zip(theirs).take(self.most) {
-            let ours = model::ledger(self.campaign, ours);
-            self.seen.add("row: ledger point", ours.len());
-            rows_equal("ledger", &self.rust.ledger(theirs), &ours)?;
-        }
-        Ok(())
+        let each = some_of(&mut self.random, (0..nations.len()).collect(), self.most);
+        let Asked { campaign, record, rust, seen, .. } = self;
+        Ledgers { campaign, record, rust, nations, theirs }.compare(&each, seen)
     }
-
-    fn players(&mut self) -> Result<(), String> {
-        let ours = model::players(self.campaign);
-        let named = |player: &chronicle_host::rows::Player| -> Named {
-            (self.name(player.name), player.tag)
-        };
-        let ours: Vec<Named> = ours.iter().map(named).collect();
-        self.seen.add("row: player", ours.len());
-        rows_equal("players", &self.rust.players(), &ours)
-    }
-
-    fn histories(&mut self, nations: &[Nation], theirs: &[NationEvents]) -> Result<(), String> {
-        let ours = model::histories(self.campaign, nations);
-        let start = model::starting_country(&ours, nations);
-        let theirs = self.rust.histories(theirs);
-        self.seen.add("row: history", ours.len());
-        self.seen.add("answer: starting country, not none", usize::from(start.is_some()));
-        self.seen.add("row: history with a leftover's initial", taken(&ours, nations));
-        let ours: Vec<_> = ours.iter().map(|history| self.told(history, nations)).collect();
-        rows_equal("histories", &theirs.iter().map(told_by_rust).collect::<Vec<_>>(), &ours)?;
-        let what = || "starting country".to_string();
-        equal(what, &self.rust.starting_country(&theirs), &start)
-    }
-
-    fn name(&self, number: usize) -> String {
-        String::from_utf8_lossy(&self.campaign.strings[number]).into_owned()
-    }
-
-    /// A history as the Rust tells it, with its entries and names in place of their numbers.
-    fn told(&self, history: &History, nations: &[Nation]) -> Told {
-        let entries = history.nation.map_or(&[][..], |number| &nations[number].entries);
-        let nation = Nation {
-            initial: history.initial,
-            latest: history.latest,
-            stored: history.stored,
-            entries: entries.to_vec(),
-        };
-        (nation, history.human, history.names.iter().map(|&name| self.name(name)).collect())
-    }
-}
-
-type Told = (Nation, bool, Vec<String>);
-
-fn told_by_rust(history: &PlayerHistory) -> Told {
-    (rust::nation(&history.history), history.is_human, history.player_names.clone())
-}
-
-fn taken(histories: &[History], nations: &[Nation]) -> usize {
-    let own = |history: &History| history.nation.map_or(history.stored, |n| nations[n].initial);
-    histories.iter().filter(|history| history.initial != own(history)).count()
 }
 
 fn copies(nations: &[Nation]) -> usize {
@@ -235,7 +185,11 @@ pub(crate) fn equal<T: PartialEq + Debug>(
 }
 
 /// Says which row differs first.
-fn rows_equal<T: PartialEq + Debug>(what: &str, theirs: &[T], ours: &[T]) -> Result<(), String> {
+pub(crate) fn rows_equal<T: PartialEq + Debug>(
+    what: &str,
+    theirs: &[T],
+    ours: &[T],
+) -> Result<(), String> {
     for row in 0..theirs.len().max(ours.len()) {
         equal(|| format!("{what}, row {row}"), &theirs.get(row), &ours.get(row))?;
     }

@@ -10,7 +10,13 @@
 #[cfg(found)]
 pub mod compare;
 #[cfg(found)]
+pub mod ledgers;
+#[cfg(found)]
 pub mod lent_vectors;
+#[cfg(found)]
+pub mod paging;
+#[cfg(found)]
+pub mod playing;
 #[cfg(found)]
 pub mod resolving;
 #[cfg(found)]

@@ -31,8 +31,7 @@ pub fn date(date: Date) -> Eu4Date {
 
 /// The save of a campaign.
 ///
-/// Strings are texts in a save: what is not UTF-8 is replaced, and players are then not to be
-/// compared.
+/// Strings are texts in a save: what is not UTF-8 is replaced, as names are before they are compared.
 ///
 /// ```
 /// use chronicle_host::sample;

@@ -8,7 +8,7 @@ fn the_rust_is_missing() {
 
 #[cfg(found)]
 mod found {
-    use chronicle_host::adversary::draw;
+    use chronicle_host::adversary::{draw, ledgers, players};
     use chronicle_host::generate::Random;
     use chronicle_host::pack::{
         pack, Campaign, Country, Date, LedgerName, OwnerEvent, Point, Province, Tag,
@@ -17,7 +17,7 @@ mod found {
     use chronicle_host::{model, sample, wars};
     use chronicle_oracle::compare::compare;
     use chronicle_oracle::rust::{nation_events, Resolver, Rust};
-    use chronicle_oracle::seen::Seen;
+    use chronicle_oracle::seen::{Seen, LEDGER_CASES};
     use chronicle_oracle::vectors;
 
     fn nations(campaign: &Campaign) -> Vec<Nation> {
@@ -206,6 +206,27 @@ mod found {
         assert_eq!(rare, []);
     }
 
+    /// Each is to be met oftener than in one of twenty campaigns; these three are rare.
+    const RARE_IN_LEDGERS: [&str; 3] =
+        ["ledger: a tag comes back", "ledger: year 0", "ledger: year 9999"];
+
+    #[test]
+    fn ledgers_are_drawn() {
+        let mut random = Random::new(1_002);
+        let mut seen = Seen::default();
+        for number in 0..1_000 {
+            let campaign = ledgers::campaign(&mut random);
+            assert_eq!(compare(&campaign, number, usize::MAX, &mut seen), Ok(()));
+        }
+        let enough = |what: &&str| {
+            let few = if RARE_IN_LEDGERS.contains(what) { 10 } else { 50 };
+            seen.times(what) > few
+        };
+        let times = LEDGER_CASES.into_iter().filter(|what| !enough(what));
+        let rare: Vec<_> = times.map(|what| (what, seen.times(what))).collect();
+        assert_eq!(rare, []);
+    }
+
     /// The worked record alone has few of them, so that the two tests above could fail.
     #[test]
     fn hard_cases_of_the_worked_record() {
@@ -218,7 +239,7 @@ mod found {
         let mut random = Random::new(1618);
         let mut seen = Seen::default();
         for number in 0..5_000 {
-            let campaign = wars::campaign(&mut random);
+            let campaign = players::campaign(&mut random);
             let outcome = compare(&campaign, number, usize::MAX, &mut seen);
             assert_eq!(outcome, Ok(()), "{campaign:#?}");
         }

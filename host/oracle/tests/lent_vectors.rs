@@ -1,5 +1,5 @@
 //! What the stored vectors hold: each form of the resolver with somebody and with nobody, bookings,
-//! each refusal, and falsified answers, so that the replay has something to notice.
+//! ledgers, each refusal, and falsified answers, so that the replay has something to notice.
 #![cfg(found)]
 
 use chronicle_host::rows::Question;
@@ -71,4 +71,69 @@ fn bookings_have_every_outcome() {
         of(Kind::Bookings, |v| v.answers.as_ref().is_ok_and(|rows| v.room > rows.len())),
     ];
     assert!(times.into_iter().all(|times| times >= 10), "{times:?}");
+}
+
+/// Whether a row of a vector about ledgers is so.
+fn has_row(vector: &Vector, has: fn(&[u32; 3]) -> bool) -> bool {
+    vector.answers.as_ref().is_ok_and(|words| words.as_chunks().0.iter().any(has))
+}
+
+#[test]
+fn ledgers_have_every_outcome() {
+    for kind in [Kind::Ledger, Kind::Ledgers] {
+        let times = [
+            of(kind, |v| has_row(v, |[_, _, value]| *value == 0)),
+            of(kind, |v| has_row(v, |[_, _, value]| *value > 1 << 31)),
+            of(kind, |v| v.answers.as_ref().is_err_and(|refusal| refusal.is_of_record())),
+            of(kind, |v| v.answers == Err(Refusal::NotWellShaped)),
+            of(kind, |v| v.answers == Err(Refusal::NoRoom)),
+            of(kind, |v| v.falsified),
+            of(kind, |v| v.answers.as_ref().is_ok_and(|rows| v.room > rows.len())),
+            of(kind, |v| v.nations.len() > 5),
+        ];
+        assert!(times.into_iter().all(|times| times >= 10), "{times:?}");
+    }
+    let past = of(Kind::Ledger, |v| v.answers == Err(Refusal::NoSuchNation));
+    let stopped = of(Kind::Ledger, |v| v.answers.is_ok() && v.many[3] == v.many[1]);
+    let two_with_rows = of(Kind::Ledgers, |v| v.many[1..].iter().filter(|&&n| n > 0).count() > 1);
+    assert!([past, stopped, two_with_rows].iter().all(|&times| times >= 10), "{past} {stopped}");
+}
+
+/// The program that replays them has no more room.
+#[test]
+fn vectors_are_short() {
+    for vector in list() {
+        let answers = vector.answers.as_ref().map_or(0, Vec::len);
+        let words = vector.nations.len() + vector.entries.len() + vector.many.len() + answers;
+        assert!(10 + words + 7 * vector.single.len() <= 4096);
+        assert!(vector.record.len() <= 4096 && vector.room <= 4096);
+    }
+}
+
+/// What is stored about ledgers is what the library answers, and what is falsified is not.
+#[cfg(feature = "nation_ledger")]
+#[test]
+fn ledgers_are_as_stored() {
+    use chronicle_host::trial::{ledger_told, ledgers_told, rows_told};
+    use chronicle_host::Chronicle;
+
+    for v in list() {
+        let rows = Chronicle { nations: &v.nations, entries: &v.entries };
+        let answers = v.answers.as_deref().map_err(|&refusal| refusal);
+        let outcome = match v.kind {
+            Kind::Ledger => {
+                let [nation, most, refused, counted] = [0, 1, 2, 3].map(|at| v.many[at] as usize);
+                let counted = Refusal::from_number(refused as u8).map_or(Ok(counted), Err);
+                ledger_told(rows, &v.record, nation, v.room, answers)
+                    .and(rows_told(rows, &v.record, nation, most, counted))
+            }
+            Kind::Ledgers => {
+                let counts: Vec<u64> = v.many[1..].iter().map(|&count| count.into()).collect();
+                let lengths = [v.room, v.many[0] as usize];
+                ledgers_told(rows, &v.record, lengths, answers.map(|words| (words, &counts[..])))
+            }
+            _ => continue,
+        };
+        assert_eq!(outcome.is_err(), v.falsified, "{v:?}");
+    }
 }

@@ -1,8 +1,12 @@
 //! Small campaigns that are hard to agree about: few tags, few dates, and everything meets.
 //!
-//! Every campaign drawn here is one whose record 01 accepts, and its strings are UTF-8.
+//! Every campaign drawn here is one whose record 01 accepts, and its strings are UTF-8; players that
+//! are added to it may have other names.
 
+pub mod ledgers;
+pub mod players;
 mod pools;
+pub mod selections;
 
 use std::collections::BTreeSet;
 

@@ -166,14 +166,36 @@ const STACKED: &[Stacked] = &[
     }),
     #[cfg(feature = "war_participants")]
     ("war_participants", 1_024, |record| {
-        use chronicle_host::rows::{entry_words, nation_words};
-        let campaign = chronicle_host::unpack::unpack(record).expect("it is accepted");
-        let nations = chronicle_host::model::chronicle(&campaign).nations;
-        let [nations, entries] = [nation_words(&nations), entry_words(&nations)];
-        let rows = chronicle_host::Chronicle { nations: &nations, entries: &entries };
-        rows.bookings(record).is_ok()
+        with_chronicle(record, usize::MAX, |rows| rows.bookings(record).is_ok())
+    }),
+    #[cfg(feature = "nation_ledger")]
+    ("nation_ledger", 512, |record| {
+        with_chronicle(record, usize::MAX, |rows| rows.ledger(record, 0, MOST_ROWS).is_ok())
+    }),
+    #[cfg(feature = "nation_ledger")]
+    ("nation_ledgers", 512, |record| {
+        with_chronicle(record, 8, |rows| rows.ledgers(record, MOST_ROWS).is_ok())
     }),
 ];
+
+/// More rows than the ledgers of eight nations have there.
+#[cfg(feature = "nation_ledger")]
+const MOST_ROWS: usize = 10_000_000;
+
+/// Lends the chronicle of a record, of so many nations at most.
+#[cfg(feature = "resolver")]
+fn with_chronicle(
+    record: &[u8],
+    most: usize,
+    call: impl Fn(chronicle_host::Chronicle<'_>) -> bool,
+) -> bool {
+    use chronicle_host::rows::{entry_words, nation_words};
+    let campaign = chronicle_host::unpack::unpack(record).expect("it is accepted");
+    let mut nations = chronicle_host::model::chronicle(&campaign).nations;
+    nations.truncate(most);
+    let [nations, entries] = [nation_words(&nations), entry_words(&nations)];
+    call(chronicle_host::Chronicle { nations: &nations, entries: &entries })
+}
 
 /// The smallest thread stack, in steps of 4 KiB, that each function gets by with; each size is
 /// tried in a child process, because an overflow ends the process.

@@ -4,10 +4,12 @@ use crate::pack::{Campaign, Date, Point, Tag};
 use crate::rows::{Kind, LedgerRow, Nation};
 
 /// A stretch of time under one tag.
-struct Span {
-    tag: Tag,
-    start: Date,
-    end: Date,
+#[derive(Clone, Copy, Debug, PartialEq, Eq)]
+#[allow(missing_docs)]
+pub struct Span {
+    pub tag: Tag,
+    pub start: Date,
+    pub end: Date,
 }
 
 /// The nation's yearly values under the tags it wore, with zeros for years without one.
@@ -37,8 +39,19 @@ pub fn ledger(campaign: &Campaign, nation: &Nation) -> Vec<LedgerRow> {
     rows
 }
 
-/// Annexed closes a span but keeps tag and start: a switch behind it closes one from there again.
-fn spans(campaign: &Campaign, nation: &Nation) -> Vec<Span> {
+/// The nation's spans, in order. Annexed closes one but keeps tag and start: a switch behind it
+/// closes one from there again.
+///
+/// ```
+/// use chronicle_host::model::{chronicle, spans};
+/// use chronicle_host::sample;
+///
+/// let campaign = sample::worked();
+/// let spans = spans(&campaign, &chronicle(&campaign).nations[0]);
+/// let ends: Vec<_> = spans.iter().map(|span| (span.start, span.end)).collect();
+/// assert_eq!(ends, [(14441111, 14460101), (14470101, 14480601), (14480601, 14500101)]);
+/// ```
+pub fn spans(campaign: &Campaign, nation: &Nation) -> Vec<Span> {
     let mut spans = Vec::new();
     let (mut tag, mut start, mut annexed) = (nation.initial, campaign.start, false);
     for entry in &nation.entries {

@@ -7,15 +7,17 @@
 mod changes;
 mod ledger;
 mod nations;
+mod page;
 mod players;
 mod resolver;
 mod shape;
 mod wars;
 
 pub use changes::{changes, events_on};
-pub use ledger::ledger;
+pub use ledger::{ledger, spans, Span};
 pub use nations::{chronicle, Chronicle};
+pub use page::{page, page_of, selected, MOST_BYTES, MOST_CHANGES, MOST_ENTRIES};
 pub use players::{histories, players, starting_country};
 pub use resolver::{answer, initial, initial_at, resolve, resolve_at};
-pub use shape::nations_told;
+pub use shape::{histories_told, nations_told};
 pub use wars::bookings;

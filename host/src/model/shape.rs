@@ -1,8 +1,8 @@
-//! 01, "Nations", its last sentences but one: which words are a chronicle's.
+//! 01, "Nations" and "Players", near their ends: which words are a chronicle's, and which histories'.
 
 use crate::pack::{Date, Tag};
 use crate::reference::{check_date, check_tag};
-use crate::rows::{tag_of_word, tag_word, Entry, Kind, Nation};
+use crate::rows::{tag_of_word, tag_word, Entry, History, Kind, Nation};
 
 /// The nations that nation words and entry words tell of; none if these are not well shaped.
 ///
@@ -30,6 +30,26 @@ pub fn nations_told(nations: &[u32], entries: &[u32]) -> Option<Vec<Nation>> {
         told.push(Nation { initial, latest, stored, entries: own.to_vec() });
     }
     (used == entries.len()).then_some(told)
+}
+
+/// The histories that words tell of, beside a list of so many nations; none if these are not well
+/// shaped. Names stand in another list, so that none are told.
+///
+/// ```
+/// use chronicle_host::model::histories_told;
+///
+/// let row = [0x45_4e_47, 0x45_4e_47, 0x45_4e_47, 2, 5, 6, 7];
+/// assert_eq!(histories_told(&row, 2).unwrap()[0].nation, Some(1));
+/// assert_eq!(histories_told(&row, 1), None);
+/// assert_eq!(histories_told(&row[1..], 2), None);
+/// ```
+pub fn histories_told(words: &[u32], nations: usize) -> Option<Vec<History>> {
+    let history = |&[initial, latest, stored, nation, human, ..]: &[u32; 7]| {
+        let [initial, latest, stored] = [tag(initial)?, tag(latest)?, tag(stored)?];
+        let nation = (nation as usize <= nations).then(|| (nation as usize).checked_sub(1))?;
+        Some(History { initial, latest, stored, nation, human: human != 0, names: vec![] })
+    };
+    whole(words)?.iter().map(history).collect()
 }
 
 fn whole<const WIDTH: usize>(words: &[u32]) -> Option<&[[u32; WIDTH]]> {

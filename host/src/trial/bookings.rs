@@ -17,7 +17,7 @@ pub fn accepted(record: &[u8], nations: &[Nation], bookings: &[Booking]) -> Resu
         booked(rows, record, words.len() - 1, Err(Refusal::NoRoom))?;
         booked(rows, record, 0, Err(Refusal::NoRoom))?;
     }
-    for torn in torn(rows) {
+    for torn in super::torn(rows) {
         booked(torn, record, words.len(), Err(Refusal::NotWellShaped))?;
         booked(torn, record, 0, Err(Refusal::NotWellShaped))?;
     }
@@ -33,18 +33,6 @@ pub fn refused(record: &[u8], refusal: Refusal) -> Result<(), String> {
         booked(torn, record, length, Err(refusal))?;
     }
     Ok(())
-}
-
-/// Less than a row of nations, and less than a row of entries, in place of the last row or of nothing.
-fn torn<'a>(rows: Chronicle<'a>) -> [Chronicle<'a>; 2] {
-    let cut = |words: &'a [u32]| match words.len() {
-        0 => &[0][..],
-        length => &words[..length - 1],
-    };
-    [
-        Chronicle { nations: cut(rows.nations), ..rows },
-        Chronicle { entries: cut(rows.entries), ..rows },
-    ]
 }
 
 /// Asks for the bookings of a record with so many cells lent. Expected are a refusal, or the words

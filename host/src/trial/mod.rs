@@ -5,21 +5,35 @@
 
 #[cfg(feature = "war_participants")]
 mod bookings;
+#[cfg(feature = "nation_ledger")]
+mod ledgers;
 #[cfg(feature = "nation_events")]
 mod nations;
 #[cfg(feature = "province_owners")]
 mod owners;
+#[cfg(feature = "page")]
+mod page;
+#[cfg(feature = "players")]
+mod players;
 #[cfg(feature = "resolver")]
 mod resolver;
 
 #[cfg(feature = "war_participants")]
 pub use bookings::booked;
+#[cfg(feature = "nation_ledger")]
+pub use ledgers::{ledger_told, ledgers_told, rows_told};
+#[cfg(feature = "page")]
+pub use page::paged;
+#[cfg(feature = "player_histories")]
+pub use players::recalled;
+#[cfg(feature = "players")]
+pub use players::{begun, played};
 #[cfg(feature = "resolver")]
 pub use resolver::{asked, asked_each};
 
 use crate::model::Chronicle;
-use crate::pack::Date;
-use crate::rows::{Booking, Nation, Question, Resolved, Run};
+use crate::pack::{Date, Tag};
+use crate::rows::{Booking, History, LedgerRow, Nation, Player, Question, Resolved, Run};
 use crate::{check, Refusal};
 
 /// The functions that are called.
@@ -35,6 +49,16 @@ pub const TRIED: &[&str] = &[
     "resolve, initial, resolve_at, initial_at, resolve_each",
     #[cfg(feature = "war_participants")]
     "war_participants",
+    #[cfg(feature = "nation_ledger")]
+    "nation_ledger, nation_ledger_rows, nation_ledgers",
+    #[cfg(feature = "players")]
+    "players",
+    #[cfg(feature = "player_histories")]
+    "player_histories",
+    #[cfg(feature = "players")]
+    "starting_country",
+    #[cfg(feature = "page")]
+    "page",
 ];
 
 /// Holds every function's answers on an accepted record against these; `Err` says what differs.
@@ -74,6 +98,12 @@ pub fn refused(record: &[u8], refusal: Refusal) -> Result<(), String> {
     nations::refused(record, refusal)?;
     #[cfg(feature = "war_participants")]
     bookings::refused(record, refusal)?;
+    #[cfg(feature = "nation_ledger")]
+    ledgers::refused(record, refusal)?;
+    #[cfg(feature = "players")]
+    players::refused(record, refusal)?;
+    #[cfg(feature = "page")]
+    page::refused(record, refusal)?;
     Ok(())
 }
 
@@ -110,6 +140,106 @@ pub fn bookings(record: &[u8], nations: &[Nation], bookings: &[Booking]) -> Resu
     #[cfg(feature = "war_participants")]
     bookings::accepted(record, nations, bookings)?;
     Ok(())
+}
+
+/// Holds the ledgers of an accepted record's nations against these: all by one call, and those with
+/// these numbers each by a call of its own.
+///
+/// ```
+/// use chronicle_host::{model, sample, trial};
+///
+/// let nations = model::chronicle(&sample::worked()).nations;
+/// let ledgers = vec![vec![]; nations.len()];
+/// assert_eq!(trial::ledgers(sample::WORKED, &nations, &ledgers, &[0, 1]), Ok(()));
+/// ```
+#[cfg_attr(not(feature = "nation_ledger"), allow(unused_variables))]
+pub fn ledgers(
+    record: &[u8],
+    nations: &[Nation],
+    ledgers: &[Vec<LedgerRow>],
+    each: &[usize],
+) -> Result<(), String> {
+    #[cfg(feature = "nation_ledger")]
+    ledgers::accepted(record, nations, ledgers, each)?;
+    Ok(())
+}
+
+/// Holds the players of an accepted record against these.
+///
+/// ```
+/// use chronicle_host::{sample, trial};
+///
+/// assert_eq!(trial::players(sample::WORKED, &[]), Ok(()));
+/// ```
+#[cfg_attr(not(feature = "players"), allow(unused_variables))]
+pub fn players(record: &[u8], players: &[Player]) -> Result<(), String> {
+    #[cfg(feature = "players")]
+    players::accepted(record, players)?;
+    Ok(())
+}
+
+/// Holds the histories of an accepted record by a list of nations against these.
+///
+/// ```
+/// use chronicle_host::{model, sample, trial};
+///
+/// let nations = model::chronicle(&sample::worked()).nations;
+/// assert_eq!(trial::histories(sample::WORKED, &nations, &[]), Ok(()));
+/// ```
+#[cfg_attr(not(feature = "player_histories"), allow(unused_variables))]
+pub fn histories(record: &[u8], nations: &[Nation], histories: &[History]) -> Result<(), String> {
+    #[cfg(feature = "player_histories")]
+    players::histories(record, nations, histories)?;
+    Ok(())
+}
+
+/// Holds the tag that play began with, by well-shaped history words, against this one.
+///
+/// ```
+/// use chronicle_host::{model, rows::tag_word, sample, trial};
+///
+/// let nations = model::chronicle(&sample::worked()).nations;
+/// let [eng, fra] = [*b"ENG", *b"FRA"].map(tag_word);
+/// let words = [eng, eng, eng, 0, 0, 0, 0, fra, fra, fra, 1, 0, 0, 0];
+/// assert_eq!(trial::starting(&nations, &words, Some(*b"ENG")), Ok(()));
+/// ```
+#[cfg_attr(not(feature = "players"), allow(unused_variables))]
+pub fn starting(nations: &[Nation], words: &[u32], start: Option<Tag>) -> Result<(), String> {
+    #[cfg(feature = "players")]
+    players::starting(nations, words, start)?;
+    Ok(())
+}
+
+/// Holds the page of a record for a selection against this one, or against its refusal.
+///
+/// ```
+/// use chronicle_host::{model, sample, trial};
+///
+/// let expected = model::page(sample::WORKED, b"GBR\n");
+/// assert_eq!(trial::page(sample::WORKED, b"GBR\n", &expected), Ok(()));
+/// ```
+#[cfg_attr(not(feature = "page"), allow(unused_variables))]
+pub fn page(
+    record: &[u8],
+    selection: &[u8],
+    expected: &Result<Vec<u8>, Refusal>,
+) -> Result<(), String> {
+    #[cfg(feature = "page")]
+    page::answered(record, selection, expected)?;
+    Ok(())
+}
+
+/// Less than a row of nations, and less than a row of entries, in place of the last row or of nothing.
+#[cfg(any(feature = "war_participants", feature = "nation_ledger", feature = "players"))]
+fn torn<'a>(rows: crate::Chronicle<'a>) -> [crate::Chronicle<'a>; 2] {
+    let cut = |words: &'a [u32]| match words.len() {
+        0 => &[0][..],
+        length => &words[..length - 1],
+    };
+    [
+        crate::Chronicle { nations: cut(rows.nations), ..rows },
+        crate::Chronicle { entries: cut(rows.entries), ..rows },
+    ]
 }
 
 fn same<T: PartialEq + std::fmt::Debug>(what: &str, found: &T, expected: &T) -> Result<(), String> {

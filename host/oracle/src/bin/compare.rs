@@ -21,6 +21,7 @@ mod run {
     use std::env;
     use std::process::ExitCode;
 
+    use chronicle_host::adversary::players;
     use chronicle_host::cases::Cases;
     use chronicle_host::demand::{self, Met};
     use chronicle_host::extremes;
@@ -29,10 +30,9 @@ mod run {
     use chronicle_host::shrink::shrink;
     use chronicle_host::trial;
     use chronicle_host::unpack::unpack;
-    use chronicle_host::wars;
     use chronicle_oracle::compare::compare;
-    use chronicle_oracle::resolving;
     use chronicle_oracle::seen::Seen;
+    use chronicle_oracle::{ledgers, paging, playing, resolving};
 
     const DIFFERENCE: &str = "difference.atl";
 
@@ -41,6 +41,10 @@ mod run {
 
     /// Shorter runs may miss a hard case by chance.
     const ENOUGH: u64 = 10_000;
+
+    /// The program page is run for one of so many small campaigns.
+    #[cfg(feature = "page_program")]
+    const PRINTED: u64 = 50;
 
     pub fn main() -> ExitCode {
         let Some([campaigns, seed, extremes]) = arguments() else {
@@ -77,14 +81,27 @@ mod run {
         "record: refused",
         "row: booking",
         "row: history",
-        "row: history with a leftover's initial",
         "row: ledger point",
+        "row: line of a page",
         "row: player",
+    ];
+
+    /// Met at the limits as well, by each campaign.
+    const MET_AT_LIMITS: [&str; 5] = [
+        "row: booking",
+        "library: booking",
+        "demand: a nation on a day",
+        "row: player",
+        "row: history",
     ];
 
     fn all(campaigns: u64, seed: u64, extremes: usize) -> Result<(), String> {
         let mut seen = Seen::default();
-        for what in LOOKED_FOR.into_iter().chain(resolving::looked_for()) {
+        let of_the_library = resolving::looked_for()
+            .chain(ledgers::looked_for())
+            .chain(playing::looked_for())
+            .chain(paging::looked_for());
+        for what in LOOKED_FOR.into_iter().chain(of_the_library) {
             seen.add(what, 0);
         }
         if cfg!(feature = "war_participants") {
@@ -95,29 +112,36 @@ mod run {
         }
         small(campaigns, seed, &mut seen)?;
         damaged(campaigns / 4, seed, &mut seen)?;
+        near_limits_of_pages(seed, &mut seen)?;
         println!("{seen}");
         let never = seen.never();
         if campaigns >= ENOUGH && !never.is_empty() {
             return Err(format!("never met, so the run says too little: {}", never.join("; ")));
         }
-        for (name, campaign) in extremes::ALL.iter().take(extremes) {
-            let mut seen = Seen::default();
-            compare(&campaign(), seed, AT_LIMITS, &mut seen)
-                .map_err(|difference| format!("{name}: {difference}"))?;
-            let found = seen.times("answer: resolver, not none");
-            let asked: usize = resolving::looked_for().map(|what| seen.times(what)).sum();
-            for what in ["row: booking", "library: booking", "demand: a nation on a day"] {
-                if seen.times(what) == 0 {
-                    return Err(format!("{name}: never met at the limits: {what}"));
-                }
+        extremes::ALL.iter().take(extremes).enumerate().try_for_each(
+            |(number, (name, campaign))| {
+                at_limits(&players::at_limits(campaign(), number), seed)
+                    .map(|told| println!("at the limits, {name}: no difference; {told}"))
+                    .map_err(|difference| format!("{name}: {difference}"))
+            },
+        )
+    }
+
+    /// Compares a campaign at the limits, and tells what was met.
+    fn at_limits(campaign: &Campaign, seed: u64) -> Result<String, String> {
+        let mut seen = Seen::default();
+        compare(campaign, seed, AT_LIMITS, &mut seen)?;
+        for what in MET_AT_LIMITS.into_iter().chain(ledgers::looked_for()) {
+            if seen.times(what) == 0 {
+                return Err(format!("never met at the limits: {what}"));
             }
-            println!(
-                "at the limits, {name}: no difference; resolver: {found} times somebody by the \
-                 Rust, {asked} answers by the library; {}",
-                at_war(&seen)
-            );
         }
-        Ok(())
+        let found = seen.times("answer: resolver, not none");
+        let asked: usize = resolving::looked_for().map(|what| seen.times(what)).sum();
+        let parts = [at_war(&seen), in_ledgers(&seen), at_play(&seen)].join("; ");
+        Ok(format!(
+            "resolver: {found} times somebody by the Rust, {asked} answers by the library; {parts}"
+        ))
     }
 
     /// Bookings and demand 3 at the limits. The Rust gives fewer rows where a list is too large for it.
@@ -137,14 +161,57 @@ mod run {
         )
     }
 
+    /// Ledgers at the limits.
+    fn in_ledgers(seen: &Seen) -> String {
+        let times = |what: &str| seen.times(what);
+        format!(
+            "ledgers: {} rows by the Rust, {} and, of nations asked for alone, {} by the library",
+            times("row: ledger point"),
+            times("library: ledger row of all nations"),
+            times("library: ledger row of a nation asked for alone"),
+        )
+    }
+
+    /// Players, and histories by all lists of nations, at the limits.
+    fn at_play(seen: &Seen) -> String {
+        let times = |what: &str| seen.times(what);
+        format!(
+            "players: {} by the Rust; histories: {} by the Rust, {} by the library, with {} names",
+            times("row: player"),
+            times("row: history"),
+            times("library: history"),
+            times("library: name of a history"),
+        )
+    }
+
     fn small(campaigns: u64, seed: u64, seen: &mut Seen) -> Result<(), String> {
         let mut random = Random::new(seed);
+        #[cfg(feature = "page_program")]
+        let mut program = paging::Printed::new(seed);
         for number in 0..campaigns {
-            let campaign = wars::campaign(&mut random);
+            let campaign = players::campaign(&mut random);
+            #[cfg(feature = "page_program")]
+            if number % PRINTED == 0 {
+                program
+                    .compare(&campaign, seen)
+                    .map_err(|error| stored(&pack(&campaign), &error))?;
+            }
             compare(&campaign, number, usize::MAX, seen)
                 .map_err(|difference| smallest(campaign, number, &difference))?;
         }
         println!("{campaigns} small campaigns, seed {seed}: no difference");
+        Ok(())
+    }
+
+    fn near_limits_of_pages(seed: u64, seen: &mut Seen) -> Result<(), String> {
+        #[cfg(feature = "page_program")]
+        let program = paging::Printed::new(seed);
+        let pages = paging::near_limits(seen, |_paged, _selection, _seen| {
+            #[cfg(feature = "page_program")]
+            program.selected(_paged, _selection, _seen)?;
+            Ok(())
+        })?;
+        println!("{pages} pages near their limits, seed {seed}: no difference");
         Ok(())
     }
 

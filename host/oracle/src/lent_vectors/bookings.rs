@@ -3,15 +3,13 @@
 use chronicle_host::generate::Random;
 use chronicle_host::pack::{pack, Campaign};
 use chronicle_host::rows::{booking_words, entry_words, nation_words, tag_word, Nation};
-use chronicle_host::unpack::unpack;
 use chronicle_host::Refusal;
 
-use super::{spoil, without_room, Kind, Vector, NOBODY};
+use super::{bad_record, ill_shaped, without_room, Kind, Other, Vector, NOBODY};
 use crate::rust::{nation_events, Rust};
 
 /// What else is made of a vector.
-pub const OTHERS: [fn(&mut Random, &Vector) -> Vector; 4] =
-    [falsified, ill_shaped, bad_record, without_room];
+pub const OTHERS: [Other; 4] = [falsified, ill_shaped, bad_record, without_room];
 
 /// What the Rust books of a campaign with these nations.
 pub fn booked(random: &mut Random, campaign: &Campaign, nations: &[Nation]) -> Vector {
@@ -43,31 +41,4 @@ fn falsified(random: &mut Random, vector: &Vector) -> Vector {
         _ => vector.answers = Err(Refusal::NotWellShaped),
     }
     vector
-}
-
-/// The words are no chronicle's.
-fn ill_shaped(random: &mut Random, vector: &Vector) -> Vector {
-    let mut vector = Vector { answers: Err(Refusal::NotWellShaped), ..vector.clone() };
-    spoil(random, &mut vector.nations, &mut vector.entries);
-    vector
-}
-
-/// A byte is changed or cut off until the record is none; its number comes before that of the words,
-/// which are none either, or of the room.
-fn bad_record(random: &mut Random, vector: &Vector) -> Vector {
-    let mut vector = match random.below(3) {
-        0 => vector.clone(),
-        1 => ill_shaped(random, vector),
-        _ => without_room(random, vector),
-    };
-    loop {
-        match unpack(&vector.record) {
-            Err(refusal) => return Vector { answers: Err(refusal), ..vector },
-            Ok(_) if random.below(3) == 0 => _ = vector.record.pop(),
-            Ok(_) => {
-                let place = random.below(vector.record.len());
-                vector.record[place] = random.byte();
-            }
-        }
-    }
 }

@@ -1,24 +1,33 @@
 //! The stored sample of what is answered of lent chronicles, which the proved program replays
-//! without Rust at hand: the resolver's answers and war bookings, as the Rust gives them.
+//! without Rust at hand: the resolver's answers, war bookings, ledgers, players, histories and
+//! starting countries, as the Rust gives them.
 //!
 //! One file, vectors back to back; every number is 32 bits, low byte first. A vector has
 //!
 //! - how many numbers follow;
-//! - ten of them: its kind (0 resolver, 1 bookings), 1 if an answer is falsified, nation words,
-//!   entry words, questions asked one at a time, words of questions asked at once, cells lent for
-//!   the answers to those or for bookings, their refusal's number or 0, words of their answers,
-//!   bytes of the record;
+//! - ten of them: its kind (0 resolver, 1 bookings, 2 a nation's ledger, 3 the ledgers of all, 4
+//!   players, 5 histories, 6 starting country), 1 if an answer is falsified, nation words, entry
+//!   words, questions asked one at a time, words asked at once, cells lent for the answers to those
+//!   or for rows, their refusal's number or 0, words of their answers or rows, bytes of the record;
 //! - the nation words and the entry words;
 //! - seven words for each question asked one at a time: form (0 resolve, 1 initial, 2 and 3 the
 //!   same set to a day), day, tag, date, and the answer: the refusal's number or 0, current and
 //!   stored tag or zeros; what a form does not take is 0;
-//! - the questions asked at once, tag and date each;
-//! - the answers to those, two words each, or the bookings, three words each;
-//! - the bytes of the record, which only bookings have.
+//! - what is asked at once: of the resolver, tag and date each; for a ledger the nation's number
+//!   and, about the number of its rows, how many are counted at most, the refusal's number or 0,
+//!   and that number; for all ledgers the cells lent for their numbers of rows, and these; for
+//!   histories the cells lent for names, and the names; for a starting country the history words.
+//!   What is refused has neither numbers of rows nor names;
+//! - the answers to the questions, two words each; the bookings or ledger rows, three words each;
+//!   two words for a player, seven for a history, one for the starting country;
+//! - the bytes of the record, which all but the resolver's and the starting country's have. Players
+//!   have no nation words and no entry words.
 //!
 //! What is refused is refused by 01 alone: the Rust has no say in it.
 
 mod bookings;
+mod ledgers;
+mod players;
 mod resolver;
 
 use chronicle_host::adversary::{draw, tags_of};
@@ -27,6 +36,7 @@ use chronicle_host::lists::altered;
 use chronicle_host::model::nations_told;
 use chronicle_host::pack::{Campaign, Tag};
 use chronicle_host::rows::{Nation, Question, Resolved};
+use chronicle_host::unpack::unpack;
 use chronicle_host::Refusal;
 
 use crate::rust::Rust;
@@ -54,7 +64,15 @@ type Outcome<T> = Result<T, Refusal>;
 pub enum Kind {
     Resolver,
     Bookings,
+    Ledger,
+    Ledgers,
+    Players,
+    Histories,
+    Starting,
 }
+
+/// Makes another vector of one.
+type Other = fn(&mut Random, &Vector) -> Vector;
 
 /// What is asked about a lent chronicle, and what is to be answered.
 #[derive(Clone, Debug)]
@@ -67,7 +85,7 @@ pub struct Vector {
     pub entries: Vec<u32>,
     pub single: Vec<(Question, Outcome<Option<Resolved>>)>,
     pub many: Vec<u32>,
-    /// Cells lent for the answers to the many, or for bookings.
+    /// Cells lent for the answers to the many, or for rows.
     pub room: usize,
     pub answers: Outcome<Vec<u32>>,
 }
@@ -77,7 +95,7 @@ pub struct Vector {
 /// ```
 /// use chronicle_oracle::lent_vectors::{list, Kind};
 ///
-/// for kind in [Kind::Resolver, Kind::Bookings] {
+/// for kind in [Kind::Resolver, Kind::Bookings, Kind::Ledger, Kind::Ledgers, Kind::Histories] {
 ///     let vectors: Vec<_> = list().into_iter().filter(|vector| vector.kind == kind).collect();
 ///     let refused = |number: u8| {
 ///         vectors.iter().any(|v| v.answers.as_ref().is_err_and(|r| r.number() == number))
@@ -106,6 +124,8 @@ pub fn list() -> Vec<Vector> {
             list.push(vector);
         }
     }
+    list.extend(ledgers::list());
+    list.extend(players::list());
     list
 }
 
@@ -114,7 +134,7 @@ pub fn list() -> Vec<Vector> {
 /// ```
 /// use chronicle_oracle::lent_vectors::file;
 ///
-/// assert!(file().len() < 400_000);
+/// assert!(file().len() < 700_000);
 /// ```
 pub fn file() -> Vec<u8> {
     list().iter().flat_map(Vector::bytes).collect()
@@ -154,6 +174,33 @@ fn spoil(random: &mut Random, nations: &mut Vec<u32>, entries: &mut Vec<u32>) {
             _ => {
                 let place = random.below(words.len());
                 words[place] = any;
+            }
+        }
+    }
+}
+
+/// The words are no chronicle's.
+fn ill_shaped(random: &mut Random, vector: &Vector) -> Vector {
+    let mut vector = Vector { answers: Err(Refusal::NotWellShaped), ..vector.clone() };
+    spoil(random, &mut vector.nations, &mut vector.entries);
+    vector
+}
+
+/// A byte is changed or cut off until the record is none; its number comes before that of the words,
+/// which are none either, or of the room.
+fn bad_record(random: &mut Random, vector: &Vector) -> Vector {
+    let mut vector = match random.below(3) {
+        0 => vector.clone(),
+        1 => ill_shaped(random, vector),
+        _ => without_room(random, vector),
+    };
+    loop {
+        match unpack(&vector.record) {
+            Err(refusal) => return Vector { answers: Err(refusal), ..vector },
+            Ok(_) if random.below(3) == 0 => _ = vector.record.pop(),
+            Ok(_) => {
+                let place = random.below(vector.record.len());
+                vector.record[place] = random.byte();
             }
         }
     }

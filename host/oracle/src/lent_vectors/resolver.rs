@@ -7,7 +7,7 @@ use chronicle_host::pack::{Campaign, Date};
 use chronicle_host::rows::{entry_words, nation_words, Nation, Question, Resolved};
 use chronicle_host::Refusal;
 
-use super::{spoil, without_room, Kind, Vector, NOBODY};
+use super::{spoil, without_room, Kind, Other, Vector, NOBODY};
 use crate::resolving::answer;
 use crate::rust::{nation_events, Resolver};
 
@@ -22,8 +22,7 @@ const NO_TAGS: [u32; 3] = [0, 0x45_5f_47, 0x01_45_4e_47];
 const NO_DATES: [Date; 4] = [0, 14440229, 14441301, 100000101];
 
 /// What else is made of a vector.
-pub const OTHERS: [fn(&mut Random, &Vector) -> Vector; 4] =
-    [falsified, ill_shaped, badly_asked, without_room];
+pub const OTHERS: [Other; 4] = [falsified, ill_shaped, badly_asked, without_room];
 
 /// What the Rust answers about these nations.
 pub fn asked(random: &mut Random, campaign: &Campaign, nations: &[Nation]) -> Vector {

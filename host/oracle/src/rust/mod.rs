@@ -1,13 +1,15 @@
 //! The Rust's answers, as the rows of 01.
 
+mod players;
 mod resolver;
 
+pub use players::{player_history, Named};
 pub use resolver::Resolver;
 
 use chronicle_host::pack::{Campaign, Date, Tag};
 use chronicle_host::rows::{Booking, Change, Entry, Kind, LedgerRow, Nation, Run};
 use eu4save::query::{
-    NationEvent, NationEventKind, NationEvents, PlayerHistory, ProvinceOwnerChange, ProvinceOwners,
+    LedgerPoint, NationEvent, NationEventKind, NationEvents, ProvinceOwnerChange, ProvinceOwners,
     Query, ResolvedWarParticipant, ResolvedWarParticipants,
 };
 use eu4save::{CountryTag, TagResolver};
@@ -19,9 +21,6 @@ use crate::save::{self, save};
 pub struct Rust {
     query: Query,
 }
-
-/// A player, by the text of the name: the Rust does not number them.
-pub type Named = (String, Tag);
 
 impl Rust {
     /// Loads a campaign.
@@ -118,7 +117,21 @@ impl Rust {
         bookings
     }
 
-    /// The ledger whose values the Rust leaves unaltered.
+    /// The Rust's own answer: the ledger whose values it leaves unaltered.
+    ///
+    /// ```
+    /// use chronicle_host::sample;
+    /// use chronicle_oracle::rust::Rust;
+    ///
+    /// let rust = Rust::of(&sample::worked());
+    /// let nations = rust.nation_events(&rust.owners());
+    /// assert!(rust.ledger_points(&nations[0]).is_empty());
+    /// ```
+    pub fn ledger_points(&self, nation: &NationEvents) -> Vec<LedgerPoint> {
+        self.query.nation_size_statistics_ledger(nation)
+    }
+
+    /// The same as rows.
     ///
     /// ```
     /// use chronicle_host::sample;
@@ -129,49 +142,8 @@ impl Rust {
     /// assert!(rust.ledger(&nations[0]).is_empty());
     /// ```
     pub fn ledger(&self, nation: &NationEvents) -> Vec<LedgerRow> {
-        let points = self.query.nation_size_statistics_ledger(nation);
-        let row = |p: &eu4save::query::LedgerPoint| LedgerRow {
-            tag: bytes(p.tag),
-            year: p.year,
-            value: p.value,
-        };
-        points.iter().map(row).collect()
-    }
-
-    /// The players by name.
-    ///
-    /// ```
-    /// use chronicle_host::sample;
-    /// use chronicle_oracle::rust::Rust;
-    ///
-    /// assert!(Rust::of(&sample::worked()).players().is_empty());
-    /// ```
-    pub fn players(&self) -> Vec<Named> {
-        self.query.players().into_iter().map(|player| (player.name, bytes(player.tag))).collect()
-    }
-
-    /// The Rust's own answer.
-    ///
-    /// ```
-    /// use chronicle_host::sample;
-    /// use chronicle_oracle::rust::Rust;
-    ///
-    /// assert!(Rust::of(&sample::worked()).histories(&[]).is_empty());
-    /// ```
-    pub fn histories(&self, nations: &[NationEvents]) -> Vec<PlayerHistory> {
-        self.query.player_histories(nations)
-    }
-
-    /// The country that play began with.
-    ///
-    /// ```
-    /// use chronicle_host::sample;
-    /// use chronicle_oracle::rust::Rust;
-    ///
-    /// assert_eq!(Rust::of(&sample::worked()).starting_country(&[]), None);
-    /// ```
-    pub fn starting_country(&self, histories: &[PlayerHistory]) -> Option<Tag> {
-        self.query.starting_country(histories).map(bytes)
+        let row = |p: &LedgerPoint| LedgerRow { tag: bytes(p.tag), year: p.year, value: p.value };
+        self.ledger_points(nation).iter().map(row).collect()
     }
 }
 

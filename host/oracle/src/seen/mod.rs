@@ -1,7 +1,12 @@
 //! What a run of comparisons has met: a run that never met a hard case says little about it.
 
+mod ledgers;
+mod page;
+mod players;
 mod turns;
 mod wars;
+
+pub use ledgers::LEDGER_CASES;
 
 use std::collections::{BTreeMap, BTreeSet};
 use std::fmt;

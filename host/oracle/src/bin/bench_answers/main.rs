@@ -1,9 +1,9 @@
 //! Times the proved functions beside the Rust, in one process, on the same campaigns.
 //!
 //! `bench_answers [ROUNDS] [PART]`: best and median over so many rounds (default 51), the two taking
-//! turns; slow cases take fewer. A part is `owners`, `nations` or `bookings`; without one, all. The
-//! Rust works on its ready-made save, and what it answered is freed outside the time. Our time
-//! contains the check of the whole record.
+//! turns; slow cases take fewer. A part is `owners`, `nations`, `bookings`, `ledger`, `players` or
+//! `page`; without one, all. The Rust works on its ready-made save, and what it answered is freed outside the
+//! time. Our time contains the check of the whole record.
 
 use std::process::ExitCode;
 
@@ -15,9 +15,15 @@ fn main() -> ExitCode {
 #[cfg(found)]
 mod bookings;
 #[cfg(found)]
+mod ledgers;
+#[cfg(found)]
 mod nations;
 #[cfg(found)]
 mod owners;
+#[cfg(found)]
+mod page;
+#[cfg(found)]
+mod players;
 #[cfg(found)]
 mod race;
 
@@ -26,8 +32,14 @@ mod race;
 type Part = (&'static str, fn(usize));
 
 #[cfg(found)]
-const PARTS: [Part; 3] =
-    [("owners", owners::all), ("nations", nations::all), ("bookings", bookings::all)];
+const PARTS: [Part; 6] = [
+    ("owners", owners::all),
+    ("nations", nations::all),
+    ("bookings", bookings::all),
+    ("ledger", ledgers::all),
+    ("players", players::all),
+    ("page", page::all),
+];
 
 #[cfg(found)]
 fn main() -> ExitCode {
@@ -36,7 +48,8 @@ fn main() -> ExitCode {
     let part = texts.get(1).map_or("all", String::as_str);
     let wanted = || PARTS.iter().filter(|(name, _)| part == "all" || part == *name);
     let (Ok(rounds), Some(_), true) = (rounds, wanted().next(), texts.len() <= 2) else {
-        eprintln!("usage: bench_answers [ROUNDS] [owners | nations | bookings]");
+        let parts: Vec<&str> = PARTS.iter().map(|(name, _)| *name).collect();
+        eprintln!("usage: bench_answers [ROUNDS] [{}]", parts.join(" | "));
         return ExitCode::FAILURE;
     };
     wanted().for_each(|(_, part)| part(rounds));

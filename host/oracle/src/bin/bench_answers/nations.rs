@@ -54,13 +54,13 @@ fn theirs(rust: &Rust) -> Timed {
 }
 
 #[cfg(not(feature = "nation_events"))]
-fn ours(_: &[u8], _: &Campaign) -> Option<Timed> {
+pub fn ours(_: &[u8], _: &Campaign) -> Option<Timed> {
     None
 }
 
 /// Each event can bring two entries, and each switch one.
 #[cfg(feature = "nation_events")]
-fn ours(record: &[u8], campaign: &Campaign) -> Option<Timed> {
+pub fn ours(record: &[u8], campaign: &Campaign) -> Option<Timed> {
     let events: usize = campaign.provinces.iter().map(|province| province.events.len()).sum();
     let switches: usize = campaign.countries.iter().map(|c| c.switches.len()).sum();
     let [countries, provinces] = [campaign.countries.len(), campaign.provinces.len()];

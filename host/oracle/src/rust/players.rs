@@ -1,0 +1,81 @@
+//! Players, the countries they played and the one they began with.
+
+use chronicle_host::pack::Tag;
+use chronicle_host::rows::History;
+use eu4save::query::{NationEvents, PlayerHistory};
+
+use super::{bytes, Rust};
+use crate::save::tag;
+
+/// A player, by the text of the name: the Rust does not number them.
+pub type Named = (String, Tag);
+
+impl Rust {
+    /// The Rust's own answer, for its time.
+    ///
+    /// ```
+    /// use chronicle_host::sample;
+    /// use chronicle_oracle::rust::Rust;
+    ///
+    /// assert!(Rust::of(&sample::worked()).player_list().is_empty());
+    /// ```
+    pub fn player_list(&self) -> Vec<eu4save::query::Player> {
+        self.query.players()
+    }
+
+    /// The players by name.
+    ///
+    /// ```
+    /// use chronicle_host::sample;
+    /// use chronicle_oracle::rust::Rust;
+    ///
+    /// assert!(Rust::of(&sample::worked()).players().is_empty());
+    /// ```
+    pub fn players(&self) -> Vec<Named> {
+        self.player_list().into_iter().map(|player| (player.name, bytes(player.tag))).collect()
+    }
+
+    /// The Rust's own answer.
+    ///
+    /// ```
+    /// use chronicle_host::sample;
+    /// use chronicle_oracle::rust::Rust;
+    ///
+    /// assert!(Rust::of(&sample::worked()).histories(&[]).is_empty());
+    /// ```
+    pub fn histories(&self, nations: &[NationEvents]) -> Vec<PlayerHistory> {
+        self.query.player_histories(nations)
+    }
+
+    /// The country that play began with.
+    ///
+    /// ```
+    /// use chronicle_host::sample;
+    /// use chronicle_oracle::rust::Rust;
+    ///
+    /// assert_eq!(Rust::of(&sample::worked()).starting_country(&[]), None);
+    /// ```
+    pub fn starting_country(&self, histories: &[PlayerHistory]) -> Option<Tag> {
+        self.query.starting_country(histories).map(bytes)
+    }
+}
+
+/// A history as the Rust has it, for what is asked about any histories; nobody's name is told.
+///
+/// ```
+/// use chronicle_host::rows::History;
+/// use chronicle_oracle::rust::{bytes, player_history};
+///
+/// let [initial, latest, stored] = [*b"ENG", *b"GBR", *b"GBR"];
+/// let history = History { initial, latest, stored, nation: None, human: false, names: vec![] };
+/// assert_eq!(bytes(player_history(&history, &[]).history.initial), *b"ENG");
+/// ```
+pub fn player_history(history: &History, nations: &[NationEvents]) -> PlayerHistory {
+    let events = history.nation.map_or(vec![], |number| nations[number].events.clone());
+    let [initial, latest, stored] = [history.initial, history.latest, history.stored].map(tag);
+    PlayerHistory {
+        history: NationEvents { initial, latest, stored, events },
+        is_human: history.human,
+        player_names: vec![],
+    }
+}
