@@ -1,5 +1,6 @@
 pub mod Tags
 pub mod Dates
+pub mod Days
 pub mod Bytes
 pub mod Head
 pub mod Rows

@@ -1,6 +1,7 @@
 ghost use mathlib.Core.Path.{_≡_};
-ghost use Rattle.format.specs.Dates.{monthDays, goodIn, goodDate, datedDate, dateOfWord, notAfter, earlier, sameDate};
-ghost use Rattle.format.specs.Dates.{year as yearOf, month as monthOf};
+ghost use Rattle.format.specs.Dates.{monthDays, goodDate, datedDate, dateOfWord, notAfter, earlier, sameDate};
+ghost use Rattle.format.specs.Dates.{year as yearOf};
+ghost use Rattle.format.specs.Days.{monthDay, isDay, inYears};
 
 // A date as year*10000 + month*100 + day: number order is date order.
 pub struct Eu4Date(pub(crate) u32);
@@ -26,21 +27,34 @@ pub fn month_days(m: u32) -> u32
     28 + (OVER_28 >> (2 * m)) % 4
 }
 
+// Whether month*100 + day is a day of a month.
+pub fn is_day(month_day: u32) -> bool
+    ensures { λ r. ⌜ r ≡ isDay «month_day» ⌝ }
+{
+    let day = month_day % 100;
+    (1 <= day) & (day <= month_days(month_day / 100))
+}
+
 impl Eu4Date {
-    // Whether the number is a date in a month of so many days, for whoever looks those up: year 1 to 9999, and a day of the month.
-    pub fn good_in(self, days: u32) -> bool
-        ensures { λ r. ⌜ r ≡ goodIn days self ⌝ }
+    // Whether the year is 1 to 9999: the number's size tells, so that nothing is divided.
+    pub fn in_years(self) -> bool
+        ensures { λ r. ⌜ r ≡ inYears self ⌝ }
     {
-        let year = self.0 / 10000;
-        let day = self.0 % 100;
-        (1 <= year) & (year <= 9999) & ((1 <= day) & (day <= days))
+        (10000 <= self.0) & (self.0 <= 99999999)
+    }
+
+    // month*100 + day, both by one remainder.
+    pub fn month_day(self) -> u32
+        ensures { λ r. ⌜ r ≡ monthDay self ⌝ }
+    {
+        self.0 % 10000
     }
 
     // Whether the number is a date.
     pub fn good(self) -> bool
         ensures { λ r. ⌜ r ≡ goodDate self ⌝ }
     {
-        self.good_in(month_days(self.month()))
+        self.in_years() & is_day(self.month_day())
     }
 
     // The date that a row's word holds; a word that is no date's is refused.
@@ -73,13 +87,6 @@ impl Eu4Date {
         ensures { λ r. ⌜ r ≡ yearOf self ⌝ }
     {
         self.0 / 10000
-    }
-
-    // The month's number, which may be no month's.
-    pub fn month(self) -> u32
-        ensures { λ r. ⌜ r ≡ monthOf self ⌝ }
-    {
-        self.0 / 100 % 100
     }
 
     // Whether it is this date or an earlier one.

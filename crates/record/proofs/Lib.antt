@@ -4,3 +4,4 @@ pub mod RepeatLaws
 pub mod OpenedLaws
 pub mod ToldLaws
 pub mod PointLaws
+pub mod DayLaws

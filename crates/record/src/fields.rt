@@ -1,4 +1,4 @@
-// Numbers 4, 5, 6 and 9: the first bad field in file order. `tags` and `months` are the tables of the tag bytes and of the months' days.
+// Numbers 4, 5, 6 and 9: the first bad field in file order. `tags` and `days` are the tables of the tag bytes and of the days of a year.
 use crate::bytes;
 use crate::tables;
 use crate::years;
@@ -8,7 +8,7 @@ ghost use Prim.Native.Nat.{_+_, _*_, _≤_};
 ghost use lib.ListN.{length};
 ghost use Rattle.format.specs.Bytes.{tagAt};
 ghost use Rattle.format.specs.Laid.{Laid};
-ghost use Rattle.record.specs.Inside.{TagTable, MonthTable};
+ghost use Rattle.record.specs.Inside.{TagTable, DayTable};
 ghost use Rattle.format.specs.Campaign.{countryRows, previousTags, switchRows, provinceRows, ownerEvents, warEvents, ledgerRows, points};
 ghost use Rattle.format.specs.Rows.{rowsAt, countryAt, ownerEventAt, warEventAt};
 ghost use Rattle.format.specs.Refusal.{firstIn, tagNumber, yearNumber, countryNumber};
@@ -76,24 +76,24 @@ fn countries_number(tags: &[bool; 256], s: &[u8], at: usize, n: usize) -> u32
 }
 
 // A date, then a tag: a switch or an owner event.
-fn dated_number(tags: &[bool; 256], months: &[u32; 100], s: &[u8], at: usize) -> u32
-    requires { ⌜ (at + 7 ≤ length (now s)) × (TagTable (now tags)) × (MonthTable (now months)) ⌝ }
+fn dated_number(tags: &[bool; 256], days: &[bool; 10000], s: &[u8], at: usize) -> u32
+    requires { ⌜ (at + 7 ≤ length (now s)) × (TagTable (now tags)) × (DayTable (now days)) ⌝ }
     ensures { λ r. ⌜ r ≡ ownerEventNumber (ownerEventAt (now (s .entry)) at) ⌝ }
 {
-    if !tables::good_by(bytes::date_at(s, at), months) {
+    if !tables::good_by(bytes::date_at(s, at), days) {
         return 5;
     }
     tag_number(tags, s, at + 4)
 }
 
-fn dated_rows_number(tags: &[bool; 256], months: &[u32; 100], s: &[u8], at: usize, n: usize) -> u32
-    requires { ⌜ (at + 7 * n ≤ length (now s)) × (TagTable (now tags)) × (MonthTable (now months)) ⌝ }
+fn dated_rows_number(tags: &[bool; 256], days: &[bool; 10000], s: &[u8], at: usize, n: usize) -> u32
+    requires { ⌜ (at + 7 * n ≤ length (now s)) × (TagTable (now tags)) × (DayTable (now days)) ⌝ }
     ensures { λ r. ⌜ r ≡ firstIn ownerEventNumber (rowsAt (ownerEventAt (now (s .entry))) 7 (now (s .entry)) at n) ⌝ }
 {
     let mut a = at;
     let mut left = n;
     while 0 < left {
-        let number = dated_number(tags, months, s, a);
+        let number = dated_number(tags, days, s, a);
         if number != 0 {
             return number;
         }
@@ -104,11 +104,11 @@ fn dated_rows_number(tags: &[bool; 256], months: &[u32; 100], s: &[u8], at: usiz
 }
 
 // A war event's date, kind and tag.
-fn war_event_number(tags: &[bool; 256], months: &[u32; 100], s: &[u8], at: usize) -> u32
-    requires { ⌜ (at + 8 ≤ length (now s)) × (TagTable (now tags)) × (MonthTable (now months)) ⌝ }
+fn war_event_number(tags: &[bool; 256], days: &[bool; 10000], s: &[u8], at: usize) -> u32
+    requires { ⌜ (at + 8 ≤ length (now s)) × (TagTable (now tags)) × (DayTable (now days)) ⌝ }
     ensures { λ r. ⌜ r ≡ warEventNumber (warEventAt (now (s .entry)) at) ⌝ }
 {
-    if !tables::good_by(bytes::date_at(s, at), months) {
+    if !tables::good_by(bytes::date_at(s, at), days) {
         return 5;
     }
     if !format::kind_defined(bytes::byte(s, at + 4)) {
@@ -117,14 +117,14 @@ fn war_event_number(tags: &[bool; 256], months: &[u32; 100], s: &[u8], at: usize
     tag_number(tags, s, at + 5)
 }
 
-fn war_events_number(tags: &[bool; 256], months: &[u32; 100], s: &[u8], at: usize, n: usize) -> u32
-    requires { ⌜ (at + 8 * n ≤ length (now s)) × (TagTable (now tags)) × (MonthTable (now months)) ⌝ }
+fn war_events_number(tags: &[bool; 256], days: &[bool; 10000], s: &[u8], at: usize, n: usize) -> u32
+    requires { ⌜ (at + 8 * n ≤ length (now s)) × (TagTable (now tags)) × (DayTable (now days)) ⌝ }
     ensures { λ r. ⌜ r ≡ firstIn warEventNumber (rowsAt (warEventAt (now (s .entry))) 8 (now (s .entry)) at n) ⌝ }
 {
     let mut a = at;
     let mut left = n;
     while 0 < left {
-        let number = war_event_number(tags, months, s, a);
+        let number = war_event_number(tags, days, s, a);
         if number != 0 {
             return number;
         }
@@ -149,11 +149,11 @@ fn previous_field(tags: &[bool; 256], s: &[u8], h: Head) -> u32
     tags_number(tags, s, format::previous_at(h), 3, 0, h.previous as usize)
 }
 
-fn switches_field(tags: &[bool; 256], months: &[u32; 100], s: &[u8], h: Head) -> u32
-    requires { ⌜ (Laid (now s) h) × (TagTable (now tags)) × (MonthTable (now months)) ⌝ }
+fn switches_field(tags: &[bool; 256], days: &[bool; 10000], s: &[u8], h: Head) -> u32
+    requires { ⌜ (Laid (now s) h) × (TagTable (now tags)) × (DayTable (now days)) ⌝ }
     ensures { λ r. ⌜ r ≡ firstIn switchNumber (switchRows (now (s .entry))) ⌝ }
 {
-    dated_rows_number(tags, months, s, format::switches_at(h), h.switches as usize)
+    dated_rows_number(tags, days, s, format::switches_at(h), h.switches as usize)
 }
 
 fn provinces_field(tags: &[bool; 256], s: &[u8], h: Head) -> u32
@@ -163,20 +163,20 @@ fn provinces_field(tags: &[bool; 256], s: &[u8], h: Head) -> u32
     tags_number(tags, s, format::provinces_at(h), 7, 2, h.provinces as usize)
 }
 
-fn events_field(tags: &[bool; 256], months: &[u32; 100], s: &[u8], h: Head) -> u32
-    requires { ⌜ (Laid (now s) h) × (TagTable (now tags)) × (MonthTable (now months)) ⌝ }
+fn events_field(tags: &[bool; 256], days: &[bool; 10000], s: &[u8], h: Head) -> u32
+    requires { ⌜ (Laid (now s) h) × (TagTable (now tags)) × (DayTable (now days)) ⌝ }
     ensures { λ r. ⌜ r ≡ firstIn ownerEventNumber (ownerEvents (now (s .entry))) ⌝ }
 {
-    dated_rows_number(tags, months, s, format::events_at(h), h.events as usize)
+    dated_rows_number(tags, days, s, format::events_at(h), h.events as usize)
 }
 
-fn wars_field(tags: &[bool; 256], months: &[u32; 100], s: &[u8], h: Head) -> u32
-    requires { ⌜ (Laid (now s) h) × (TagTable (now tags)) × (MonthTable (now months)) ⌝ }
+fn wars_field(tags: &[bool; 256], days: &[bool; 10000], s: &[u8], h: Head) -> u32
+    requires { ⌜ (Laid (now s) h) × (TagTable (now tags)) × (DayTable (now days)) ⌝ }
     ensures { λ r. ⌜ r ≡ firstIn warEventNumber (warEvents (now (s .entry))) ⌝ }
 {
     war_events_number(
         tags,
-        months,
+        days,
         s,
         format::war_events_at(h),
         h.war_events as usize,
@@ -198,8 +198,8 @@ fn points_field(s: &[u8], h: Head) -> u32
 }
 
 // Each section's fields in the order of the file, behind a head that is not refused.
-fn sections_number(tags: &[bool; 256], months: &[u32; 100], s: &[u8], h: Head) -> u32
-    requires { ⌜ (Laid (now s) h) × (headNumber h ≡ 0) × (TagTable (now tags)) × (MonthTable (now months)) ⌝ }
+fn sections_number(tags: &[bool; 256], days: &[bool; 10000], s: &[u8], h: Head) -> u32
+    requires { ⌜ (Laid (now s) h) × (headNumber h ≡ 0) × (TagTable (now tags)) × (DayTable (now days)) ⌝ }
     ensures { λ r. ⌜ r ≡ fieldsNumber (now (s .entry)) ⌝ }
 {
     let number = countries_field(tags, s, h);
@@ -210,7 +210,7 @@ fn sections_number(tags: &[bool; 256], months: &[u32; 100], s: &[u8], h: Head) -
     if number != 0 {
         return number;
     }
-    let number = switches_field(tags, months, s, h);
+    let number = switches_field(tags, days, s, h);
     if number != 0 {
         return number;
     }
@@ -218,11 +218,11 @@ fn sections_number(tags: &[bool; 256], months: &[u32; 100], s: &[u8], h: Head) -
     if number != 0 {
         return number;
     }
-    let number = events_field(tags, months, s, h);
+    let number = events_field(tags, days, s, h);
     if number != 0 {
         return number;
     }
-    let number = wars_field(tags, months, s, h);
+    let number = wars_field(tags, days, s, h);
     if number != 0 {
         return number;
     }
@@ -243,6 +243,6 @@ pub(crate) fn fields_number(s: &[u8], h: Head) -> u32
         return number;
     }
     let tags = tables::tag_table();
-    let months = tables::month_table();
-    sections_number(&tags, &months, s, h)
+    let days = tables::day_table();
+    sections_number(&tags, &days, s, h)
 }

@@ -1,13 +1,13 @@
-// Tables of the tag bytes and of the months' days, made once where many fields are to be tested: to look a number up is quicker than to test it.
+// Tables of the tag bytes and of the days of a year, made once where many fields are to be tested: to look a number up is quicker than to test it.
 use crate::bytes;
 use format::Eu4Date;
 ghost use mathlib.Core.Path.{_≡_};
-ghost use Prim.Native.Nat.{_+_, _≤_};
+ghost use Prim.Native.Nat.{_+_, _*_, _≤_};
 ghost use lib.ListN.{length};
 ghost use Rattle.format.specs.Bytes.{tagAt};
 ghost use Rattle.format.specs.Dates.{goodDate};
 ghost use Rattle.format.specs.Tags.{isTag};
-ghost use Rattle.record.specs.Inside.{TagTable, MonthTable};
+ghost use Rattle.record.specs.Inside.{TagTable, DaysTo, DayTable};
 
 // The test of every byte.
 pub(crate) fn tag_table() -> [bool; 256]
@@ -33,24 +33,37 @@ pub(crate) fn good_tag_at(table: &[bool; 256], s: &[u8], at: usize) -> bool
     table[a] & table[b] & table[c]
 }
 
-// The days of each month by its number; 0 for a number that is no month's.
-pub(crate) fn month_table() -> [u32; 100]
-    ensures { λ r. ⌜ MonthTable r ⌝ }
+// Marks the days of a month; the months before it are marked.
+fn mark_days(table: &mut [bool; 10000], month: usize)
+    requires { ⌜ (1 ≤ month) × (month ≤ 12) × (DaysTo (now table) (100 * month)) ⌝ }
+    ensures { λ _. ⌜ DaysTo (now (table .exit)) (100 * month + 100) ⌝ }
 {
-    let mut table = [0; 100];
-    let mut m: usize = 1;
-    while m < 13 {
-        table[m] = format::month_days(m as u32);
-        m += 1;
+    let mut k = 100 * month + 1;
+    let end = k + format::month_days(month as u32) as usize;
+    while k < end {
+        table[k] = true;
+        k += 1;
+    }
+}
+
+// Which numbers month*100 + day are days.
+pub(crate) fn day_table() -> [bool; 10000]
+    ensures { λ r. ⌜ DayTable r ⌝ }
+{
+    let mut table = [false; 10000];
+    let mut month: usize = 1;
+    while month < 13 {
+        mark_days(&mut table, month);
+        month += 1;
     }
     table
 }
 
 // Whether the number is a date, by the table.
-pub(crate) fn good_by(d: Eu4Date, table: &[u32; 100]) -> bool
-    requires { ⌜ MonthTable (now table) ⌝ }
+pub(crate) fn good_by(d: Eu4Date, table: &[bool; 10000]) -> bool
+    requires { ⌜ DayTable (now table) ⌝ }
     ensures { λ r. ⌜ r ≡ goodDate d ⌝ }
 {
-    let m = d.month() as usize;
-    d.good_in(table[m])
+    let k = d.month_day() as usize;
+    d.in_years() & table[k]
 }

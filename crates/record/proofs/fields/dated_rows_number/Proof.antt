@@ -11,10 +11,10 @@ use Rattle.record.proofs.fields.dated_rows_number.Statement.{statement}
 use Rattle.record.proofs.fields.dated_rows_number.Tie as tie
 
 abbrev Inv-loop : tie.InvT-loop
-Inv-loop tags months s at n a₀ left₀ a left = (a + 7 * left ≤ length s) × (firstIn (ownerEventNumber) (rowsAt (ownerEventAt s) 7 s a left) ≡ firstIn (ownerEventNumber) (rowsAt (ownerEventAt s) 7 s at n))
+Inv-loop tags days s at n a₀ left₀ a left = (a + 7 * left ≤ length s) × (firstIn (ownerEventNumber) (rowsAt (ownerEventAt s) 7 s a left) ≡ firstIn (ownerEventNumber) (rowsAt (ownerEventAt s) 7 s at n))
 
 abbrev μ-loop : tie.MeasureT-loop
-μ-loop tags months s at n a₀ left₀ a left = left
+μ-loop tags days s at n a₀ left₀ a left = left
 
 loop-holds : tie.Need-loop-holds Inv-loop μ-loop
 loop-holds c = search needs

@@ -17,14 +17,14 @@ returns c =
 tag-table-requires : tie.Need-tag-table-requires
 tag-table-requires c κs = tt
 
-month-table-requires : tie.Need-month-table-requires
-month-table-requires c κs = tt
+day-table-requires : tie.Need-day-table-requires
+day-table-requires c κs = tt
 
 sections-number-requires : tie.Need-sections-number-requires
 sections-number-requires c κs =
     let known = c .before .before .before .before in
     let start = known .before .before .before in
-    (start .pre, sym (known .before .head-number .ensures) ∙ known .if1 .left, c .before .before .before .tag-table .ensures, c .before .before .month-table .ensures)
+    (start .pre, sym (known .before .head-number .ensures) ∙ known .if1 .left, c .before .before .before .tag-table .ensures, c .before .before .day-table .ensures)
 
 returns-2 : tie.Need-returns-2
 returns-2 c = c .sections-number .ensures
@@ -36,6 +36,6 @@ fields-number-spec =
     head-number-requires
     returns
     tag-table-requires
-    month-table-requires
+    day-table-requires
     sections-number-requires
     returns-2)

@@ -1,21 +1,23 @@
--- The days are those of the date's own month.
-use Rattle.format.specs.Dates.{goodDate}
-use borrow.Author.Needs.{needs}
+-- Years and day together are the rule.
+use mathlib.Core.Path.{_∙_}
+use Rattle.format.proofs.DateLaws.{good-in-parts}
 use Rattle.format.proofs.date.Eu4Date.good.Statement.{statement}
 use Rattle.format.proofs.date.Eu4Date.good.Tie as tie
 
-month-requires : tie.Need-month-requires
-month-requires c κs = search needs
+in-years-requires : tie.Need-in-years-requires
+in-years-requires c κs = tt
 
-month-days-requires : tie.Need-month-days-requires
-month-days-requires c κs = search needs
+month-day-requires : tie.Need-month-day-requires
+month-day-requires c κs = tt
 
-good-in-requires : tie.Need-good-in-requires
-good-in-requires c κs = search needs
+is-day-requires : tie.Need-is-day-requires
+is-day-requires c κs = tt
 
 returns : tie.Need-returns
-unfolding goodDate
-returns c = cc
+returns c =
+    let day = c .before in
+    let years = day .before in
+    rw (c .is-day .ensures, day .month-day .ensures, years .in-years .ensures) (good-in-parts (years .before .args .self))
 
 pub good-spec : {M : Type 1} → statement M
-good-spec = tie.close (tie.spec month-requires month-days-requires good-in-requires returns)
+good-spec = tie.close (tie.spec in-years-requires month-day-requires is-day-requires returns)

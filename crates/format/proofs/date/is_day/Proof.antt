@@ -1,0 +1,15 @@
+-- The test is the definition, with the days that `month_days` gives.
+use Rattle.format.specs.Days.{isDay}
+use borrow.Author.Needs.{needs}
+use Rattle.format.proofs.date.is_day.Statement.{statement}
+use Rattle.format.proofs.date.is_day.Tie as tie
+
+month-days-requires : tie.Need-month-days-requires
+month-days-requires c κs = tt
+
+returns : tie.Need-returns
+unfolding isDay
+returns c = rw (c .month-days .ensures)
+
+pub is-day-spec : {M : Type 1} → statement M
+is-day-spec = tie.close (tie.spec month-days-requires returns)
