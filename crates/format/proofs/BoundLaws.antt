@@ -26,7 +26,7 @@ use Rattle.format.proofs.SoundLaws.{sound}
 -- ## One word
 
 pub tag-small : (t : CountryTag) → GoodTag t → t .0 < 16777216
-tag-small t h = let b = tag-bytes t h in omega (arith, b .first)
+tag-small t h = let b = tag-bytes t h in omega (arith, b .first .most)
 
 -- A month with a day is one of twelve, and none has more than 31.
 month-days : (m d : ℕ) → 1 ≤ d → d ≤ monthDays m → (m ≤ 12) × (d ≤ 31)

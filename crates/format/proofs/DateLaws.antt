@@ -10,7 +10,7 @@ use lib.Dec.{leb}
 use Rattle.format.specs.declared.date.Eu4Date.{Eu4Date}
 use Rattle.format.specs.declared.date.Dated.{Dated}
 use Rattle.format.specs.declared.date.Dated.the-variants.{Date, NoDate}
-use Rattle.format.specs.Dates.{goodDate, monthDays, datedDate, dateOfWord}
+use Rattle.format.specs.Dates.{goodDate, datedDate, dateOfWord}
 use Rattle.format.specs.Days.{inYears, monthDay, isDay}
 
 -- The remainder behind the year has the date's month and day.

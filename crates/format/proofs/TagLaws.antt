@@ -1,4 +1,4 @@
--- The bytes of a tag: they lie from 45 to 122, and a word gives back those that it was made of.
+-- The bytes of a tag: they lie from 45 to 122, with nothing between 45 and 48, and a word gives back those that it was made of.
 use mathlib.Core.Path.{_≡_}
 use mathlib.Core.Bool.{true, _&&_}
 use Prim.Native.Nat.{ℕ, _+_, _*_, _/_, _%_, _<_, _≤_}
@@ -9,7 +9,13 @@ use Rattle.lists.proofs.BoolLaws.{cases, and-left, and-right}
 use Rattle.format.specs.declared.tag.CountryTag.{CountryTag}
 use Rattle.format.specs.Tags.{tagByte, isTag, tagOf}
 
-pub byte-range : (b : ℕ) → tagByte b ≡ true → (45 ≤ b) × (b ≤ 122)
+-- What is known of a tag's byte.
+pub record Range (b : ℕ) : Type 0 where
+  pub least : 45 ≤ b
+  pub most : b ≤ 122
+  pub low : b < 48 → b ≡ 45
+
+pub byte-range : (b : ℕ) → tagByte b ≡ true → Range b
 unfolding tagByte
 byte-range b h =
     cases (leb 48 b && leb b 57)
@@ -18,18 +24,18 @@ byte-range b h =
     (λ u. between 65 90 u (omega arith) (omega arith))
     (λ u. cases (leb 97 b && leb b 122)
     (λ l. between 97 122 l (omega arith) (omega arith))
-    (λ l. let e : b ≡ 45 = eqb-true b 45 (simp (d, u, l) at h) in (omega arith, omega arith))))
+    (λ l. let e : b ≡ 45 = eqb-true b 45 (simp (d, u, l) at h) in record { least = omega arith; most = omega arith; low = λ _. e })))
   where
-    between : (low high : ℕ) → leb low b && leb b high ≡ true → 45 ≤ low → high ≤ 122 → (45 ≤ b) × (b ≤ 122)
+    between : (low high : ℕ) → leb low b && leb b high ≡ true → 48 ≤ low → high ≤ 122 → Range b
     between low high t hl hh =
         let p = leb-true low b (and-left (leb low b) (leb b high) t) in
         let q = leb-true b high (and-right (leb low b) (leb b high) t) in
-        (omega (arith, p, hl), omega (arith, q, hh))
+        record { least = omega (arith, p, hl); most = omega (arith, q, hh); low = λ h. absurd (omega (arith, p, hl)) }
 
 pub record Bytes (w : ℕ) : Type 0 where
-  pub first : (45 ≤ w / 65536) × (w / 65536 ≤ 122)
-  pub second : (45 ≤ w / 256 % 256) × (w / 256 % 256 ≤ 122)
-  pub third : (45 ≤ w % 256) × (w % 256 ≤ 122)
+  pub first : Range (w / 65536)
+  pub second : Range (w / 256 % 256)
+  pub third : Range (w % 256)
 
 pub tag-bytes : (t : CountryTag) → isTag t ≡ true → Bytes (t .0)
 unfolding isTag

@@ -3,6 +3,7 @@ use mathlib.Core.Path.{_≡_, refl, sym, ap, ap₂, _∙_}
 use mathlib.Core.Bool.{Bool, true, false, _||_}
 use mathlib.Core.List.{List, [], _∷_, map}
 use Prim.Native.Nat.{ℕ, zero, suc, _+_, _-_, _*_, _/_, _%_, _<_, _≤_}
+use native.Mathlib.Decide.{decLt}
 use native.Mathlib.Omega.{arith}
 use borrow.Author.Tests.{eqb-true, eq-eqb, ne-eqb}
 use lib.Dec.{eqb, ltb, leb}
@@ -13,7 +14,7 @@ use Rattle.lists.proofs.BoolLaws.{cases, clash, and-left, and-right}
 use Rattle.bitset.specs.Bitset.{isMarked, marking}
 use Rattle.bitset.proofs.BitsetLaws.{marked-after}
 use Rattle.format.specs.Tags.{isTag}
-use Rattle.format.proofs.TagLaws.{Bytes, tag-bytes}
+use Rattle.format.proofs.TagLaws.{Range, Bytes, tag-bytes}
 use Rattle.format.specs.declared.head.Head.{Head}
 use Rattle.format.specs.Bytes.{tagAt, idAt}
 use Rattle.format.specs.Head.{headOf, countriesAt, provincesAt}
@@ -80,28 +81,33 @@ repeats-mark before after good x ys more g h =
 
 -- a tag's place, of its word
 abbrev pub placeOf : ℕ → ℕ
-placeOf w = (w / 65536 - 45) * 6084 + (w / 256 % 256 - 45) * 78 + (w % 256 - 45)
+placeOf w = (w / 65536 - 47) * 5776 + (w / 256 % 256 - 47) * 76 + (w % 256 - 47)
 
-pub place-small : (w : ℕ) → Bytes w → placeOf w < 474552
-place-small w h = omega (arith, h .first, h .second, h .third)
+pub place-small : (w : ℕ) → Bytes w → placeOf w < 438976
+place-small w h = omega (arith, h .first .most, h .second .most, h .third .most)
 
--- three digits below 78 are told apart by their number
-digits-apart : (a b c x y z : ℕ) → b < 78 → c < 78 → y < 78 → z < 78 → a * 6084 + b * 78 + c ≡ x * 6084 + y * 78 + z → (a ≡ x) × (b ≡ y) × (c ≡ z)
+-- three digits below 76 are told apart by their number
+digits-apart : (a b c x y z : ℕ) → b < 76 → c < 76 → y < 76 → z < 76 → a * 5776 + b * 76 + c ≡ x * 5776 + y * 76 + z → (a ≡ x) × (b ≡ y) × (c ≡ z)
 digits-apart a b c x y z hb hc hy hz e = (omega arith, omega arith, omega arith)
 
 word-parts : (w : ℕ) → w ≡ w / 65536 * 65536 + w / 256 % 256 * 256 + w % 256
 word-parts w = omega arith
 
-less-same : (a b : ℕ) → 45 ≤ a → 45 ≤ b → a - 45 ≡ b - 45 → a ≡ b
-less-same a b p q e = omega arith
+-- two tag bytes of one place are one byte: below 48 there is only 45
+places-same : (a b : ℕ) → Range a → Range b → a - 47 ≡ b - 47 → a ≡ b
+places-same a b p q e =
+    elim (decLt a 48) as (λ _. a ≡ b) [
+      | yes h ↦ p .low h ∙ sym (q .low (omega arith))
+      | no h ↦ omega arith
+    ]
 
 place-apart : (v w : ℕ) → Bytes v → Bytes w → placeOf v ≡ placeOf w → v ≡ w
 place-apart v w hv hw e =
-    let d = digits-apart (v / 65536 - 45) (v / 256 % 256 - 45) (v % 256 - 45) (w / 65536 - 45) (w / 256 % 256 - 45) (w % 256 - 45)
-    (omega (arith, hv .second)) (omega (arith, hv .third)) (omega (arith, hw .second)) (omega (arith, hw .third)) e in
-    let a = less-same (v / 65536) (w / 65536) (hv .first .0) (hw .first .0) (d .0) in
-    let b = less-same (v / 256 % 256) (w / 256 % 256) (hv .second .0) (hw .second .0) (d .1) in
-    let c = less-same (v % 256) (w % 256) (hv .third .0) (hw .third .0) (d .2) in
+    let d = digits-apart (v / 65536 - 47) (v / 256 % 256 - 47) (v % 256 - 47) (w / 65536 - 47) (w / 256 % 256 - 47) (w % 256 - 47)
+    (omega (arith, hv .second .most)) (omega (arith, hv .third .most)) (omega (arith, hw .second .most)) (omega (arith, hw .third .most)) e in
+    let a = places-same (v / 65536) (w / 65536) (hv .first) (hw .first) (d .0) in
+    let b = places-same (v / 256 % 256) (w / 256 % 256) (hv .second) (hw .second) (d .1) in
+    let c = places-same (v % 256) (w % 256) (hv .third) (hw .third) (d .2) in
     word-parts v ∙ ap (λ (x : ℕ). x * 65536 + v / 256 % 256 * 256 + v % 256) a
     ∙ ap (λ (x : ℕ). w / 65536 * 65536 + x * 256 + v % 256) b
     ∙ ap (λ (x : ℕ). w / 65536 * 65536 + w / 256 % 256 * 256 + x) c
@@ -142,7 +148,7 @@ module _ (word : ℕ → ℕ) (width : ℕ) (xs : List ℕ) (at n : ℕ) (some :
   pub rows-hit : (marked : ℕ → Bool) → marked (word at) ≡ true → repeats marked (rowsAt word width xs at n) ≡ true
   rows-hit marked h = ap (repeats marked) (rows-more word width xs at n some inside) ∙ repeats-hit marked _ _ h
 
-  pub tag-marked : (seen : List ℕ) → length seen ≡ 7415 → allOf tagWord (rowsAt word width xs at n) ≡ true
+  pub tag-marked : (seen : List ℕ) → length seen ≡ 6859 → allOf tagWord (rowsAt word width xs at n) ≡ true
       → tagSeen seen (word at) ≡ false
       → repeats (tagSeen seen) (rowsAt word width xs at n)
       ≡ repeats (tagSeen (marking seen (placeOf (word at)))) (rowsAt word width xs (at + width) (n - 1))

@@ -5,7 +5,7 @@ use format::CountryTag;
 use format::Head;
 ghost use mathlib.Core.Path.{_≡_};
 ghost use mathlib.Core.Bool.{true, _||_};
-ghost use Prim.Native.Nat.{_+_, _-_, _*_, _/_, _%_, _<_, _≤_};
+ghost use Prim.Native.Nat.{_+_, _-_, _*_, _/_, _%_, _≤_};
 ghost use lib.Dec.{ltb};
 ghost use lib.ListN.{length};
 ghost use Rattle.lists.specs.Lists.{anyOf, allOf, twice};
@@ -16,16 +16,22 @@ ghost use Rattle.format.specs.Laid.{Laid};
 ghost use Rattle.format.specs.Campaign.{countryRows};
 ghost use Rattle.format.specs.Refusal.{firstIn, countryNumber, tagTwice, idTwiceOrAbove};
 
-// A tag's place among all tags. The tag bytes lie from 45 to 122, so that each has 78 places.
+// A tag byte's place from 0 to 75: `-` is 45, and the next tag byte is 48.
+fn byte_place(b: u32) -> u32
+    ensures { λ r. ⌜ r ≡ b - 47 ⌝ }
+{
+    if b < 48 { 0 } else { b - 47 }
+}
+
+// A tag's place among all tags, of 76 for each byte: the fewer there are, the smaller the stack that a thread needs for the check.
 fn place(t: CountryTag) -> usize
-    requires { ⌜ isTag t ≡ true ⌝ }
-    ensures { λ r. ⌜ r ≡ (t .0 / 65536 - 45) * 6084 + (t .0 / 256 % 256 - 45) * 78 + (t .0 % 256 - 45) ⌝ }
+    ensures { λ r. ⌜ r ≡ (t .0 / 65536 - 47) * 5776 + (t .0 / 256 % 256 - 47) * 76 + (t .0 % 256 - 47) ⌝ }
 {
     let w = t.word();
-    let a = w / 65536 - 45;
-    let b = w / 256 % 256 - 45;
-    let c = w % 256 - 45;
-    (a * 6084 + b * 78 + c) as usize
+    let a = byte_place(w / 65536);
+    let b = byte_place(w / 256 % 256);
+    let c = byte_place(w % 256);
+    (a * 5776 + b * 76 + c) as usize
 }
 
 // Whether a tag stands twice among n countries, whose tags are good.
@@ -38,7 +44,7 @@ fn tag_twice(s: &[u8], at: usize, n: usize) -> bool
     if n == 0 {
         return false;
     }
-    let mut seen = [0u64; 7415];
+    let mut seen = [0u64; 6859];
     let mut a = at;
     let mut left = n;
     while 0 < left {

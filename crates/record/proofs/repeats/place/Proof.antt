@@ -1,6 +1,5 @@
--- The three bytes of a good tag are at least 45, so that no difference falls below 0.
+-- Each byte has its place, and the word is the tag's.
 use native.Mathlib.Omega.{arith}
-use Rattle.format.proofs.TagLaws.{tag-bytes}
 use borrow.Author.Needs.{needs}
 use Rattle.record.proofs.repeats.place.Statement.{statement}
 use Rattle.record.proofs.repeats.place.Tie as tie
@@ -8,14 +7,14 @@ use Rattle.record.proofs.repeats.place.Tie as tie
 word-requires : tie.Need-word-requires
 word-requires c κs = tt
 
-sub-a : tie.Need-sub-a
-sub-a c = omega (arith, tag-bytes (c .before .args .t) (c .before .pre) .first, c .word .ensures)
+byte-place-requires : tie.Need-byte-place-requires
+byte-place-requires c κs = tt
 
-sub-b : tie.Need-sub-b
-sub-b c = omega (arith, tag-bytes (c .before .args .t) (c .before .pre) .second, c .word .ensures)
+byte-place-requires-2 : tie.Need-byte-place-requires-2
+byte-place-requires-2 c κs = tt
 
-sub-c : tie.Need-sub-c
-sub-c c = omega (arith, tag-bytes (c .before .args .t) (c .before .pre) .third, c .word .ensures)
+byte-place-requires-3 : tie.Need-byte-place-requires-3
+byte-place-requires-3 c κs = tt
 
 mul-result : tie.Need-mul-result
 mul-result c = search needs
@@ -33,16 +32,19 @@ cast-result : tie.Need-cast-result
 cast-result c = search needs
 
 returns : tie.Need-returns
-returns c = rw (c .word .ensures)
+returns c =
+    let b = c .before in
+    let a = b .before in
+    rw (c .byte-place3 .ensures, b .byte-place2 .ensures, a .byte-place .ensures, a .before .word .ensures)
 
 pub place-spec : {M : Type 1} → statement M
 place-spec =
     tie.close
     (tie.spec
     word-requires
-    sub-a
-    sub-b
-    sub-c
+    byte-place-requires
+    byte-place-requires-2
+    byte-place-requires-3
     mul-result
     mul-result-2
     add-result

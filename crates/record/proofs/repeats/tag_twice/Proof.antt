@@ -19,7 +19,7 @@ use Rattle.record.proofs.repeats.tag_twice.Tie as tie
 abbrev Inv-loop : tie.InvT-loop
 Inv-loop s at n seen₀ a₀ left₀ seen a left =
     (a + 12 * left ≤ length s)
-    × (length seen ≡ 7415)
+    × (length seen ≡ 6859)
     × (allOf tagWord (rowsAt (λ (x : ℕ). tagAt s x .0) 12 s a left) ≡ true)
     × (repeats (tagSeen seen) (rowsAt (λ (x : ℕ). tagAt s x .0) 12 s a left) ≡ twice (rowsAt (λ (x : ℕ). tagAt s x .0) 12 s at n))
 
@@ -33,16 +33,13 @@ returns c =
 
 loop-holds : tie.Need-loop-holds Inv-loop μ-loop
 loop-holds c =
-    (search needs, refl, c .before .before .pre .1, repeats-start (tagSeen (replicate 7415 0)) (λ y. none-marked 7415 (placeOf y)) _)
+    (search needs, refl, c .before .before .pre .1, repeats-start (tagSeen (replicate 6859 0)) (λ y. none-marked 6859 (placeOf y)) _)
 
 tag-at-requires : tie.Need-tag-at-requires Inv-loop μ-loop
 tag-at-requires c κs = search needs
 
 place-requires : tie.Need-place-requires Inv-loop μ-loop
-place-requires c κs =
-    let l = c .before .before .loop in
-    let g = c .before .before .before .before .before .args in
-    ap isTag (c .tag-at .ensures) ∙ rows-good (λ (x : ℕ). tagAt (g .s .now) x .0) 12 (g .s .now) (l .a) (l .left) (c .before .loop-test .taken) (omega arith) (l .inv .2) .0
+place-requires c κs = tt
 
 slice-aggregate-marked : tie.Need-slice-aggregate-marked Inv-loop μ-loop
 slice-aggregate-marked c = search needs

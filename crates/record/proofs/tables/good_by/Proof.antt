@@ -1,6 +1,4 @@
 -- The years by the number's size, the day by the table.
-use mathlib.Core.Path.{_∙_, ap}
-use native.Mathlib.Omega.{arith}
 use borrow.Author.Needs.{needs}
 use Rattle.format.proofs.DateLaws.{good-in-parts}
 use Rattle.record.proofs.tables.good_by.Statement.{statement}

@@ -1,5 +1,5 @@
 -- The table is right below `k`, and has no mark from there on.
-use Prim.Native.Nat.{ℕ, _-_, _+_, _*_, _/_, _≤_}
+use Prim.Native.Nat.{_-_, _+_, _*_, _/_, _≤_}
 use mathlib.Core.Path.{_≡_}
 use native.Mathlib.Omega.{arith}
 use borrow.Author.Needs.{needs}

@@ -1,5 +1,4 @@
 -- Years and day together are the rule.
-use mathlib.Core.Path.{_∙_}
 use Rattle.format.proofs.DateLaws.{good-in-parts}
 use Rattle.format.proofs.date.Eu4Date.good.Statement.{statement}
 use Rattle.format.proofs.date.Eu4Date.good.Tie as tie
