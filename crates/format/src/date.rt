@@ -28,7 +28,7 @@ pub fn month_days(m: u32) -> u32
 }
 
 // Whether month*100 + day is a day of a month.
-pub fn is_day(month_day: u32) -> bool
+fn is_day(month_day: u32) -> bool
     ensures { λ r. ⌜ r ≡ isDay «month_day» ⌝ }
 {
     let day = month_day % 100;

@@ -8,7 +8,6 @@ mod tag;
 
 pub use date::Dated;
 pub use date::Eu4Date;
-pub use date::is_day;
 pub use date::month_days;
 pub use flags::bit0;
 pub use flags::bit1;
