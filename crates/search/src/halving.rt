@@ -68,19 +68,35 @@ fn at_most(keys: &[u64], x: u64, n: usize) -> bool
     x / 2 < keys[n] / 2
 }
 
-// How many of the keys, which are in order, are at most x: searched for between the starts of x's cell and of the next one, if the keys there show it.
+// How many of the keys, which are in order, are at most x: searched for between two hints, if the keys there show it, else among all.
+fn count_hinted(keys: &[u64], x: u64, from: usize, end: usize) -> usize
+    ensures { λ r. ⌜ CountsBelow (now (keys .entry)) (x / 2 * 2 + 2) r ⌝ }
+{
+    if (from <= end) & (end <= keys.len()) & at_least(keys, x, from) & at_most(keys, x, end) {
+        return count_enclosed(keys, x, from, end);
+    }
+    count_enclosed(keys, x, 0, keys.len())
+}
+
+// How many of the keys, which are in order, are at most x: the starts of x's cell and of the next one are the hints.
 pub fn count_near(keys: &[u64], starts: &[u64], x: u64) -> usize
     ensures { λ r. ⌜ CountsBelow (now (keys .entry)) (x / 2 * 2 + 2) r ⌝ }
 {
     let cell = (x / CELL) as usize;
     if cell + 1 < starts.len() {
-        let from = starts[cell] as usize;
-        let end = starts[cell + 1] as usize;
-        if (from <= end) & (end <= keys.len()) & at_least(keys, x, from) & at_most(keys, x, end) {
-            return count_enclosed(keys, x, from, end);
-        }
+        return count_hinted(keys, x, starts[cell] as usize, starts[cell + 1] as usize);
     }
-    count_enclosed(keys, x, 0, keys.len())
+    count_hinted(keys, x, 0, keys.len())
+}
+
+// How many of the keys, which are in order, are below x, an even number: likely not fewer than the first hint and not more than the second.
+pub fn count_between(keys: &[u64], x: u64, from: usize, end: usize) -> usize
+    ensures { λ r. ⌜ CountsBelow (now (keys .entry)) (x / 2 * 2) r ⌝ }
+{
+    if x < 2 {
+        return 0;
+    }
+    count_hinted(keys, x - 2, from, end)
 }
 
 // How many of the keys, which are in order, are below x, an even number.

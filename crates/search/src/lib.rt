@@ -4,6 +4,7 @@ mod places;
 
 pub use halving::CELLS;
 pub use halving::count_below;
+pub use halving::count_between;
 pub use halving::count_near;
 pub use halving::index_block;
 pub use places::Place;
