@@ -3,6 +3,8 @@ pub mod LookupLaws
 pub mod CountryLaws
 pub mod MappedLaws
 pub mod SettlingLaws
+pub mod OwnLaws
+pub mod OwnKeyLaws
 pub mod KeyedLaws
 pub mod PlacedLaws
 pub mod TargetLaws

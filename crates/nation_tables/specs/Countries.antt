@@ -7,7 +7,7 @@ use mathlib.Core.Option.{Option, Option·map}
 use Prim.Native.Nat.{ℕ, suc, _+_, _*_, _≤_, _<_}
 use lib.Dec.{eqb, leb, ltb}
 use lib.ListN.{length, getElem?, take, drop}
-use Rattle.lists.specs.Lists.{allOf, firstOr, lastOr}
+use Rattle.lists.specs.Lists.{All, allOf, firstOr, lastOr}
 use Rattle.sorting.specs.Sort.{sortBy}
 use Rattle.format.specs.declared.tag.CountryTag.{CountryTag}
 use Rattle.format.specs.declared.rows.Switch.{Switch}
@@ -16,7 +16,7 @@ use Rattle.rules.specs.Lent.{written}
 use Rattle.rules.specs.Nations.{initialOf, mapsTo}
 pub use Rattle.nation_tables.specs.Keys.{settlingKey}
 use Rattle.nation_tables.specs.Keys.{rowKey}
-use Rattle.nation_tables.specs.Layout.{keyRows, keyDates, keyTags, noRow}
+use Rattle.nation_tables.specs.Layout.{keyRows, keyDates, keyTags, lastDate, noRow}
 use Rattle.nation_tables.specs.Lookup.{lastWithin}
 
 -- ## Rows
@@ -73,6 +73,31 @@ switchKeysFrom row (k ∷ ks) = map (switchKey row) (k .switches) ++ switchKeysF
 abbrev pub switchKeys : List Country → List ℕ
 switchKeys ks = sortBy leb (switchKeysFrom 0 ks)
 
+-- ## Keys that changes settle by
+
+-- A country with one more switch, from its own tag and dated behind every date: by it a change to that tag settles that no other switch does.
+abbrev pub ownSwitch : Country → Switch
+ownSwitch k = record { date = record { 0 = lastDate }; from = k .tag }
+
+abbrev pub withOwn : Country → Country
+withOwn k =
+    record {
+      tag = k .tag;
+      human = k .human;
+      wasPlayer = k .wasPlayer;
+      hasSwitchedNation = k .hasSwitchedNation;
+      cities = k .cities;
+      previous = k .previous;
+      switches = k .switches ++ (ownSwitch k ∷ []);
+    }
+
+-- The keys of all switches and of all countries, country by country, and in order.
+abbrev pub settlingKeysFrom : ℕ → List Country → List ℕ
+settlingKeysFrom row ks = switchKeysFrom row (map withOwn ks)
+
+abbrev pub settlingKeys : List Country → List ℕ
+settlingKeys ks = switchKeys (map withOwn ks)
+
 -- ## What the keys lean on
 
 -- A switch's from and date have room in its key.
@@ -84,6 +109,11 @@ pub record Keyed (ks : List Country) : Type 0 where
   pub few : length ks ≤ keyRows
   pub switches : allOf (λ k. allOf smallSwitch (k .switches)) ks ≡ true
 
+-- A country's own key has room, and stands behind those of all switches from its tag.
+pub record OwnLast (ks : List Country) : Type 0 where
+  pub tags : All (λ k. k .tag .0 < keyTags) ks
+  pub dates : All (λ k. All (λ x. x .date .0 < lastDate) (k .switches)) ks
+
 -- ## What the functions leave
 
 -- The words of tags and initials of so many countries.
@@ -91,10 +121,6 @@ pub record Tabled (ks : List Country) (count : ℕ) (tags₀ tags₁ initials₀
   pub counted : count ≡ length ks
   pub tags : tags₁ ≡ written (tagWords ks) tags₀
   pub initials : initials₁ ≡ written (initialWords ks) initials₀
-
--- The row of the country with a tag, by keys: of any countries whose tags the keys are.
-pub record RowFound (keys : List ℕ) (t : CountryTag) (row : ℕ) : Type 0 where
-  pub found : (ks : List Country) → length ks ≤ keyRows → keys ≡ rowKeys (tagWords ks) → row ≡ rowOf ks t
 
 -- The row of the country that an initial maps to, by keys: of any countries whose initials the keys are.
 pub record RowMapped (keys : List ℕ) (t : CountryTag) (row : ℕ) : Type 0 where

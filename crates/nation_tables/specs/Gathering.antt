@@ -22,28 +22,28 @@ use Rattle.nation_tables.specs.declared.gathering.Beginning as Beginning
 use Rattle.nation_tables.specs.declared.gathering.Sizes.{Sizes}
 use Rattle.nation_tables.specs.declared.gathering.TableSizes.{TableSizes}
 use Rattle.nation_tables.specs.declared.gathering.TablesGathered as TablesGathered
-use Rattle.nation_tables.specs.Layout.{mostCountries, mostSwitches, mostSlots}
-use Rattle.nation_tables.specs.Countries.{tagWords, initialWords, rowKeys, switchKeysFrom, switchKeys, Keyed}
+use Rattle.nation_tables.specs.Layout.{mostCountries, mostSwitches, mostSettling, mostSlots}
+use Rattle.nation_tables.specs.Countries.{tagWords, initialWords, rowKeys, switchKeysFrom, settlingKeysFrom, settlingKeys, Keyed}
 use Rattle.nation_tables.specs.Turning.{highHalves, lowHalves, Linked, TurnsLinked, Rowed, rowTurnsOf}
 use Rattle.nation_tables.specs.Holders.{startedOf, slotCells}
 use Rattle.nation_tables.specs.Switches.{runKeys, targetWords}
 
 -- ## Steps
 
--- Room for a cell of each country, and for the key of each switch.
+-- Room for a cell of each country, and for the keys that changes settle by.
 pub record TablesRoom (ks : List Country) (words₀ initials₀ switches₀ : List ℕ) : Type 0 where
   pub few : length ks ≤ mostCountries
   pub words : length ks ≤ length words₀
   pub initials : length ks ≤ length initials₀
-  pub switches : length (switchKeysFrom 0 ks) ≤ length switches₀
+  pub switches : length (settlingKeysFrom 0 ks) ≤ length switches₀
 
 -- The tables stand at the front of their cells.
 pub record TablesFilled (ks : List Country) (r : Sizes) (words₁ initials₁ switches₁ : List ℕ) : Type 0 where
   pub countries : r .countries ≡ length ks
-  pub switched : r .switches ≡ length (switchKeysFrom 0 ks)
+  pub keyed : r .settling ≡ length (settlingKeysFrom 0 ks)
   pub words : take (r .countries) words₁ ≡ tagWords ks
   pub initials : take (r .countries) initials₁ ≡ rowKeys (initialWords ks)
-  pub switches : take (r .switches) switches₁ ≡ switchKeys ks
+  pub switches : take (r .settling) switches₁ ≡ settlingKeys ks
 
 -- The switches have room in their keys, and in two slices.
 pub record FewSwitches (ks : List Country) (runs₀ targets₀ : List ℕ) : Type 0 where
@@ -135,7 +135,7 @@ beginningTold xs (Beginning.the-variants.Refused n) = (0 < n) × (n ≡ refusal 
 pub record TableRoom (words₀ initials₀ switches₀ keys₀ cells₀ slots₀ started₀ turns₀ firsts₀ : List ℕ) : Type 0 where
   pub words : mostCountries ≤ length words₀
   pub initials : mostCountries ≤ length initials₀
-  pub switches : mostSwitches ≤ length switches₀
+  pub switches : mostSettling ≤ length switches₀
   pub keys : mostChanges ≤ length keys₀
   pub cells : mostChanges ≤ length cells₀
   pub slots : mostSlots ≤ length slots₀
@@ -148,7 +148,7 @@ abbrev pub roomOf : ℕ → ℕ → ℕ → ℕ → ℕ → ℕ → ℕ → ℕ 
 roomOf words initials switches keys cells slots started turns firsts =
     leb mostCountries words
     && leb mostCountries initials
-    && leb mostSwitches switches
+    && leb mostSettling switches
     && leb mostChanges keys
     && leb mostChanges cells
     && leb mostSlots slots

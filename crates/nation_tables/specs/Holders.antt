@@ -17,27 +17,22 @@ use Rattle.rules.specs.Changes.{changesOf}
 use Rattle.rules.specs.Nations.{matches, startHolders, allSwitches, settles, holdersOf}
 use Rattle.owner_changes.specs.ChangeSteps.{entered, mostChanges, perId, changeKeysFrom}
 use Rattle.nation_tables.specs.Layout.{mostSlots, wordSpan, half, cellRows, nobodyCell}
-use Rattle.nation_tables.specs.Countries.{tagWords, initialWords, rowKeys, switchKeys, Keyed}
+use Rattle.nation_tables.specs.Countries.{tagWords, initialWords, rowKeys, settlingKeys, Keyed, OwnLast}
 use Rattle.nation_tables.specs.Turning.{highHalves, lowHalves, keyDate, rowAmong, RowTurn, rowTurnsOf, Rowed}
 
 -- ## Tables
 
--- The words of the countries' tags, and the keys of switches.
-pub record Switching (ks : List Country) (ws ss : List ℕ) : Type 0 where
+-- The words of the countries' tags, and the keys that changes settle by.
+pub record Settler (ks : List Country) (ws ss : List ℕ) : Type 0 where
   pub keyed : Keyed ks
+  pub own : OwnLast ks
   pub once : twice (tagWords ks) ≡ false
   pub words : ws ≡ tagWords ks
-  pub switches : ss ≡ switchKeys ks
-
--- And the keys of tags at the front of their cells: by these a change settles.
-pub record Settler (ks : List Country) (ws ts ss : List ℕ) : Type 0 where
-  pub switching : Switching ks ws ss
-  pub room : length ws ≤ length ts
-  pub tags : take (length ws) ts ≡ rowKeys (tagWords ks)
+  pub keys : ss ≡ settlingKeys ks
 
 -- And the keys of initials.
 pub record Tables (ks : List Country) (ws is ss : List ℕ) : Type 0 where
-  pub switching : Switching ks ws ss
+  pub settler : Settler ks ws ss
   pub initials : is ≡ rowKeys (initialWords ks)
 
 -- ## Rows of slots

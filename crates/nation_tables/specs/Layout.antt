@@ -15,6 +15,10 @@ mostSwitches = 20000
 abbrev pub mostSlots : ℕ
 mostSlots = 8001
 
+-- Changes settle by a key of each switch and one of each country.
+abbrev pub mostSettling : ℕ
+mostSettling = 22000
+
 -- ## Keys
 
 -- Rows, words of dates, numbers of switches and words of tags are below these.
@@ -29,6 +33,10 @@ keyNumbers = 32768
 
 abbrev pub keyTags : ℕ
 keyTags = 16777216
+
+-- Behind every date, with room in a key.
+abbrev pub lastDate : ℕ
+lastDate = 134217727
 
 -- Any word of 32 bits is below this, and the key of any word with a row is below the second.
 abbrev pub wordSpan : ℕ

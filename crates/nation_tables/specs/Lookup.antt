@@ -6,7 +6,7 @@ use mathlib.Core.List.{List, map}
 use Prim.Native.Nat.{ℕ, _≤_}
 use lib.Dec.{leb, ltb}
 use lib.ListN.{length, take}
-use Rattle.lists.specs.Lists.{countOf, keep, firstOr, lastOr}
+use Rattle.lists.specs.Lists.{keep, firstOr, lastOr}
 use Rattle.sorting.specs.Sort.{sortBy}
 pub use Rattle.nation_tables.specs.Keys.{rowIn}
 pub use Rattle.nation_tables.specs.Layout.{noRow}
@@ -30,8 +30,3 @@ lastWithin low high keys = lastOr noRow (rowsWithin low high keys)
 pub record FirstSorted (n : ℕ) (keys : List ℕ) : Type 0 where
   pub inside : n ≤ length keys
   pub sorted : sortBy leb (take n keys) ≡ take n keys
-
--- A place among keys, or behind them: of keys that are in order, behind those below x.
-pub record Bound (keys : List ℕ) (x r : ℕ) : Type 0 where
-  pub inside : r ≤ length keys
-  pub counted : sortBy leb keys ≡ keys → r ≡ countOf (λ k. ltb k x) keys

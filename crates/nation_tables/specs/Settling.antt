@@ -13,7 +13,7 @@ use Rattle.rules.specs.Chronicle.{Change}
 use Rattle.rules.specs.Nations.{allSwitches, settles}
 use Rattle.nation_tables.specs.Layout.{keyDates, noRow}
 use Rattle.nation_tables.specs.Lookup.{firstWithin}
-use Rattle.nation_tables.specs.Countries.{tagAtRow, tagWords, rowOf, settlingKey, rowKeys, switchKeys, Keyed}
+use Rattle.nation_tables.specs.Countries.{tagAtRow, tagWords, rowOf, settlingKey, switchKeys, settlingKeys, Keyed, OwnLast}
 
 -- The tag that is there, else the given one.
 abbrev pub orTag : CountryTag → Option CountryTag → CountryTag
@@ -35,10 +35,10 @@ pub record RowSettled (keys : List ℕ) (to : CountryTag) (date : Eu4Date) (row 
   pub settled : (ks : List Country) (x : Change) → Keyed ks → keys ≡ switchKeys ks → x .to ≡ to → x .date ≡ date → date .0 < keyDates
       → Settled ks x row
 
--- The row of the country that holds the slot after a change, by the keys of the tags and of the switches; the holder is the country in that
--- row, or where there is none the change's `to`.
-pub record RowHolds (tags switches : List ℕ) (to : CountryTag) (date : Eu4Date) (row : ℕ) : Type 0 where
-  pub holds : (ks : List Country) (x : Change) → Keyed ks → twice (tagWords ks) ≡ false → tags ≡ rowKeys (tagWords ks) → switches ≡ switchKeys ks
+-- The row of the country that holds the slot after a change, by the keys that changes settle by; the holder is the country in that row, or
+-- where there is none the change's `to`.
+pub record RowHolds (keys : List ℕ) (to : CountryTag) (date : Eu4Date) (row : ℕ) : Type 0 where
+  pub holds : (ks : List Country) (x : Change) → Keyed ks → OwnLast ks → twice (tagWords ks) ≡ false → keys ≡ settlingKeys ks
       → x .to ≡ to → x .date ≡ date → date .0 < keyDates → row ≡ rowOf ks (settles (allSwitches ks) x)
-  pub holder : (ks : List Country) (x : Change) → Keyed ks → twice (tagWords ks) ≡ false → tags ≡ rowKeys (tagWords ks) → switches ≡ switchKeys ks
+  pub holder : (ks : List Country) (x : Change) → Keyed ks → OwnLast ks → twice (tagWords ks) ≡ false → keys ≡ settlingKeys ks
       → x .to ≡ to → x .date ≡ date → date .0 < keyDates → settles (allSwitches ks) x ≡ orTag (x .to) (tagAtRow ks row)

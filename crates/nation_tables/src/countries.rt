@@ -2,9 +2,7 @@
 use crate::keys::row_key;
 use crate::layout::KEY_ROWS;
 use crate::lookup;
-use crate::switches::SwitchOrder;
 use crate::switches::first_tag;
-use crate::switches::sorted_keys;
 use record::Countries;
 use record::CountryRow;
 use record::CountryTag;
@@ -16,8 +14,8 @@ ghost use Rattle.record.specs.Cursors.{countryOf, countriesLeft};
 ghost use Rattle.rules.specs.Lent.{written};
 ghost use Rattle.rules.specs.Nations.{initialOf};
 ghost use Rattle.nation_tables.specs.Layout.{keyRows};
-ghost use Rattle.nation_tables.specs.Countries.{Keyed, Tabled, Filled};
-ghost use Rattle.nation_tables.specs.Countries.{rowKeys, switchKeys, switchKeysFrom, RowFound, RowMapped};
+ghost use Rattle.nation_tables.specs.Countries.{Tabled};
+ghost use Rattle.nation_tables.specs.Countries.{rowKeys, RowMapped};
 ghost use Rattle.nation_tables.specs.Lookup.{FirstSorted};
 
 // A country's initial: its first switch's from, else its first previous tag, else its tag.
@@ -65,28 +63,6 @@ pub(crate) fn row_keys(words: &[u32], n: usize, keys: &mut [u64], scratch: &mut 
         i += 1;
     }
     sorting::sort_keys(&mut keys[0..n], scratch);
-}
-
-// The keys of all switches by the tags that were left, in order, and how many there are. The scratch is to have room for as many.
-pub(crate) fn switch_keys(
-    s: &[u8],
-    countries: Countries,
-    keys: &mut [u64],
-    scratch: &mut [u64],
-) -> usize
-    requires { ⌜ Keyed (countriesLeft (now s) countries) × (length (switchKeysFrom 0 (countriesLeft (now s) countries)) ≤ length (now keys)) ⌝ }
-    ensures { λ r. ⌜ Filled (switchKeys (countriesLeft (now (s .entry)) countries)) r (now (keys .entry)) (now (keys .exit)) ⌝ }
-{
-    sorted_keys(s, countries, SwitchOrder::ByFrom, keys, scratch)
-}
-
-// The row of the country with a tag, by the keys of n tags, or NO_ROW.
-pub(crate) fn row_of(keys: &[u64], n: usize, tag: CountryTag) -> u16
-    requires { ⌜ FirstSorted n (now keys) ⌝ }
-    ensures { λ r. ⌜ RowFound (take n (now (keys .entry))) tag r ⌝ }
-{
-    let low = tag.word() as u64 * KEY_ROWS;
-    lookup::first_within(keys, n, low, low + KEY_ROWS)
 }
 
 // The last row of a country with an initial, by the keys of n initials, or NO_ROW: the country that the initial maps to.

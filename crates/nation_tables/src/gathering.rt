@@ -3,8 +3,8 @@ use crate::chains;
 use crate::countries;
 use crate::holders;
 use crate::layout::MOST_COUNTRIES;
+use crate::layout::MOST_SETTLING;
 use crate::layout::MOST_SLOTS;
-use crate::layout::MOST_SWITCHES;
 use crate::layout::NO_FIRSTS;
 use crate::switches;
 use owner_changes::MOST_CHANGES;
@@ -13,39 +13,40 @@ use record::Eu4Date;
 use record::Opened;
 use record::Provinces;
 ghost use mathlib.Core.Path.{_≡_};
+ghost use mathlib.Core.List.{map};
 ghost use Prim.Native.Nat.{_≤_};
 ghost use lib.ListN.{length};
 ghost use Rattle.record.specs.Cursors.{countriesLeft};
 ghost use Rattle.nation_tables.specs.Layout.{noChange};
-ghost use Rattle.nation_tables.specs.Countries.{Keyed};
+ghost use Rattle.nation_tables.specs.Countries.{Keyed, withOwn};
 ghost use Rattle.nation_tables.specs.Gathering.{TablesRoom, TablesFilled, FewSwitches, Arranged, Begun, beginningTold, TableRoom, roomOf, Gathered, gatheredTold};
 
-// How many countries and switches there are.
+// How many countries there are, and keys that changes settle by: of each switch and of each country.
 pub(crate) struct Sizes {
     pub countries: usize,
-    pub switches: usize,
+    pub settling: usize,
 }
 
-// Writes the words of tags, and the keys of initials and of switches, each in order.
+// Writes the words of tags, and the keys of initials and those that changes settle by, each in order.
 pub(crate) fn fill_tables(
     s: &[u8],
     all: Countries,
     tag_words: &mut [u32],
     initial_keys: &mut [u64],
-    switch_keys: &mut [u64],
+    settling_keys: &mut [u64],
     scratch: &mut [u64],
 ) -> Sizes
-    requires { ⌜ Keyed (countriesLeft (now s) all) ⌝ }
-    requires { ⌜ TablesRoom (countriesLeft (now s) all) (now «tag_words») (now «initial_keys») (now «switch_keys») ⌝ }
-    ensures { λ r. ⌜ TablesFilled (countriesLeft (now (s .entry)) all) r (now («tag_words» .exit)) (now («initial_keys» .exit)) (now («switch_keys» .exit)) ⌝ }
+    requires { ⌜ Keyed (map withOwn (countriesLeft (now s) all)) ⌝ }
+    requires { ⌜ TablesRoom (countriesLeft (now s) all) (now «tag_words») (now «initial_keys») (now «settling_keys») ⌝ }
+    ensures { λ r. ⌜ TablesFilled (countriesLeft (now (s .entry)) all) r (now («tag_words» .exit)) (now («initial_keys» .exit)) (now («settling_keys» .exit)) ⌝ }
 {
     let mut initial_words = [0u32; MOST_COUNTRIES];
     let c = countries::country_words(s, all, tag_words, &mut initial_words);
     countries::row_keys(&initial_words, c, initial_keys, scratch);
-    let m = countries::switch_keys(s, all, switch_keys, scratch);
+    let m = switches::settling_keys(s, all, settling_keys, scratch);
     Sizes {
         countries: c,
-        switches: m,
+        settling: m,
     }
 }
 
@@ -132,7 +133,7 @@ fn has_cells(
 {
     (MOST_COUNTRIES <= words)
         & (MOST_COUNTRIES <= initials)
-        & (MOST_SWITCHES <= switches)
+        & (MOST_SETTLING <= switches)
         & (MOST_CHANGES <= keys)
         & (MOST_CHANGES <= cells)
         & (MOST_SLOTS <= slots)
@@ -141,7 +142,7 @@ fn has_cells(
         & (MOST_COUNTRIES <= firsts)
 }
 
-// Fills all tables of an accepted record. The keys of switches, by the tag that was left, become those by country.
+// Fills all tables of an accepted record. Where the keys stood that changes settle by, those of switches by country stand in the end.
 fn fill_all(
     s: &[u8],
     from: Origin,
@@ -165,7 +166,7 @@ fn fill_all(
     let p = provinces.len(s) + 1;
     let sizes = fill_tables(s, all, tag_words, initial_keys, switch_keys, cells);
     let c = sizes.countries;
-    let m = sizes.switches;
+    let m = sizes.settling;
     let n = holders::hold_slots(
         s,
         provinces,
@@ -179,10 +180,11 @@ fn fill_all(
         turns,
     );
     arrange(s, all, &mut turns[0..n], firsts, switch_keys, cells);
+    let switches = m - c;
     TableSizes {
         start,
         countries: c,
-        switches: m,
+        switches,
         slots: p,
         changes: n,
     }

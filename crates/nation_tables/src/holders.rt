@@ -1,11 +1,10 @@
 // Who holds each slot, change by change, by the rows of countries.
-use crate::countries;
 use crate::layout::CELL_ROWS;
-use crate::layout::MOST_COUNTRIES;
 use crate::layout::MOST_SLOTS;
 use crate::layout::NOBODY;
 use crate::layout::WORD_SPAN;
 use crate::settling;
+use crate::settling::STARTS;
 use crate::starting;
 use owner_changes::NextChange;
 use owner_changes::PER_ID;
@@ -19,10 +18,10 @@ ghost use Prim.Native.Nat.{suc, _+_, _*_, _≤_};
 ghost use lib.ListN.{length, getD, take};
 ghost use Rattle.format.specs.Campaign.{campaignOf};
 ghost use Rattle.owner_changes.specs.ChangeSteps.{entered, mostChanges, AtFirstProvince};
-ghost use Rattle.nation_tables.specs.Layout.{mostCountries, half, cellRows};
+ghost use Rattle.nation_tables.specs.Layout.{half, cellRows};
 ghost use Rattle.nation_tables.specs.Countries.{tagWords, initialWords, rowKeys};
 ghost use Rattle.nation_tables.specs.Turning.{lowHalves};
-ghost use Rattle.nation_tables.specs.Holders.{Switching, Settler, Tables, rowCell, slotCounts, holderCell};
+ghost use Rattle.nation_tables.specs.Holders.{Settler, Tables, rowCell, slotCounts, holderCell};
 ghost use Rattle.nation_tables.specs.Holders.{Replaced, Passed, Began, Stepped, HoldingRoom, Held, cellWord, SlotsRoom, SlotsPut};
 ghost use Rattle.rules.specs.Lent.{written};
 
@@ -88,13 +87,13 @@ fn fill_holders(
     s: &[u8],
     provinces: Provinces,
     tag_words: &[u32],
-    tag_keys: &[u64],
-    switch_keys: &[u64],
+    settling_keys: &[u64],
+    starts: &[u16],
     cells: &mut [u64],
 )
     requires { ⌜ AtFirstProvince (now s) provinces ⌝ }
     requires { ⌜ length (entered (now s)) ≡ length (now cells) ⌝ }
-    requires { ⌜ Settler (campaignOf (now s) .countries) (now «tag_words») (now «tag_keys») (now «switch_keys») ⌝ }
+    requires { ⌜ Settler (campaignOf (now s) .countries) (now «tag_words») (now «settling_keys») ⌝ }
     ensures { λ _. ⌜ now (cells .exit) ≡ map (holderCell (campaignOf (now (s .entry)) .countries)) (entered (now (s .entry))) ⌝ }
 {
     let mut at = provinces.next(s);
@@ -103,14 +102,7 @@ fn fill_holders(
         match owner_changes::next_change(s, at) {
             NextChange::Row(x, rest) => {
                 let to = x.to;
-                let row = settling::holder_row(
-                    tag_keys,
-                    tag_words.len(),
-                    switch_keys,
-                    switch_keys.len(),
-                    to,
-                    x.date,
-                );
+                let row = settling::holder_row(settling_keys, starts, to, x.date);
                 cells[n] = cell_of(tag_words, row, to);
                 n += 1;
                 at = rest;
@@ -122,28 +114,29 @@ fn fill_holders(
     }
 }
 
-// Writes the cell of each of n changes. Until then the cells serve the sort of the tags' keys as scratch.
+// Writes the cell of each of n changes.
 fn settle_changes(
     s: &[u8],
     provinces: Provinces,
     tag_words: &[u32],
-    switch_keys: &[u64],
+    settling_keys: &[u64],
     cells: &mut [u64],
     n: usize,
 )
     requires { ⌜ AtFirstProvince (now s) provinces ⌝ }
-    requires { ⌜ (n ≡ length (entered (now s))) × (n ≤ length (now cells)) × (length (now «tag_words») ≤ mostCountries) ⌝ }
-    requires { ⌜ Switching (campaignOf (now s) .countries) (now «tag_words») (now «switch_keys») ⌝ }
+    requires { ⌜ (n ≡ length (entered (now s))) × (n ≤ length (now cells)) ⌝ }
+    requires { ⌜ Settler (campaignOf (now s) .countries) (now «tag_words») (now «settling_keys») ⌝ }
     ensures { λ _. ⌜ take n (now (cells .exit)) ≡ map (holderCell (campaignOf (now (s .entry)) .countries)) (entered (now (s .entry))) ⌝ }
 {
-    let mut tag_keys = [0u64; MOST_COUNTRIES];
-    countries::row_keys(tag_words, tag_words.len(), &mut tag_keys, cells);
+    let mut starts = [0u16; STARTS];
+    settling::note_ends(settling_keys, &mut starts);
+    settling::raise_starts(&mut starts);
     fill_holders(
         s,
         provinces,
         tag_words,
-        &tag_keys,
-        switch_keys,
+        settling_keys,
+        &starts,
         &mut cells[0..n],
     );
 }
@@ -210,18 +203,18 @@ fn sort_steps(
     s: &[u8],
     provinces: Provinces,
     tag_words: &[u32],
-    switch_keys: &[u64],
+    settling_keys: &[u64],
     keys: &mut [u64],
     cells: &mut [u64],
 ) -> usize
     requires { ⌜ AtFirstProvince (now s) provinces ⌝ }
-    requires { ⌜ Switching (campaignOf (now s) .countries) (now «tag_words») (now «switch_keys») ⌝ }
+    requires { ⌜ Settler (campaignOf (now s) .countries) (now «tag_words») (now «settling_keys») ⌝ }
     requires { ⌜ (mostChanges ≤ length (now keys)) × (mostChanges ≤ length (now cells)) ⌝ }
     ensures { λ r. ⌜ Stepped (now (s .entry)) r (now (keys .exit)) (now (cells .exit)) ⌝ }
 {
     let n = owner_changes::fill_keys(s, provinces, keys);
     sort_keys(&mut keys[0..n], cells);
-    settle_changes(s, provinces, tag_words, switch_keys, cells, n);
+    settle_changes(s, provinces, tag_words, settling_keys, cells, n);
     n
 }
 
@@ -232,7 +225,7 @@ pub(crate) fn hold_slots(
     provinces: Provinces,
     tag_words: &[u32],
     initial_keys: &[u64],
-    switch_keys: &[u64],
+    settling_keys: &[u64],
     keys: &mut [u64],
     cells: &mut [u64],
     slots: &mut [u64],
@@ -240,12 +233,12 @@ pub(crate) fn hold_slots(
     turns: &mut [u32],
 ) -> usize
     requires { ⌜ AtFirstProvince (now s) provinces ⌝ }
-    requires { ⌜ Tables (campaignOf (now s) .countries) (now «tag_words») (now «initial_keys») (now «switch_keys») ⌝ }
+    requires { ⌜ Tables (campaignOf (now s) .countries) (now «tag_words») (now «initial_keys») (now «settling_keys») ⌝ }
     requires { ⌜ HoldingRoom (campaignOf (now s)) (now keys) (now cells) (now slots) (now started) (now turns) ⌝ }
     ensures { λ r. ⌜ Held (now (s .entry)) r (now (keys .exit)) (now (slots .exit)) (now (started .exit)) (now (turns .exit)) ⌝ }
 {
     start_slots(s, provinces, tag_words, initial_keys, slots, started);
-    let n = sort_steps(s, provinces, tag_words, switch_keys, keys, cells);
+    let n = sort_steps(s, provinces, tag_words, settling_keys, keys, cells);
     pass(&keys[0..n], &cells[0..n], slots, &mut turns[0..n]);
     n
 }

@@ -8,12 +8,18 @@ pub const MOST_SWITCHES: usize = 20000;
 
 pub const MOST_SLOTS: usize = 8001;
 
+// Changes settle by a key of each switch and one of each country.
+pub const MOST_SETTLING: usize = MOST_SWITCHES + MOST_COUNTRIES;
+
 // Rows of countries, words of dates and numbers of switches are below these.
 pub const KEY_ROWS: u64 = 2048;
 
 pub const KEY_DATES: u64 = 134217728;
 
 pub const KEY_NUMBERS: u64 = 32768;
+
+// Behind every date: no date that is good is as large, and it has room in a key.
+pub(crate) const LAST_DATE: u32 = 134217727;
 
 // What a word of 32 bits has room in.
 pub const WORD_SPAN: u64 = 4294967296;

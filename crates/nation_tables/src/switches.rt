@@ -1,7 +1,9 @@
 // The keys of all switches, by either order, and the targets of the switches.
 use crate::keys;
+use crate::layout::LAST_DATE;
 use record::Countries;
 use record::CountryTag;
+use record::Eu4Date;
 use record::NextCountry;
 use record::NextPreviousTag;
 use record::NextSwitch;
@@ -11,16 +13,14 @@ use record::Switches;
 ghost use mathlib.Core.Path.{_≡_};
 ghost use mathlib.Core.List.{map};
 ghost use Prim.Native.Nat.{_+_, _≤_, _<_};
-ghost use lib.Dec.{leb};
 ghost use lib.ListN.{length, drop, getD};
 ghost use Rattle.lists.specs.Lists.{All};
-ghost use Rattle.sorting.specs.Sort.{sortBy};
 ghost use Rattle.record.specs.Cursors.{countriesLeft, switchesLeft, previousLeft};
 ghost use Rattle.rules.specs.Lent.{written};
 ghost use Rattle.rules.specs.Nations.{initialFrom};
 ghost use Rattle.nation_tables.specs.Layout.{keyRows, keyNumbers};
-ghost use Rattle.nation_tables.specs.Countries.{Filled, FilledFrom};
-ghost use Rattle.nation_tables.specs.Switches.{placed, ownPlaced, allPlaced, keyBy, KeyFits};
+ghost use Rattle.nation_tables.specs.Countries.{Keyed, withOwn, settlingKeysFrom, settlingKeys, Filled, FilledFrom};
+ghost use Rattle.nation_tables.specs.Switches.{placed, ownPlaced, keyBy, KeyFits};
 ghost use Rattle.nation_tables.specs.Switches.{runsFrom, runKeys, chainWords, targetWords};
 
 // What the keys of switches are in order by: the tag that was left and the date, or the row of the country and the date.
@@ -66,11 +66,11 @@ fn own_keys(
     }
 }
 
-// Writes the keys of all switches in the order of the rows, and returns how many there are.
-fn all_keys(s: &[u8], countries: Countries, order: SwitchOrder, cells: &mut [u64]) -> usize
-    requires { ⌜ (length (countriesLeft (now s) countries) ≤ keyRows) × (length (allPlaced 0 0 (countriesLeft (now s) countries)) ≤ length (now cells)) ⌝ }
-    requires { ⌜ All (KeyFits order) (allPlaced 0 0 (countriesLeft (now s) countries)) ⌝ }
-    ensures { λ r. ⌜ Filled (map (keyBy order) (allPlaced 0 0 (countriesLeft (now (s .entry)) countries))) r (now (cells .entry)) (now (cells .exit)) ⌝ }
+// Writes the keys that changes settle by, in the order of the rows, and returns how many there are: those of a country's switches by the tag
+// that was left, and behind them one from its own tag, dated behind every date.
+fn all_settling_keys(s: &[u8], countries: Countries, cells: &mut [u64]) -> usize
+    requires { ⌜ Keyed (map withOwn (countriesLeft (now s) countries)) × (length (settlingKeysFrom 0 (countriesLeft (now s) countries)) ≤ length (now cells)) ⌝ }
+    ensures { λ r. ⌜ Filled (settlingKeysFrom 0 (countriesLeft (now (s .entry)) countries)) r (now (cells .entry)) (now (cells .exit)) ⌝ }
 {
     let mut left = countries;
     let mut row = 0;
@@ -79,7 +79,9 @@ fn all_keys(s: &[u8], countries: Countries, order: SwitchOrder, cells: &mut [u64
         match left.next(s) {
             NextCountry::Row(country, rest) => {
                 let switches = country.switches;
-                k = own_keys(s, switches, row, order, cells, k);
+                k = own_keys(s, switches, row, SwitchOrder::ByFrom, cells, k);
+                cells[k] = keys::settling_key(country.tag, Eu4Date::kept(LAST_DATE), row);
+                k += 1;
                 row += 1;
                 left = rest;
             }
@@ -88,24 +90,44 @@ fn all_keys(s: &[u8], countries: Countries, order: SwitchOrder, cells: &mut [u64
     }
 }
 
-// Writes the keys of all switches, in order, and returns how many there are. The scratch is to have room for as many.
-pub(crate) fn sorted_keys(
+// Writes the keys that changes settle by, in order, and returns how many there are. The scratch is to have room for as many.
+pub(crate) fn settling_keys(
     s: &[u8],
     countries: Countries,
-    order: SwitchOrder,
     cells: &mut [u64],
     scratch: &mut [u64],
 ) -> usize
-    requires { ⌜ (length (countriesLeft (now s) countries) ≤ keyRows) × (length (allPlaced 0 0 (countriesLeft (now s) countries)) ≤ length (now cells)) ⌝ }
-    requires { ⌜ All (KeyFits order) (allPlaced 0 0 (countriesLeft (now s) countries)) ⌝ }
-    ensures { λ r. ⌜ Filled (sortBy leb (map (keyBy order) (allPlaced 0 0 (countriesLeft (now (s .entry)) countries)))) r (now (cells .entry)) (now (cells .exit)) ⌝ }
+    requires { ⌜ Keyed (map withOwn (countriesLeft (now s) countries)) × (length (settlingKeysFrom 0 (countriesLeft (now s) countries)) ≤ length (now cells)) ⌝ }
+    ensures { λ r. ⌜ Filled (settlingKeys (countriesLeft (now (s .entry)) countries)) r (now (cells .entry)) (now (cells .exit)) ⌝ }
 {
-    let n = all_keys(s, countries, order, cells);
+    let n = all_settling_keys(s, countries, cells);
     sorting::sort_keys(&mut cells[0..n], scratch);
     n
 }
 
-// The keys of all switches by the rows of their countries, in order, and how many there are.
+// Writes the keys of all switches by the rows of their countries, in the order of the rows, and returns how many there are.
+fn all_run_keys(s: &[u8], countries: Countries, cells: &mut [u64]) -> usize
+    requires { ⌜ (length (countriesLeft (now s) countries) ≤ keyRows) × (length (runsFrom 0 0 (countriesLeft (now s) countries)) ≤ keyNumbers) ⌝ }
+    requires { ⌜ length (runsFrom 0 0 (countriesLeft (now s) countries)) ≤ length (now cells) ⌝ }
+    ensures { λ r. ⌜ Filled (runsFrom 0 0 (countriesLeft (now (s .entry)) countries)) r (now (cells .entry)) (now (cells .exit)) ⌝ }
+{
+    let mut left = countries;
+    let mut row = 0;
+    let mut k = 0;
+    loop {
+        match left.next(s) {
+            NextCountry::Row(country, rest) => {
+                let switches = country.switches;
+                k = own_keys(s, switches, row, SwitchOrder::ByRow, cells, k);
+                row += 1;
+                left = rest;
+            }
+            NextCountry::End => return k,
+        }
+    }
+}
+
+// The keys of all switches by the rows of their countries, in order, and how many there are. The scratch is to have room for as many.
 pub(crate) fn run_keys(
     s: &[u8],
     countries: Countries,
@@ -116,7 +138,9 @@ pub(crate) fn run_keys(
     requires { ⌜ length (runsFrom 0 0 (countriesLeft (now s) countries)) ≤ length (now keys) ⌝ }
     ensures { λ r. ⌜ Filled (runKeys (countriesLeft (now (s .entry)) countries)) r (now (keys .entry)) (now (keys .exit)) ⌝ }
 {
-    sorted_keys(s, countries, SwitchOrder::ByRow, keys, scratch)
+    let n = all_run_keys(s, countries, keys);
+    sorting::sort_keys(&mut keys[0..n], scratch);
+    n
 }
 
 // The previous tags behind the first one.

@@ -43,7 +43,7 @@ fn run_start(runs: &[u64], row: usize) -> usize
     requires { ⌜ (sortBy leb (now runs) ≡ now runs) × (row ≤ keyRows) ⌝ }
     ensures { λ r. ⌜ r ≡ runStart row (now (runs .entry)) ⌝ }
 {
-    nation_tables::lower_bound(runs, row as u64 * ROW_SPAN)
+    search::count_below(runs, row as u64 * ROW_SPAN)
 }
 
 // Counts the nation of key i of the initials, if it is listed, and its entries.

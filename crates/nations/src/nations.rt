@@ -2,8 +2,8 @@
 use crate::writing;
 use crate::writing::Placed;
 use nation_tables::MOST_COUNTRIES;
+use nation_tables::MOST_SETTLING;
 use nation_tables::MOST_SLOTS;
-use nation_tables::MOST_SWITCHES;
 use nation_tables::TablesGathered;
 use owner_changes::MOST_CHANGES;
 ghost use mathlib.Core.Path.{_≡_};
@@ -39,7 +39,7 @@ pub fn nation_events(
 {
     let mut tag_words = [0u32; MOST_COUNTRIES];
     let mut initial_keys = [0u64; MOST_COUNTRIES];
-    let mut runs = [0u64; MOST_SWITCHES];
+    let mut runs = [0u64; MOST_SETTLING];
     let mut keys = [0u64; MOST_CHANGES];
     let mut cells = [0u64; MOST_CHANGES];
     let mut slots = [0u64; MOST_SLOTS];

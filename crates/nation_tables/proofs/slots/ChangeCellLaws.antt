@@ -7,35 +7,33 @@ use Prim.Native.Nat.{ℕ, zero, suc, _+_, _*_, _/_, _%_, _≤_, _<_}
 use native.Mathlib.Omega.{arith}
 use borrow.Author.Tests.{ltb-true, ltb-false, eqb-true, eqb-false}
 use lib.Dec.{leb, ltb, eqb}
-use lib.ListN.{length, getD, take, drop, length-append}
-use lib.Seq.{take-at, take-length, drop-drop, getD-drop}
+use lib.ListN.{length, getD, take, drop}
+use lib.Seq.{take-length, drop-drop, getD-drop}
 use Rattle.lists.specs.Lists.{All, twice, firstOr}
 use Rattle.lists.proofs.BoolLaws.{cases}
 use Rattle.lists.proofs.ElementLaws.{at-inside, at-end, map-same, same-each}
 use Rattle.lists.proofs.ListLaws.{all-map, all-join, map-then}
 use Rattle.sorting.specs.Sort.{sortBy}
 use Rattle.sorting.proofs.SortedKeyLaws.{sort-again}
-use Rattle.sorting.proofs.SortLaws.{all-sort, length-sort}
+use Rattle.sorting.proofs.SortLaws.{all-sort}
 use Rattle.format.specs.declared.tag.CountryTag.{CountryTag}
 use Rattle.format.specs.Campaign.{Country, campaignOf}
 use Rattle.format.specs.Refusal.{refusal}
 use Rattle.format.proofs.BoundLaws.{small-provinces}
 use Rattle.rules.specs.Chronicle.{Change}
 use Rattle.rules.specs.Changes.{provinceChanges, byDateAndId}
-use Rattle.rules.specs.Lent.{written}
 use Rattle.rules.specs.Nations.{allSwitches, settles, moveOf}
 use Rattle.rules.specs.NationRows.{holderWord}
 use Rattle.owner_changes.specs.ChangeSteps.{entered, changeKey, changeKeysFrom, tagsOf, changeAt, perId, perDate}
 use Rattle.nation_tables.specs.Layout.{keyRows, keyDates, keyTags, cellRows}
 use Rattle.nation_tables.specs.Lookup.{noRow, FirstSorted}
-use Rattle.nation_tables.specs.Countries.{tagAtRow, tagWords, placesOf, wordKeys, rowOf, rowKeys, Keyed}
+use Rattle.nation_tables.specs.Countries.{tagAtRow, tagWords, placesOf, rowOf, Keyed}
 use Rattle.nation_tables.specs.Settling.{orTag, settledRow, RowHolds}
 use Rattle.nation_tables.specs.Turning.{firstAt, holderRow}
-use Rattle.nation_tables.specs.Holders.{Switching, Settler, slotCell, holderCell, Step, stepAt, stepsOf}
+use Rattle.nation_tables.specs.Holders.{Settler, slotCell, holderCell, Step, stepAt, stepsOf}
 use Rattle.rules.proofs.CampaignLaws.{all-changes}
 use Rattle.owner_changes.proofs.ChangeLaws.{Narrow}
 use Rattle.owner_changes.proofs.ChangeKeyLaws.{changes-back, keys-sorted}
-use Rattle.nation_tables.proofs.tables.CountryLaws.{length-word-keys}
 use Rattle.nation_tables.proofs.tables.MappedLaws.{row-single}
 use Rattle.nation_tables.proofs.tables.SettlingLaws.{settled-row}
 use Rattle.nation_tables.proofs.slots.TurningLaws.{stepOf}
@@ -106,47 +104,28 @@ tag-at-small bound (k ∷ ks) (suc row) t q h = tag-at-small bound ks row t (q .
 abbrev pub Short : List Country → Type 0
 Short ks = All (λ k. k .tag .0 < keyTags) ks
 
--- The keys of a table, all of them, are in order.
-pub all-sorted : (xs keys : List ℕ) → keys ≡ sortBy leb xs → FirstSorted (length keys) keys
-all-sorted xs keys e =
+-- The keys of a table are in order.
+pub all-sorted : (xs keys : List ℕ) → keys ≡ sortBy leb xs → sortBy leb keys ≡ keys
+all-sorted xs keys e = ap (sortBy leb) e ∙ sort-again xs ∙ sym e
+
+pub first-sorted : (xs keys : List ℕ) → keys ≡ sortBy leb xs → FirstSorted (length keys) keys
+first-sorted xs keys e =
     record {
       inside = omega arith;
-      sorted = ap (sortBy leb) (take-length keys) ∙ ap (sortBy leb) e ∙ sort-again xs ∙ sym e ∙ sym (take-length keys);
+      sorted = ap (sortBy leb) (take-length keys) ∙ all-sorted xs keys e ∙ sym (take-length keys);
     }
 
--- The first keys of a table that is filled are in order.
-pub first-sorted : (xs keys : List ℕ) (n : ℕ) → n ≤ length keys → take n keys ≡ sortBy leb xs → FirstSorted n keys
-first-sorted xs keys n h e = record { inside = h; sorted = ap (sortBy leb) e ∙ sort-again xs ∙ sym e }
-
-module _ (ks : List Country) (ws ts ss : List ℕ) (q : Settler ks ws ts ss) (x : Change) (small : Small x) (row : ℕ)
-    (found : RowHolds (take (length ws) ts) (take (length ss) ss) (x .to) (x .date) row) where
+module _ (ks : List Country) (ws ss : List ℕ) (q : Settler ks ws ss) (x : Change) (small : Small x) (row : ℕ)
+    (found : RowHolds ss (x .to) (x .date) row) where
   -- The row that was found and the word that stands there make the cell of the change.
   pub cell-made : (to : ℕ) → to ≡ x .to .0 → getD ws row to * cellRows + row ≡ holderCell ks x
   unfolding holderCell
   cell-made to e =
-      let keyed = q .switching .keyed in
-      let once = q .switching .once in
-      let switches = take-length ss ∙ q .switching .switches in
       let whom : CountryTag = settles (allSwitches ks) x in
-      let r : row ≡ rowOf ks whom = found .holds ks x keyed once (q .tags) switches refl refl (small .date) in
-      let t = found .holder ks x keyed once (q .tags) switches refl refl (small .date) in
-      let w : getD ws row to ≡ whom .0 = rw (q .switching .words, e) (word-at ks row (x .to)) ∙ ap (λ (t : CountryTag). t .0) (sym t) in
+      let r : row ≡ rowOf ks whom = found .holds ks x (q .keyed) (q .own) (q .once) (q .keys) refl refl (small .date) in
+      let t = found .holder ks x (q .keyed) (q .own) (q .once) (q .keys) refl refl (small .date) in
+      let w : getD ws row to ≡ whom .0 = rw (q .words, e) (word-at ks row (x .to)) ∙ ap (λ (t : CountryTag). t .0) (sym t) in
       ap₂ (λ (a b : ℕ). a * cellRows + b) w (r ∙ sym (first-places (whom .0) 0 (tagWords ks)))
-
--- The keys of the tags stand at the front of their cells.
-pub settler-made : (ks : List Country) (ws ss before keys : List ℕ) → Switching ks ws ss → length ws ≤ length before
-    → keys ≡ written (rowKeys (take (length ws) ws)) before → Settler ks ws keys ss
-settler-made ks ws ss before keys q room e =
-    let same : rowKeys (take (length ws) ws) ≡ rowKeys (tagWords ks) = ap rowKeys (take-length ws ∙ q .words) in
-    let long : length (rowKeys (take (length ws) ws)) ≡ length ws =
-    ap length same ∙ length-sort leb (wordKeys 0 (tagWords ks)) ∙ length-word-keys 0 (tagWords ks) ∙ ap length (sym (q .words)) in
-    record {
-      switching = q;
-      room =
-          let a = length-append (rowKeys (take (length ws) ws)) (drop (length (rowKeys (take (length ws) ws))) before) in
-          omega (arith, ap length e);
-      tags = ap (take (length ws)) e ∙ take-at (rowKeys (take (length ws) ws)) _ (length ws) long ∙ same;
-    }
 
 module _ (ks : List Country) where
   -- So is the tag that a change settles to.

@@ -1,6 +1,6 @@
 -- The tables of an accepted record are filled within their cells, one after the other, and together they are the cells of its campaign.
 use mathlib.Core.Path.{_≡_, refl, sym, ap, subst, _∙_}
-use mathlib.Core.List.{List, _++_}
+use mathlib.Core.List.{List, _++_, map}
 use Prim.Native.Nat.{ℕ, suc, _+_, _-_, _/_, _%_, _≤_}
 use native.Mathlib.Nat.{sub-zero}
 use native.Mathlib.Omega.{arith}
@@ -17,13 +17,15 @@ use Rattle.owner_changes.specs.ChangeSteps.{mostChanges, AtFirstProvince}
 use Rattle.owner_changes.proofs.ChangeLaws.{changes-few}
 use Rattle.nation_tables.specs.declared.gathering.Origin.{Origin}
 use Rattle.nation_tables.specs.declared.gathering.Sizes.{Sizes}
-use Rattle.nation_tables.specs.Layout.{mostCountries, mostSwitches, mostSlots, half, noChange}
-use Rattle.nation_tables.specs.Countries.{tagWords, switchKeysFrom, Keyed}
+use Rattle.nation_tables.specs.Layout.{mostCountries, mostSwitches, mostSettling, mostSlots, half, noChange}
+use Rattle.nation_tables.specs.Countries.{tagWords, switchKeysFrom, settlingKeysFrom, withOwn, Keyed, OwnLast}
 use Rattle.nation_tables.specs.Turning.{highHalves, lowHalves}
 use Rattle.nation_tables.specs.Holders.{Tables, HoldingRoom, slotCell, slotCells, startedOf, Held}
 use Rattle.nation_tables.specs.Switches.{runsFrom, runKeys, targetWords}
 use Rattle.nation_tables.specs.Gathering.{Begun, TablesRoom, TablesFilled, FewSwitches, Arranged, CampaignCells, cellsFrom, TableRoom, Gathered}
-use Rattle.nation_tables.proofs.tables.KeyedLaws.{countries-few, provinces-few, switches-few, accepted-keyed}
+use Rattle.nation_tables.proofs.tables.KeyedLaws.{countries-few, provinces-few, switches-few, settling-few, accepted-keyed, accepted-own}
+use Rattle.nation_tables.proofs.tables.OwnLaws.{keyed-own}
+use Rattle.nation_tables.proofs.tables.OwnKeyLaws.{settling-count}
 use Rattle.nation_tables.proofs.tables.SwitchLaws.{runs-few}
 
 -- There is a cell for each slot.
@@ -63,22 +65,29 @@ module _ (xs : List ℕ) (from : Origin) (pre : Begun xs from) (words initials s
   told-keyed : Keyed told
   told-keyed = subst Keyed (sym (pre .countries)) (accepted-keyed xs (pre .ready .accepted))
 
+  -- Nor many keys that changes settle by.
+  told-settling-few : length (settlingKeysFrom 0 told) ≤ mostSettling
+  told-settling-few = subst (λ ks. length (settlingKeysFrom 0 ks) ≤ mostSettling) (sym (pre .countries)) (settling-few xs (pre .ready .accepted))
+
+  told-own : OwnLast told
+  told-own = subst OwnLast (sym (pre .countries)) (accepted-own xs (pre .ready .accepted))
+
   -- What the tables of countries ask.
-  pub tables-asked : Keyed told × TablesRoom told words initials switches
+  pub tables-asked : Keyed (map withOwn told) × TablesRoom told words initials switches
   tables-asked =
       let a = told-few in
-      let b = told-switches-few in
+      let b = told-settling-few in
       let w = room .words in
       let i = room .initials in
       let s = room .switches in
-      (told-keyed, record { few = a; words = omega arith; initials = omega arith; switches = omega arith })
+      (keyed-own told told-keyed told-own, record { few = a; words = omega arith; initials = omega arith; switches = omega arith })
 
   -- The countries, the switches and the slots are within their cells.
   pub countries-within : (n m k : ℕ) → n ≡ length told → m ≡ k → mostCountries ≤ k → n ≤ m
   countries-within n m k e q z = let a = told-few in omega arith
 
-  pub switches-within : (n m k : ℕ) → n ≡ length (switchKeysFrom 0 told) → m ≡ k → mostSwitches ≤ k → n ≤ m
-  switches-within n m k e q z = let a = told-switches-few in omega arith
+  pub settling-within : (n m k : ℕ) → n ≡ length (settlingKeysFrom 0 told) → m ≡ k → mostSettling ≤ k → n ≤ m
+  settling-within n m k e q z = let a = told-settling-few in omega arith
 
   pub slots-within : (n m : ℕ) → n ≡ length (provincesLeft xs (from .provinces)) → mostSlots ≤ m → n + 1 ≤ m
   slots-within n m e z = let a = provinces-few xs (pre .ready .accepted) in let b = ap length (pre .ready .rows) in omega arith
@@ -93,21 +102,29 @@ module _ (xs : List ℕ) (from : Origin) (pre : Begun xs from) (words initials s
     slot-count : p + 1 ≡ suc (length (c .provinces))
     slot-count = let b = ap length (pre .ready .rows) in omega arith
 
+    -- As many switches as keys but for the countries' own.
+    pub own-within : r .countries ≤ r .settling
+    own-within = omega (arith, settling-count 0 told, f .keyed, f .countries)
+
+    switched : r .settling - r .countries ≡ length (switchKeysFrom 0 told)
+    switched = omega (arith, settling-count 0 told, f .keyed, f .countries)
+
     -- What the settling asks.
     pub holding-asked : (cells₁ : List ℕ) → length cells₁ ≡ length cells
         → AtFirstProvince xs (from .provinces)
-        × (Tables (c .countries) (take (r .countries - 0) words₁) (take (r .countries - 0) initials₁) (take (r .switches - 0) switches₁)
+        × (Tables (c .countries) (take (r .countries - 0) words₁) (take (r .countries - 0) initials₁) (take (r .settling - 0) switches₁)
         × HoldingRoom c keys cells₁ (take (p + 1 - 0) slots) (take (r .countries - 0) started) turns)
     holding-asked cells₁ kept =
         let g = filled in
-        let tables : Tables (c .countries) (take (r .countries - 0) words₁) (take (r .countries - 0) initials₁) (take (r .switches - 0) switches₁) =
+        let tables : Tables (c .countries) (take (r .countries - 0) words₁) (take (r .countries - 0) initials₁) (take (r .settling - 0) switches₁) =
         record {
-          switching =
+          settler =
               record {
                 keyed = accepted-keyed xs (pre .ready .accepted);
+                own = accepted-own xs (pre .ready .accepted);
                 once = sound xs (pre .ready .accepted) .tagsOnce;
                 words = from-first (r .countries) words₁ _ (g .words);
-                switches = from-first (r .switches) switches₁ _ (g .switches);
+                keys = from-first (r .settling) switches₁ _ (g .switches);
               };
           initials = from-first (r .countries) initials₁ _ (g .initials);
         } in
@@ -147,14 +164,10 @@ module _ (xs : List ℕ) (from : Origin) (pre : Begun xs from) (words initials s
       module _ (links firsts₁ runs₁ targets : List ℕ) (a : Arranged told (take (n - 0) turns₁) links firsts₁ runs₁ targets)
           (firstsKept : length firsts₁ ≡ length firsts) (turnsKept : length turns₁ ≡ length turns)
           (linksKept : length links ≡ length (take (n - 0) turns₁)) (slotsRest startedRest linksRest : List ℕ) where
-        -- As many switches as keys and targets.
-        switched : r .switches ≡ length (switchKeysFrom 0 told)
-        switched = f .switched
-
-        runs-there : take (r .switches) runs₁ ≡ runKeys (c .countries)
+        runs-there : take (r .settling - r .countries) runs₁ ≡ runKeys (c .countries)
         runs-there = ap (λ (m : ℕ). take m runs₁) switched ∙ a .runs ∙ ap runKeys (pre .countries)
 
-        targets-there : take (r .switches) targets ≡ targetWords (c .countries)
+        targets-there : take (r .settling - r .countries) targets ≡ targetWords (c .countries)
         targets-there = ap (λ (m : ℕ). take m targets) switched ∙ a .targets ∙ ap targetWords (pre .countries)
 
         few-runs : length (runKeys (c .countries)) ≤ mostSwitches
@@ -184,7 +197,7 @@ module _ (xs : List ℕ) (from : Origin) (pre : Begun xs from) (words initials s
 
         -- The cells are those of the campaign.
         chronicled : CampaignCells c
-            (cellsFrom (take (r .countries) words₁) (take (r .countries) initials₁) (take (r .switches) runs₁) (take (r .switches) targets) firsts₁
+            (cellsFrom (take (r .countries) words₁) (take (r .countries) initials₁) (take (r .settling - r .countries) runs₁) (take (r .settling - r .countries) targets) firsts₁
             (take (r .countries) (started₁ ++ startedRest)) (take n keys₁) (take n (links ++ linksRest)) (from .start))
         chronicled =
             record {
@@ -214,7 +227,7 @@ module _ (xs : List ℕ) (from : Origin) (pre : Begun xs from) (words initials s
             (record {
               start = from .start;
               countries = r .countries;
-              switches = r .switches;
+              switches = r .settling - r .countries;
               slots = p + 1;
               changes = n;
             })

@@ -12,7 +12,7 @@ use Rattle.owner_changes.specs.ChangeSteps.{mostChanges}
 use Rattle.nation_tables.specs.declared.gathering.Origin.{Origin}
 use Rattle.nation_tables.specs.declared.gathering.Beginning.{Beginning}
 use Rattle.nation_tables.specs.declared.gathering.Beginning.the-variants.{At, Refused}
-use Rattle.nation_tables.specs.Layout.{mostCountries, mostSwitches, mostSlots}
+use Rattle.nation_tables.specs.Layout.{mostCountries, mostSettling, mostSlots}
 use Rattle.nation_tables.specs.Gathering.{Begun, beginningTold, TableRoom, roomOf}
 
 module _ (words initials switches keys cells slots started turns firsts : List ℕ) where
@@ -28,7 +28,7 @@ module _ (words initials switches keys cells slots started turns firsts : List �
       rw (
         le-leb mostCountries (length words) (room .words),
         le-leb mostCountries (length initials) (room .initials),
-        le-leb mostSwitches (length switches) (room .switches),
+        le-leb mostSettling (length switches) (room .switches),
         le-leb mostChanges (length keys) (room .keys),
         le-leb mostChanges (length cells) (room .cells),
         le-leb mostSlots (length slots) (room .slots),
@@ -51,7 +51,7 @@ module _ (words initials switches keys cells slots started turns firsts : List �
       let all : roomy ≡ true = sym e ∙ affirmed b t in
       let a : Bool = leb mostCountries (length words) in
       let i : Bool = leb mostCountries (length initials) in
-      let s : Bool = leb mostSwitches (length switches) in
+      let s : Bool = leb mostSettling (length switches) in
       let k : Bool = leb mostChanges (length keys) in
       let c : Bool = leb mostChanges (length cells) in
       let o : Bool = leb mostSlots (length slots) in
@@ -69,7 +69,7 @@ module _ (words initials switches keys cells slots started turns firsts : List �
       record {
         words = leb-true mostCountries (length words) (one .0);
         initials = leb-true mostCountries (length initials) (one .1);
-        switches = leb-true mostSwitches (length switches) (two .1);
+        switches = leb-true mostSettling (length switches) (two .1);
         keys = leb-true mostChanges (length keys) (three .1);
         cells = leb-true mostChanges (length cells) (four .1);
         slots = leb-true mostSlots (length slots) (five .1);

@@ -10,26 +10,26 @@ use Rattle.sorting.proofs.SortLaws.{length-sort}
 use Rattle.format.specs.Campaign.{Country}
 use Rattle.rules.specs.Lent.{written}
 use Rattle.nation_tables.specs.Layout.{keyRows, keyNumbers, half, noChange, noFirsts}
-use Rattle.nation_tables.specs.Countries.{tagWords, rowKeys, switchKeysFrom, switchKeys, Keyed, Tabled, Filled}
+use Rattle.nation_tables.specs.Countries.{tagWords, rowKeys, switchKeysFrom, settlingKeysFrom, settlingKeys, Keyed, Tabled, Filled}
 use Rattle.nation_tables.specs.Turning.{highHalves, lowHalves, Fresh}
 use Rattle.nation_tables.specs.Switches.{runsFrom, runKeys, targetWords}
 use Rattle.nation_tables.specs.Gathering.{TablesFilled, FewSwitches}
-use Rattle.nation_tables.proofs.tables.CountryLaws.{initial-table, switch-table}
+use Rattle.nation_tables.proofs.tables.CountryLaws.{initial-table, settling-table}
 use Rattle.nation_tables.proofs.tables.SwitchLaws.{length-runs, length-targets}
 
 -- The tables, each at the front of its cells.
 pub tables-filled : (ks : List Country) (c m : ℕ) (words₀ words₁ inits₀ inits₁ initials₀ initials₁ switches₀ switches₁ : List ℕ)
-    → Tabled ks c words₀ words₁ inits₀ inits₁ → initials₁ ≡ written (rowKeys (take c inits₁)) initials₀ → Filled (switchKeys ks) m switches₀ switches₁
-    → TablesFilled ks (record { countries = c; switches = m }) words₁ initials₁ switches₁
+    → Tabled ks c words₀ words₁ inits₀ inits₁ → initials₁ ≡ written (rowKeys (take c inits₁)) initials₀ → Filled (settlingKeys ks) m switches₀ switches₁
+    → TablesFilled ks (record { countries = c; settling = m }) words₁ initials₁ switches₁
 tables-filled ks c m words₀ words₁ inits₀ inits₁ initials₀ initials₁ switches₀ switches₁ q i f =
     record {
       countries = q .counted;
-      switched = f .counted ∙ length-sort leb (switchKeysFrom 0 ks);
+      keyed = f .counted ∙ length-sort leb (settlingKeysFrom 0 ks);
       words =
           ap (take c) (q .tags)
           ∙ take-at (tagWords ks) (drop (length (tagWords ks)) words₀) c (length-map ks (λ k. k .tag .0) ∙ sym (q .counted));
       initials = initial-table ks c words₀ words₁ inits₀ inits₁ q initials₀ initials₁ i .keys;
-      switches = switch-table ks m switches₀ switches₁ f .keys;
+      switches = settling-table ks m switches₀ switches₁ f .keys;
     }
 
 -- ## Keys and targets of switches

@@ -11,7 +11,7 @@ use Rattle.sorting.specs.Sort.{sortBy}
 use Rattle.sorting.proofs.SortedKeyLaws.{sorted-front}
 use Rattle.sorting.proofs.SortLaws.{length-sort}
 use Rattle.format.specs.Campaign.{Country}
-use Rattle.nation_tables.specs.Countries.{tagWords, initialWords, wordKeys, rowKeys, switchKeysFrom, switchKeys, Tabled, Filled}
+use Rattle.nation_tables.specs.Countries.{initialWords, wordKeys, rowKeys, settlingKeysFrom, settlingKeys, Tabled, Filled}
 use Rattle.nation_tables.specs.Keys.{rowKey}
 use Rattle.rules.specs.Lent.{written}
 use Rattle.rules.specs.Nations.{initialOf}
@@ -57,12 +57,9 @@ word-table ws words₀ words keys₀ keys n l e k =
     sorted-table (wordKeys 0 ws) keys₀ keys n (rw front at k) (l ∙ sym (length-word-keys 0 ws))
 
 module _ (ks : List Country) (n : ℕ) (tags₀ tags₁ initials₀ initials₁ : List ℕ) (q : Tabled ks n tags₀ tags₁ initials₀ initials₁) (keys₀ keys : List ℕ) where
-  pub tag-table : keys ≡ written (rowKeys (take n tags₁)) keys₀ → Table (rowKeys (tagWords ks)) n keys
-  tag-table e = word-table (tagWords ks) tags₀ tags₁ keys₀ keys n (q .counted ∙ sym (length-map ks (λ k. k .tag .0))) (q .tags) e
-
   pub initial-table : keys ≡ written (rowKeys (take n initials₁)) keys₀ → Table (rowKeys (initialWords ks)) n keys
   initial-table e =
       word-table (initialWords ks) initials₀ initials₁ keys₀ keys n (q .counted ∙ sym (length-map ks (λ k. initialOf k .0))) (q .initials) e
 
-pub switch-table : (ks : List Country) (n : ℕ) (before keys : List ℕ) → Filled (switchKeys ks) n before keys → Table (switchKeys ks) n keys
-switch-table ks n before keys f = sorted-table (switchKeysFrom 0 ks) before keys n (f .filled) (f .counted ∙ length-sort leb (switchKeysFrom 0 ks))
+pub settling-table : (ks : List Country) (n : ℕ) (before keys : List ℕ) → Filled (settlingKeys ks) n before keys → Table (settlingKeys ks) n keys
+settling-table ks n before keys f = sorted-table (settlingKeysFrom 0 ks) before keys n (f .filled) (f .counted ∙ length-sort leb (settlingKeysFrom 0 ks))

@@ -8,15 +8,17 @@ use borrow.Author.Tests.{lt-ltb}
 use lib.Dec.{ltb}
 use lib.ListN.{length, length-append, length-map}
 use Rattle.lists.specs.Lists.{allOf, joinOf}
-use Rattle.lists.proofs.ListLaws.{all-allOf}
+use Rattle.lists.proofs.ListLaws.{all-map, all-allOf}
 use Rattle.format.specs.declared.rows.Switch.{Switch}
 use Rattle.format.specs.Campaign.{Country, campaignOf}
 use Rattle.format.specs.Refusal.{refusal}
 use Rattle.format.specs.Sound.{GoodSwitch, GoodCountry, GoodProvince}
 use Rattle.format.proofs.SoundLaws.{sound}
 pub use Rattle.format.proofs.BoundLaws.{tag-small, date-small}
-use Rattle.nation_tables.specs.Layout.{mostCountries, mostSwitches, keyDates, keyTags}
-use Rattle.nation_tables.specs.Countries.{switchKey, switchKeysFrom, smallSwitch, Keyed}
+use Rattle.format.proofs.BoundLaws.{date-most}
+use Rattle.nation_tables.proofs.tables.OwnKeyLaws.{settling-count}
+use Rattle.nation_tables.specs.Layout.{mostCountries, mostSwitches, mostSettling, keyDates, keyTags}
+use Rattle.nation_tables.specs.Countries.{switchKey, switchKeysFrom, settlingKeysFrom, smallSwitch, Keyed, OwnLast}
 use Rattle.nation_tables.specs.Starting.{Slotted}
 
 switch-small : (x : Switch) → GoodSwitch x → smallSwitch x ≡ true
@@ -52,6 +54,18 @@ module _ (xs : List ℕ) (h : refusal xs ≡ 0) where
         few = omega arith;
         switches = all-allOf GoodCountry (λ k. allOf smallSwitch (k .switches)) country-small (campaignOf xs .countries) (sound xs h .countries);
       }
+
+  pub accepted-own : OwnLast (campaignOf xs .countries)
+  accepted-own =
+      let s = sound xs h in
+      record {
+        tags = all-map (λ k q. tag-small (k .tag) (q .tag)) (campaignOf xs .countries) (s .countries);
+        dates = all-map (λ k q. all-map (λ x g. omega (arith, date-most (x .date) (g .date))) (k .switches) (q .switches)) (campaignOf xs .countries) (s .countries);
+      }
+
+  pub settling-few : length (settlingKeysFrom 0 (campaignOf xs .countries)) ≤ mostSettling
+  settling-few =
+      let a = countries-few in let b = switches-few in omega (arith, settling-count 0 (campaignOf xs .countries))
 
   pub accepted-slotted : (slots : ℕ) → length (campaignOf xs .provinces) < slots → Slotted slots (campaignOf xs .provinces)
   accepted-slotted slots l =

@@ -42,6 +42,21 @@ module _ (xs before all : List ℕ) (n : ℕ) (e : all ≡ written (sortBy leb x
             };
       }
 
+-- The keys are in order, and i of them are below a number.
+module _ (low high : ℕ) (keys : List ℕ) (sorted : sortBy leb keys ≡ keys) (i : ℕ) (below : i ≡ countOf (λ k. ltb k low) keys) where
+  pub no-first : length keys ≤ i → noRow ≡ firstWithin low high keys
+  unfolding firstWithin
+  no-first h = sym (ap (λ (ks : List ℕ). firstOr noRow (map rowIn ks)) (first-past low high keys (sorted-up keys sorted) i below h))
+
+  pub first-too-high : i < length keys → high ≤ getD keys i 0 → noRow ≡ firstWithin low high keys
+  unfolding firstWithin
+  first-too-high h l =
+      sym (ap (λ (ks : List ℕ). firstOr noRow (map rowIn ks)) (first-above low high keys (sorted-up keys sorted) i below h l))
+
+  pub first-found : i < length keys → getD keys i 0 < high → rowIn (getD keys i 0) ≡ firstWithin low high keys
+  unfolding firstWithin
+  first-found h l = sym (first-there low high keys (sorted-up keys sorted) i below rowIn noRow h l)
+
 -- The first n keys of all are in order, and i of them are below a number, as the code counts them.
 module _ (low high : ℕ) (all : List ℕ) (n : ℕ) (first : FirstSorted n all) (i : ℕ) where
   abbrev keys : List ℕ
@@ -52,26 +67,6 @@ module _ (low high : ℕ) (all : List ℕ) (n : ℕ) (first : FirstSorted n all)
 
   long : length keys ≡ n
   long = length-take-le n all (first .inside)
-
-  module _ (below : i ≡ countOf (λ k. ltb k low) (take (n - 0) all)) where
-    at-low : i ≡ countOf (λ k. ltb k low) keys
-    at-low = rw sub-zero at below
-
-    pub no-first : n ≤ i → noRow ≡ firstWithin low high keys
-    unfolding firstWithin
-    no-first h = sym (ap (λ (ks : List ℕ). firstOr noRow (map rowIn ks)) (first-past low high keys up i at-low (omega (arith, long))))
-
-    pub first-too-high : i < n → high ≤ getD all i 0 → noRow ≡ firstWithin low high keys
-    unfolding firstWithin
-    first-too-high h l =
-        let same = getD-take n all i 0 h in
-        sym (ap (λ (ks : List ℕ). firstOr noRow (map rowIn ks)) (first-above low high keys up i at-low (omega (arith, long)) (omega arith)))
-
-    pub first-found : i < n → getD all i 0 < high → rowIn (getD all i 0) ≡ firstWithin low high keys
-    unfolding firstWithin
-    first-found h l =
-        let same = getD-take n all i 0 h in
-        ap rowIn (sym same) ∙ sym (first-there low high keys up i at-low rowIn noRow (omega (arith, long)) (omega arith))
 
   module _ (below : i ≡ countOf (λ k. ltb k high) (take (n - 0) all)) where
     at-high : i ≡ countOf (λ k. ltb k high) keys

@@ -1,5 +1,4 @@
--- The keys of words that lie between those of one word are its places in row order; the last of an initial's is the country that it maps to,
--- and the first of a tag's is the country with that tag.
+-- The keys of words that lie between those of one word are its places in row order; the last of an initial's is the country that it maps to.
 use mathlib.Core.Path.{_≡_, refl, sym, ap, _∙_}
 use mathlib.Core.Bool.{Bool, true, false}
 use mathlib.Core.List.{List, [], _∷_, map}
@@ -20,9 +19,9 @@ use Rattle.format.specs.Tags.{sameTag}
 use Rattle.format.specs.Campaign.{Country}
 use Rattle.rules.specs.Nations.{initialOf, mapsTo}
 use Rattle.nation_tables.specs.Layout.{keyRows}
-use Rattle.nation_tables.specs.Lookup.{noRow, rowIn, inRange, rowsWithin, firstWithin, lastWithin}
+use Rattle.nation_tables.specs.Lookup.{noRow, rowIn, inRange, rowsWithin, lastWithin}
 use Rattle.nation_tables.proofs.tables.LookupLaws.{begins-with}
-use Rattle.nation_tables.specs.Countries.{tagAtRow, tagWords, initialWords, placesOf, rowOf, mappedRow, wordKeys, rowKeys, RowFound, RowMapped}
+use Rattle.nation_tables.specs.Countries.{tagAtRow, tagWords, initialWords, placesOf, rowOf, mappedRow, wordKeys, rowKeys, RowMapped}
 
 -- ## The keys between those of one word
 
@@ -167,14 +166,6 @@ module _ (ks : List Country) (few : length ks ≤ keyRows) (once : twice (tagWor
 -- ## What the keys find
 
 module _ (keys : List ℕ) (t : CountryTag) (word row : ℕ) (same : word ≡ t .0) where
-  pub row-found : row ≡ firstWithin (word * keyRows) (word * keyRows + keyRows) keys → RowFound keys t row
-  unfolding firstWithin
-  row-found e =
-      record {
-        found = λ ks few q.
-            e ∙ rw (same, q) (ap (firstOr noRow) (places-within (t .0) (tagWords ks) (omega (arith, length-map ks (λ k. k .tag .0)))));
-      }
-
   pub row-mapped : row ≡ lastWithin (word * keyRows) (word * keyRows + keyRows) keys → RowMapped keys t row
   unfolding lastWithin
   row-mapped e =

@@ -51,6 +51,14 @@ unfolding ownPlaced
 length-own row k [] = refl
 length-own row k (x ∷ ss) = ap suc (length-own row (suc k) ss)
 
+-- One more behind the others.
+pub own-append : (row k : ℕ) (ss : List Switch) (x : Switch) → ownPlaced row k (ss ++ (x ∷ [])) ≡ ownPlaced row k ss ++ (placed row (k + length ss) x ∷ [])
+unfolding ownPlaced
+own-append row k [] x = let e : k ≡ k + 0 = omega arith in ap (λ (n : ℕ). placed row n x ∷ []) e
+own-append row k (y ∷ ss) x =
+    let e : suc k + length ss ≡ k + suc (length ss) = omega arith in
+    ap (λ (l : List PlacedSwitch). placed row k y ∷ l) (own-append row (suc k) ss x ∙ ap (λ (n : ℕ). ownPlaced row (suc k) ss ++ (placed row n x ∷ [])) e)
+
 -- What holds of each number and switch holds of each switch in its place.
 pub own-all : (P : PlacedSwitch → Type 0) (R : Switch → Type 0) (row past k : ℕ) (ss : List Switch)
     → ((i : ℕ) (x : Switch) → k ≤ i → i < past → R x → P (placed row i x)) → k + length ss ≤ past → All R ss → All P (ownPlaced row k ss)
@@ -189,18 +197,11 @@ pub switches-small : (ks : List Country) → Keyed ks → All (λ k. All (λ x. 
 switches-small ks q =
     all-map (λ k h. allOf-all smallSwitch (k .switches) h) ks (allOf-all (λ k. allOf smallSwitch (k .switches)) ks (q .switches))
 
-pub from-asked : (ks : List Country) (n : ℕ) → Keyed ks → length (switchKeysFrom 0 ks) ≤ n
-    → ((length ks ≤ keyRows) × (length (allPlaced 0 0 ks) ≤ n)) × All (KeyFits ByFrom) (allPlaced 0 0 ks)
-from-asked ks n q h =
-    let size = from-length 0 0 ks in (
-      (q .few, omega (arith, size)),
-      placed-all (KeyFits ByFrom) (λ x. smallSwitch x ≡ true) (length ks) (length (allPlaced 0 0 ks)) (λ row i x a b s. small-from x s) 0 0 ks (omega arith) (omega arith)
-          (switches-small ks q),
-    )
-
-pub from-filled : (ks : List Country) (n : ℕ) (before after : List ℕ) → Filled (sortBy leb (map (keyBy ByFrom) (allPlaced 0 0 ks))) n before after
-    → Filled (switchKeys ks) n before after
-from-filled ks n before after f = rw (from-keys 0 0 ks) f
+-- So they do in keys by the tag that was left.
+pub from-fits : (ks : List Country) → Keyed ks → All (KeyFits ByFrom) (allPlaced 0 0 ks)
+from-fits ks q =
+    placed-all (KeyFits ByFrom) (λ x. smallSwitch x ≡ true) (length ks) (length (allPlaced 0 0 ks)) (λ row i x a b s. small-from x s) 0 0 ks (omega arith) (omega arith)
+    (switches-small ks q)
 
 -- ## Keys by the row of the country
 

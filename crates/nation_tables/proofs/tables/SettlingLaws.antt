@@ -3,19 +3,19 @@
 use mathlib.Core.Path.{_≡_, refl, sym, ap, ap₂, _∙_}
 use mathlib.Core.Bool.{Bool, true, _&&_}
 use mathlib.Core.List.{List, [], _∷_, _++_, map}
-use mathlib.Core.Option.{Option, none, some, Option·map}
+use mathlib.Core.Option.{Option, Option·map}
 use Prim.Native.Nat.{ℕ, suc, _+_, _≤_, _<_}
 use native.Mathlib.Omega.{arith}
 use borrow.Author.Tests.{eqb-true, eqb-false, leb-true, leb-false, lt-ltb, le-ltb, le-leb, lt-leb}
 use lib.Dec.{eqb, leb}
-use lib.ListN.{length, getElem?, drop}
+use lib.ListN.{length, drop}
 use Rattle.lists.specs.Lists.{All, keep, joinOf, firstOr}
 use Rattle.lists.proofs.BoolLaws.{cases, both}
-use Rattle.lists.proofs.ElementLaws.{first-map, first-has, at-drop, at-end, at-inside, keep-map, map-same, keep-same, order-keep}
+use Rattle.lists.proofs.ElementLaws.{first-map, first-has, at-drop, at-end, keep-map, map-same, keep-same, order-keep}
 use Rattle.lists.proofs.ListLaws.{all-both, all-map, all-keep, all-of-map, map-append, map-then}
 use Rattle.sorting.specs.Sort.{sortBy}
 use Rattle.sorting.proofs.SortedKeyLaws.{agrees-always}
-use Rattle.sorting.proofs.SortLaws.{all-sort, all-kept, keep-sort, map-sort, leb-total, leb-trans}
+use Rattle.sorting.proofs.SortLaws.{length-sort, all-sort, all-kept, keep-sort, map-sort, leb-total, leb-trans}
 use Rattle.format.specs.declared.tag.CountryTag.{CountryTag}
 use Rattle.format.specs.declared.date.Eu4Date.{Eu4Date}
 use Rattle.format.specs.declared.rows.Switch.{Switch}
@@ -28,11 +28,10 @@ use Rattle.nation_tables.specs.Layout.{keyRows, keyDates}
 use Rattle.nation_tables.specs.declared.switches.SwitchOrder.the-variants.{ByFrom}
 use Rattle.nation_tables.specs.Keys.{rowIn, settlingKey}
 use Rattle.nation_tables.specs.Lookup.{noRow, inRange, firstWithin}
-use Rattle.nation_tables.specs.Countries.{tagAtRow, rowOf, switchKeysFrom, switchKeys, smallSwitch, Keyed, RowFound}
-use Rattle.nation_tables.specs.Settling.{orTag, settledRow, Settled, RowSettled, RowHolds}
+use Rattle.nation_tables.specs.Countries.{tagAtRow, switchKeysFrom, switchKeys, smallSwitch, Keyed}
+use Rattle.nation_tables.specs.Settling.{orTag, settledRow, Settled, RowSettled}
 use Rattle.nation_tables.specs.Switches.{PlacedSwitch, ownPlaced, allPlaced, keyBy}
 use Rattle.sorting.proofs.AgreeLaws.{agrees-in-order}
-use Rattle.nation_tables.proofs.tables.MappedLaws.{row-has, row-single}
 use Rattle.nation_tables.proofs.tables.PlacedLaws.{placedByDate, small-date, switches-small, placed-all, rows-rise, from-keys}
 
 -- ## The switches and the countries that made them
@@ -74,7 +73,7 @@ module _ (to : CountryTag) (date : Eu4Date) (early : date .0 < keyDates) where
   abbrev high : ℕ
   high = settlingKey (to .0 + 1) 0 0
 
-  abbrev switchAsked : PlacedSwitch → Bool
+  abbrev pub switchAsked : PlacedSwitch → Bool
   switchAsked r = sameTag (r .made .from) to && notAfter date (r .made .date)
 
   -- The test of the key is the test of the switch.
@@ -140,6 +139,20 @@ module _ (to : CountryTag) (date : Eu4Date) (early : date .0 < keyDates) where
         ∙ ap (firstOr noRow)
         (map-then (keyBy ByFrom) rowIn first-ones ∙ map-same (λ r. rowIn (keyBy ByFrom r)) (λ r. r .row) first-ones (all-map (λ r h. omega arith) first-ones sorted-fit))
 
+    -- Where no row is found there is no such switch.
+    no-row : (l : List PlacedSwitch) → All (Fit keyRows) l → firstOr noRow (map (λ r. r .row) l) ≡ noRow → l ≡ []
+    no-row [] q h = refl
+    no-row (r ∷ l) q h = let few = q .0 .1 in absurd (omega arith)
+
+    pub none-asked : settledRow ks to (date .0) ≡ noRow → keep switchAsked (allPlaced 0 0 ks) ≡ []
+    none-asked h =
+        let none = no-row first-ones sorted-fit (sym settled-first ∙ h) in
+        nothing fitting (sym (length-sort placedByDate fitting) ∙ ap length none)
+      where
+        nothing : (l : List PlacedSwitch) → length l ≡ 0 → l ≡ []
+        nothing [] e = refl
+        nothing (r ∷ l) e = absurd (omega arith)
+
     -- The switches that the definition asks, in its order.
     asked-switches : keep (λ x. sameTag (x .from) to && notAfter date (x .date)) (allSwitches ks) ≡ map (withCountry ks to) first-ones
     unfolding allSwitches
@@ -189,46 +202,3 @@ row-settled keys to date low high row l h e =
           let same : row ≡ settledRow ks (x .to) (x .date .0) = e ∙ rw (l, h, q, t, d) in
           rw same (settled-row ks keyed x early′);
     }
-
--- The country in the row of a tag has that tag, so a tag's own row tells the tag again.
-own-tag : (ks : List Country) → length ks ≤ keyRows → (t : CountryTag) (o : Option Country) → getElem? ks (rowOf ks t) ≡ o
-    → orTag t (Option·map (λ k. k .tag) o) ≡ t
-own-tag ks few t none e = refl
-own-tag ks few t (some k) e = ap (λ (w : ℕ). tagged w) (row-has ks few t (rowOf ks t) refl k e)
-  where
-    tagged : ℕ → CountryTag
-    tagged w = record { 0 = w }
-
-module _ (tags switches : List ℕ) (to : CountryTag) (date : Eu4Date) (row : ℕ) (settled : RowSettled switches to date row) where
-  -- the country of a switch
-  pub holds-switched : (row ≡ noRow → ⊥) → RowHolds tags switches to date row
-  holds-switched h =
-      record {
-        holds = λ ks x keyed once a b t d early.
-            let q = settled .settled ks x keyed b t d early in
-            let k = at-inside ks row (q .inside h) in
-            let whom : settles (allSwitches ks) x ≡ k .0 .tag =
-            q .holder ∙ ap (λ (o : Option Country). orTag (x .to) (Option·map (λ y. y .tag) o)) (k .1) in
-            sym (ap (rowOf ks) whom ∙ row-single ks (keyed .few) once row (k .0) (k .1));
-        holder = λ ks x keyed once a b t d early. settled .settled ks x keyed b t d early .holder;
-      }
-
-  -- the change's own tag
-  pub holds-own : row ≡ noRow → (own : ℕ) → RowFound tags to own → RowHolds tags switches to date own
-  holds-own e own found =
-      record {
-        holds = λ ks x keyed once a b t d early.
-            found .found ks (keyed .few) a ∙ ap (rowOf ks) (sym (whom ks x keyed b t d early ∙ t));
-        holder = λ ks x keyed once a b t d early.
-            let here : own ≡ rowOf ks (x .to) = found .found ks (keyed .few) a ∙ ap (rowOf ks) (sym t) in
-            whom ks x keyed b t d early
-            ∙ sym (own-tag ks (keyed .few) (x .to) (getElem? ks (rowOf ks (x .to))) refl)
-            ∙ ap (λ (r : ℕ). orTag (x .to) (tagAtRow ks r)) (sym here);
-      }
-    where
-      whom : (ks : List Country) (x : Change) → Keyed ks → switches ≡ switchKeys ks → x .to ≡ to → x .date ≡ date → date .0 < keyDates
-          → settles (allSwitches ks) x ≡ x .to
-      whom ks x keyed b t d early =
-          let q = settled .settled ks x keyed b t d early in
-          let nobody : getElem? ks row ≡ none = at-end ks row (let l = keyed .few in omega arith) in
-          q .holder ∙ ap (λ (o : Option Country). orTag (x .to) (Option·map (λ y. y .tag) o)) nobody

@@ -12,7 +12,7 @@ use Rattle.owner_changes.specs.ChangeSteps.{mostChanges}
 use Rattle.nation_tables.specs.declared.gathering.TableSizes.{TableSizes}
 use Rattle.nation_tables.specs.declared.gathering.TablesGathered.{TablesGathered}
 use Rattle.nation_tables.specs.declared.gathering.TablesGathered.the-variants.{Tables, Refused}
-use Rattle.nation_tables.specs.Layout.{mostCountries, mostSwitches, mostSlots}
+use Rattle.nation_tables.specs.Layout.{mostCountries, mostSettling, mostSlots}
 use Rattle.nation_tables.specs.Gathering.{TableRoom, Gathered, gatheredTold}
 use Rattle.nations.specs.declared.listing.Listed.{Listed}
 use Rattle.nations.specs.declared.writing.Placed.{Placed}
@@ -28,13 +28,13 @@ made n = length-replicate {A = ℕ} n 0
 room : (n : ℕ) → n ≤ length {A = ℕ} (replicate n 0)
 room n = omega (arith, made n)
 
-pub made-room : TableRoom (replicate mostCountries 0) (replicate mostCountries 0) (replicate mostSwitches 0) (replicate mostChanges 0)
+pub made-room : TableRoom (replicate mostCountries 0) (replicate mostCountries 0) (replicate mostSettling 0) (replicate mostChanges 0)
     (replicate mostChanges 0) (replicate mostSlots 0) (replicate mostCountries 0) (replicate mostChanges 0) (replicate mostCountries 0)
 made-room =
     record {
       words = room mostCountries;
       initials = room mostCountries;
-      switches = room mostSwitches;
+      switches = room mostSettling;
       keys = room mostChanges;
       cells = room mostChanges;
       slots = room mostSlots;
@@ -47,7 +47,7 @@ made-room =
 pub record FullSize (words initials runs keys cells slots started turns : List ℕ) : Type 0 where
   pub allWords : length words ≡ mostCountries
   pub allInitials : length initials ≡ mostCountries
-  pub allRuns : length runs ≡ mostSwitches
+  pub allRuns : length runs ≡ mostSettling
   pub allKeys : length keys ≡ mostChanges
   pub allCells : length cells ≡ mostChanges
   pub allSlots : length slots ≡ mostSlots

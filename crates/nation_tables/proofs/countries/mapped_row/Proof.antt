@@ -1,5 +1,9 @@
 -- The keys of an initial are those from its word times keyRows on, below the next word's.
+use mathlib.Core.Path.{_≡_}
+use Prim.Native.Nat.{_+_, _*_, _/_}
+use native.Mathlib.Omega.{arith}
 use borrow.Author.Needs.{needs}
+use Rattle.nation_tables.specs.Layout.{keyRows}
 use Rattle.nation_tables.proofs.tables.MappedLaws.{row-mapped}
 use Rattle.nation_tables.proofs.countries.mapped_row.Statement.{statement}
 use Rattle.nation_tables.proofs.countries.mapped_row.Tie as tie
@@ -20,7 +24,10 @@ last-within-requires : tie.Need-last-within-requires
 last-within-requires c κs = search needs
 
 returns : tie.Need-returns
-returns c = row-mapped _ _ _ _ (c .before .word .ensures) (c .last-within .ensures (c .before .before .before .pre))
+returns c =
+    let w = c .before .word .result in
+    let even : (w * keyRows + keyRows) / 2 * 2 ≡ w * keyRows + keyRows = omega arith in
+    row-mapped _ _ _ _ (c .before .word .ensures) (rw even at (c .last-within .ensures (c .before .before .before .pre)))
 
 pub mapped-row-spec : {M : Type 1} → statement M
 mapped-row-spec =

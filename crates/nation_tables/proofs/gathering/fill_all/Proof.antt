@@ -4,7 +4,7 @@ use mathlib.Core.Path.{refl, _∙_}
 use native.Mathlib.Omega.{arith}
 use borrow.Author.Needs.{zero≤}
 use Rattle.nation_tables.specs.Layout.{mostSlots}
-use Rattle.nation_tables.proofs.slots.GatheringLaws.{tables-asked, countries-within, switches-within, slots-within, holding-asked, changes-within, arrange-asked, gathered}
+use Rattle.nation_tables.proofs.slots.GatheringLaws.{tables-asked, countries-within, settling-within, slots-within, holding-asked, changes-within, own-within, arrange-asked, gathered}
 use Rattle.nation_tables.proofs.gathering.fill_all.Statement.{statement}
 use Rattle.nation_tables.proofs.gathering.fill_all.Tie as tie
 
@@ -51,7 +51,7 @@ part-hold-slots-start-3 : tie.Need-part-hold-slots-start-3
 part-hold-slots-start-3 c = zero≤
 
 part-hold-slots-end-3 : tie.Need-part-hold-slots-end-3
-part-hold-slots-end-3 c = let f = c .before .before .before .before .before .before .before .before .before .before .before .before .before in let s0 = begun f in switches-within _ _ (s0 .pre .0) _ _ _ _ _ _ _ _ _ (s0 .pre .1) _ _ _ (f .fill-tables .ensures .switched) (f .fill-tables .kept .1 .1 .1 .1 .0) (s0 .pre .1 .switches)
+part-hold-slots-end-3 c = let f = c .before .before .before .before .before .before .before .before .before .before .before .before .before in let s0 = begun f in settling-within _ _ (s0 .pre .0) _ _ _ _ _ _ _ _ _ (s0 .pre .1) _ _ _ (f .fill-tables .ensures .keyed) (f .fill-tables .kept .1 .1 .1 .1 .0) (s0 .pre .1 .switches)
 
 sub-hold-slots-4 : tie.Need-sub-hold-slots-4
 sub-hold-slots-4 c = zero≤
@@ -85,6 +85,9 @@ part-arrange-end c = let h = c .before .before .before .before .before .before .
 
 arrange-requires : tie.Need-arrange-requires
 arrange-requires c κs = let h = c .before .before .before .before .before .before .before .before .before .before .before .before .before .before in let f = filled h in let s0 = begun f in arrange-asked _ _ (s0 .pre .0) _ _ _ _ _ _ _ _ _ (s0 .pre .1) _ _ _ _ _ (f .fill-tables .ensures) (measured f .len .ensures) _ _ _ _ _ (h .hold-slots .ensures) _ (h .hold-slots .kept .1 .1 .1 .1 .1 .1 .0 ∙ f .fill-tables .kept .1 .1 .1 .1 .1 .0) (f .fill-tables .kept .1 .1 .1 .1 .0)
+
+sub-switches : tie.Need-sub-switches
+sub-switches c = let f = filled (c .before .before .before .before .before .before .before .before .before .before .before .before .before .before .before .before .before .before .before .before .before .before .before) in let s0 = begun f in own-within _ _ (s0 .pre .0) _ _ _ _ _ _ _ _ _ (s0 .pre .1) _ _ _ _ _ (f .fill-tables .ensures) (measured f .len .ensures)
 
 same-length : tie.Need-same-length
 same-length c = c .before .before .before .before .before .before .before .before .before .before .before .before .before .before .before .before .before .before .before .before .before .before .before .before .before .before .before .before .before .before .before .before .before .before .before .before .before .before .before .before .before .before .before .fill-tables .kept .1 .1 .0
@@ -143,6 +146,7 @@ fill-all-spec =
     part-arrange-start
     part-arrange-end
     arrange-requires
+    sub-switches
     same-length
     same-length-2
     same-length-3

@@ -28,8 +28,8 @@ row-keys-requires c κs =
     let n = words .ensures .counted in
     (omega (arith, n, p .few), omega (arith, n, p .few, words .kept .1 .1 .1 .0, made mostCountries), omega (arith, n, p .initials))
 
-switch-keys-requires : tie.Need-switch-keys-requires
-switch-keys-requires c κs = let p = c .before .before .before .before .before .before .before .before .before .before .before .before .before .before .before .before .before .before .before .before .before .pre in (p .0, p .1 .switches)
+settling-keys-requires : tie.Need-settling-keys-requires
+settling-keys-requires c κs = let p = c .before .before .before .before .before .before .before .before .before .before .before .before .before .before .before .before .before .before .before .before .before .pre in (p .0, p .1 .switches)
 
 same-length : tie.Need-same-length
 same-length c = c .before .before .before .before .before .before .before .before .before .before .before .before .before .before .before .before .before .before .country-words .kept .1 .1 .0
@@ -38,13 +38,13 @@ same-length-2 : tie.Need-same-length-2
 same-length-2 c = c .before .before .before .before .before .before .before .before .before .before .before .row-keys .kept .1 .1 .0
 
 same-length-3 : tie.Need-same-length-3
-same-length-3 c = c .before .before .before .before .switch-keys .kept .1 .1 .0
+same-length-3 c = c .before .before .before .before .settling-keys .kept .1 .1 .0
 
 same-length-4 : tie.Need-same-length-4
-same-length-4 c = c .before .before .before .before .switch-keys .kept .1 .1 .1 .0 ∙ c .before .before .before .before .before .before .before .before .before .before .before .row-keys .kept .1 .1 .1 .0
+same-length-4 c = c .before .before .before .before .settling-keys .kept .1 .1 .1 .0 ∙ c .before .before .before .before .before .before .before .before .before .before .before .row-keys .kept .1 .1 .1 .0
 
 returns : tie.Need-returns
-returns c = tables-filled _ _ _ _ _ _ _ _ _ _ _ (c .before .before .before .before .before .before .before .before .before .before .before .before .before .before .before .before .before .before .country-words .ensures) (c .before .before .before .before .before .before .before .before .before .before .before .row-keys .ensures) (c .before .before .before .before .switch-keys .ensures)
+returns c = tables-filled _ _ _ _ _ _ _ _ _ _ _ (c .before .before .before .before .before .before .before .before .before .before .before .before .before .before .before .before .before .before .country-words .ensures) (c .before .before .before .before .before .before .before .before .before .before .before .row-keys .ensures) (c .before .before .before .before .settling-keys .ensures)
 
 pub fill-tables-spec : {M : Type 1} → statement M
 fill-tables-spec =
@@ -54,7 +54,7 @@ fill-tables-spec =
     country-words-requires
     slice-aggregate-row-keys
     row-keys-requires
-    switch-keys-requires
+    settling-keys-requires
     same-length
     same-length-2
     same-length-3

@@ -9,22 +9,22 @@ use Rattle.lists.specs.Lists.{All}
 use Rattle.format.specs.Campaign.{campaignOf}
 use Rattle.format.proofs.CampaignLaws.{told-row, told-end}
 use Rattle.owner_changes.specs.ChangeSteps.{changeOf, changesLeft, changeTold}
-use Rattle.nation_tables.specs.Countries.{tagWords, wordKeys, switchKeysFrom}
+use Rattle.nation_tables.specs.Countries.{settlingKeysFrom}
 use Rattle.nation_tables.specs.Holders.{holderCell}
 use Rattle.owner_changes.proofs.EnteringLaws.{Entering, all-entered, entering-none, entering-next, entering-more, entering-done}
-use Rattle.nation_tables.proofs.slots.ChangeCellLaws.{Small, entered-small, small-next, all-sorted, first-sorted, cell-made}
+use Rattle.nation_tables.proofs.slots.ChangeCellLaws.{Small, entered-small, small-next, all-sorted, cell-made}
 use borrow.Author.Needs.{needs}
 use Rattle.nation_tables.proofs.holders.fill_holders.Statement.{statement}
 use Rattle.nation_tables.proofs.holders.fill_holders.Tie as tie
 
 abbrev Inv-loop : tie.InvT-loop
-Inv-loop s tag-words tag-keys switch-keys cells₀ at₀ n₀ cells at n =
+Inv-loop s tag-words settling-keys starts cells₀ at₀ n₀ cells at n =
     (length cells ≡ length cells₀)
     × Entering (λ _. map (holderCell (campaignOf s .countries))) s (changesLeft s at) n cells
     × All Small (changesLeft s at)
 
 abbrev μ-loop : tie.MeasureT-loop
-μ-loop s tag-words tag-keys switch-keys cells₀ at₀ n₀ cells at n = length (changesLeft s at)
+μ-loop s tag-words settling-keys starts cells₀ at₀ n₀ cells at n = length (changesLeft s at)
 
 abbrev start : tie.After-x Inv-loop μ-loop → tie.Start Inv-loop μ-loop
 start c = c .before .before .before .before .before .before .before .before .before .before
@@ -60,7 +60,7 @@ holder-row-requires c κs =
     let q = start x .pre .1 .1 in
     let ks = campaignOf (start x .args .s .now) .countries in
     let small = small-next (more x) (x .before .before .before .loop .inv .2) .0 in
-    (first-sorted (wordKeys 0 (tagWords ks)) _ _ (q .room) (q .tags), all-sorted (switchKeysFrom 0 ks) _ (q .switching .switches), small .to)
+    (all-sorted (settlingKeysFrom 0 ks) _ (q .keys), small .to)
 
 cell-of-requires : tie.Need-cell-of-requires Inv-loop μ-loop
 cell-of-requires c κs = search needs
@@ -93,7 +93,7 @@ loop-again c =
     let cell = holderCell (campaignOf (s0 .args .s .now) .countries) in
     let small = small-next (more x) (l .inv .2) in
     let row = c .before .holder-row in
-    let made = cell-made _ _ _ _ (s0 .pre .1 .1) (changeOf (x .x .given .0 .0)) (small .0) (row .result) (row .ensures) _ refl in (
+    let made = cell-made _ _ _ (s0 .pre .1 .1) (changeOf (x .x .given .0 .0)) (small .0) (row .result) (row .ensures) _ refl in (
       simp length-set (l .inv .0),
       entering-more (λ _. map cell) _ (l .n) (l .cells) (l .inv .1) (more x) (c .cell-of .result) (rw (c .cell-of .ensures ∙ made)),
       small .1,

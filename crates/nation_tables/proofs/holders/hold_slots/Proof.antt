@@ -29,10 +29,10 @@ start-slots-requires c κs =
     let s0 = c .before .before .before .before .before .before .before .before .before .before .before in
     let tables = s0 .pre .1 .0 in
     let room = s0 .pre .1 .1 in
-    (s0 .pre .0, (tables .switching .words, (tables .initials, (room .slots, room .started))))
+    (s0 .pre .0, (tables .settler .words, (tables .initials, (room .slots, room .started))))
 
 sort-steps-requires : tie.Need-sort-steps-requires
-sort-steps-requires c κs = let p = c .before .before .before .before .before .before .before .before .before .before .before .before .before .before .before .before .before .before .pre in (p .0, (p .1 .0 .switching, (p .1 .1 .keys, p .1 .1 .cells)))
+sort-steps-requires c κs = let p = c .before .before .before .before .before .before .before .before .before .before .before .before .before .before .before .before .before .before .pre in (p .0, (p .1 .0 .settler, (p .1 .1 .keys, p .1 .1 .cells)))
 
 sub-pass : tie.Need-sub-pass
 sub-pass c = zero≤

@@ -1,14 +1,10 @@
 -- There are at most 60,000 changes, so their keys and cells have room.
-use mathlib.Core.Path.{ap, _∙_}
 use Prim.Native.Nat.{_≤_}
 use native.Mathlib.Omega.{arith}
 use borrow.Author.Needs.{needs, zero≤}
-use lib.ListN.{length, length-map}
-use Rattle.format.specs.Campaign.{campaignOf}
 use Rattle.owner_changes.specs.ChangeSteps.{KeysFilled, mostChanges}
 use Rattle.owner_changes.proofs.ChangeLaws.{entered-few}
 use Rattle.owner_changes.proofs.WrittenLaws.{keys-filled}
-use Rattle.nation_tables.proofs.tables.KeyedLaws.{countries-few}
 use Rattle.nation_tables.proofs.slots.HoldersLaws.{stepped}
 use Rattle.nation_tables.proofs.holders.sort_steps.Statement.{statement}
 use Rattle.nation_tables.proofs.holders.sort_steps.Tie as tie
@@ -44,14 +40,12 @@ settle-changes-requires c κs =
     let sorted = c .before .before .before .before .before in
     let filled = sorted .before .before .before .before .before in
     let s0 = start filled in
-    let p = s0 .pre in
-    let words = ap length (p .1 .0 .words) ∙ length-map (campaignOf (s0 .args .s .now) .countries) (λ k. k .tag .0) in (
+    let p = s0 .pre in (
       p .0,
       (
         (
           filled-all filled .counted,
           omega (arith, few filled, sorted .sort-keys .kept .1 .0, p .1 .1 .1),
-          omega (arith, words, countries-few _ (p .0 .accepted)),
         ),
         p .1 .0,
       ),

@@ -4,7 +4,7 @@ use borrow.Author.Needs.{needs}
 use Rattle.format.specs.Campaign.{campaignOf}
 use Rattle.nation_tables.specs.Countries.{initialWords, wordKeys}
 use Rattle.nation_tables.proofs.tables.KeyedLaws.{provinces-few}
-use Rattle.nation_tables.proofs.slots.ChangeCellLaws.{all-sorted}
+use Rattle.nation_tables.proofs.slots.ChangeCellLaws.{first-sorted}
 use Rattle.nation_tables.proofs.slots.HoldersLaws.{slots-there, began}
 use Rattle.nation_tables.proofs.holders.start_slots.Statement.{statement}
 use Rattle.nation_tables.proofs.holders.start_slots.Tie as tie
@@ -16,7 +16,7 @@ start-rows-requires : tie.Need-start-rows-requires
 start-rows-requires c κs =
     let s0 = c .before .before .before .before .before .before in
     let ks = campaignOf (s0 .args .s .now) .countries in
-    (all-sorted (wordKeys 0 (initialWords ks)) _ (s0 .pre .1 .1 .0), slots-there _ _ (s0 .pre .0) _ (s0 .pre .1 .1 .1 .0), omega arith)
+    (first-sorted (wordKeys 0 (initialWords ks)) _ (s0 .pre .1 .1 .0), slots-there _ _ (s0 .pre .0) _ (s0 .pre .1 .1 .1 .0), omega arith)
 
 start-cells-requires : tie.Need-start-cells-requires
 start-cells-requires c κs = search needs

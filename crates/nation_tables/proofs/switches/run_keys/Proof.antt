@@ -1,13 +1,23 @@
--- The keys by row are those of the walk.
+-- The keys of all switches, sorted in their place.
 use borrow.Author.Needs.{needs}
-use Rattle.nation_tables.proofs.tables.PlacedLaws.{row-asked, row-filled}
+use Rattle.nation_tables.proofs.tables.CountryLaws.{filled-inside, sorted-filled}
 use Rattle.nation_tables.proofs.switches.run_keys.Statement.{statement}
 use Rattle.nation_tables.proofs.switches.run_keys.Tie as tie
 
-sorted-keys-requires : tie.Need-sorted-keys-requires
-sorted-keys-requires c κs =
-    let s0 = c .before .before .before .before .before in
-    row-asked _ _ (s0 .pre .0 .0) (s0 .pre .0 .1) (s0 .pre .1)
+all-run-keys-requires : tie.Need-all-run-keys-requires
+all-run-keys-requires c κs = search needs
+
+sub-sort-keys : tie.Need-sub-sort-keys
+sub-sort-keys c = search needs
+
+part-sort-keys-start : tie.Need-part-sort-keys-start
+part-sort-keys-start c = search needs
+
+part-sort-keys-end : tie.Need-part-sort-keys-end
+part-sort-keys-end c = filled-inside _ _ _ _ (c .before .before .all-run-keys .ensures)
+
+sort-keys-requires : tie.Need-sort-keys-requires
+sort-keys-requires c κs = search needs
 
 same-length : tie.Need-same-length
 same-length c = search needs
@@ -16,9 +26,19 @@ same-length-2 : tie.Need-same-length-2
 same-length-2 c = search needs
 
 returns : tie.Need-returns
-returns c = row-filled _ _ _ _ (c .before .before .before .before .sorted-keys .ensures)
+returns c =
+    let sorted = c .before .before .before .before in
+    sorted-filled _ _ _ _ _ (sorted .before .before .before .before .before .all-run-keys .ensures) (sorted .sort-keys .ensures .keys)
 
 pub run-keys-spec : {M : Type 1} → statement M
 run-keys-spec =
     tie.close
-    (tie.spec sorted-keys-requires same-length same-length-2 returns)
+    (tie.spec
+    all-run-keys-requires
+    sub-sort-keys
+    part-sort-keys-start
+    part-sort-keys-end
+    sort-keys-requires
+    same-length
+    same-length-2
+    returns)

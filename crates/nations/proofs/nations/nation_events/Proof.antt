@@ -2,7 +2,7 @@
 use mathlib.Core.Path.{sym, _∙_}
 use borrow.Author.Needs.{needs}
 use Rattle.owner_changes.specs.ChangeSteps.{mostChanges}
-use Rattle.nation_tables.specs.Layout.{mostCountries, mostSwitches, mostSlots}
+use Rattle.nation_tables.specs.Layout.{mostCountries, mostSettling, mostSlots}
 use Rattle.nation_tables.specs.Gathering.{Gathered}
 use Rattle.nations.specs.Cases.{nationCells}
 use Rattle.nations.proofs.answer.ArmLaws.{made, made-room, FullSize, tables-told, tables-refused, rows-placed, none-placed}
@@ -15,7 +15,7 @@ gathered : (c : tie.After-sizes) → Gathered ((c .before .before .before .befor
 gathered c = tables-told ((c .before .before .before .before .before .before .before .before .before .before .before .before .before .before .before .before .before .before .before .before .before .before .before .before .before .before .before) .args .s .now) ((c .before .before .before .before .before .before .before .before .before .before .before) .gather-tables .last .1 .0) ((c .before .before .before .before .before .before .before .before .before .before .before) .gather-tables .last .1 .1 .0) ((c .before .before .before .before .before .before .before .before .before .before .before) .gather-tables .last .1 .1 .1 .0) ((c .before .before .before .before .before .before .before .before .before .before .before) .gather-tables .last .1 .1 .1 .1 .0) ((c .before .before .before .before .before .before .before .before .before .before .before) .gather-tables .last .1 .1 .1 .1 .1 .0) ((c .before .before .before .before .before .before .before .before .before .before .before) .gather-tables .last .1 .1 .1 .1 .1 .1 .0) ((c .before .before .before .before .before .before .before .before .before .before .before) .gather-tables .last .1 .1 .1 .1 .1 .1 .1 .0) ((c .before .before .before .before .before .before .before .before .before .before .before) .gather-tables .last .1 .1 .1 .1 .1 .1 .1 .1 .0) ((c .before .before .before .before .before .before .before .before .before .before .before) .gather-tables .last .1 .1 .1 .1 .1 .1 .1 .1 .1 .0) ((c .before .before .before .before .before .before .before .before .before .before .before) .gather-tables .result) ((c .before .before .before .before .before .before .before .before .before .before .before) .gather-tables .ensures made-room) (c .sizes .given .1)
 
 full : (c : tie.After-sizes) → FullSize ((c .before .before .before .before .before .before .before .before .before .before .before) .gather-tables .last .1 .0) ((c .before .before .before .before .before .before .before .before .before .before .before) .gather-tables .last .1 .1 .0) ((c .before .before .before .before .before .before .before .before .before .before .before) .gather-tables .last .1 .1 .1 .0) ((c .before .before .before .before .before .before .before .before .before .before .before) .gather-tables .last .1 .1 .1 .1 .0) ((c .before .before .before .before .before .before .before .before .before .before .before) .gather-tables .last .1 .1 .1 .1 .1 .0) ((c .before .before .before .before .before .before .before .before .before .before .before) .gather-tables .last .1 .1 .1 .1 .1 .1 .0) ((c .before .before .before .before .before .before .before .before .before .before .before) .gather-tables .last .1 .1 .1 .1 .1 .1 .1 .0) ((c .before .before .before .before .before .before .before .before .before .before .before) .gather-tables .last .1 .1 .1 .1 .1 .1 .1 .1 .0)
-full c = record { allWords = (c .before .before .before .before .before .before .before .before .before .before .before) .gather-tables .kept .1 .0 ∙ made mostCountries; allInitials = (c .before .before .before .before .before .before .before .before .before .before .before) .gather-tables .kept .1 .1 .0 ∙ made mostCountries; allRuns = (c .before .before .before .before .before .before .before .before .before .before .before) .gather-tables .kept .1 .1 .1 .0 ∙ made mostSwitches; allKeys = (c .before .before .before .before .before .before .before .before .before .before .before) .gather-tables .kept .1 .1 .1 .1 .0 ∙ made mostChanges; allCells = (c .before .before .before .before .before .before .before .before .before .before .before) .gather-tables .kept .1 .1 .1 .1 .1 .0 ∙ made mostChanges; allSlots = (c .before .before .before .before .before .before .before .before .before .before .before) .gather-tables .kept .1 .1 .1 .1 .1 .1 .0 ∙ made mostSlots; allStarted = (c .before .before .before .before .before .before .before .before .before .before .before) .gather-tables .kept .1 .1 .1 .1 .1 .1 .1 .0 ∙ made mostCountries; allTurns = (c .before .before .before .before .before .before .before .before .before .before .before) .gather-tables .kept .1 .1 .1 .1 .1 .1 .1 .1 .0 ∙ made mostChanges }
+full c = record { allWords = (c .before .before .before .before .before .before .before .before .before .before .before) .gather-tables .kept .1 .0 ∙ made mostCountries; allInitials = (c .before .before .before .before .before .before .before .before .before .before .before) .gather-tables .kept .1 .1 .0 ∙ made mostCountries; allRuns = (c .before .before .before .before .before .before .before .before .before .before .before) .gather-tables .kept .1 .1 .1 .0 ∙ made mostSettling; allKeys = (c .before .before .before .before .before .before .before .before .before .before .before) .gather-tables .kept .1 .1 .1 .1 .0 ∙ made mostChanges; allCells = (c .before .before .before .before .before .before .before .before .before .before .before) .gather-tables .kept .1 .1 .1 .1 .1 .0 ∙ made mostChanges; allSlots = (c .before .before .before .before .before .before .before .before .before .before .before) .gather-tables .kept .1 .1 .1 .1 .1 .1 .0 ∙ made mostSlots; allStarted = (c .before .before .before .before .before .before .before .before .before .before .before) .gather-tables .kept .1 .1 .1 .1 .1 .1 .1 .0 ∙ made mostCountries; allTurns = (c .before .before .before .before .before .before .before .before .before .before .before) .gather-tables .kept .1 .1 .1 .1 .1 .1 .1 .1 .0 ∙ made mostChanges }
 
 slice-aggregate-gather-tables : tie.Need-slice-aggregate-gather-tables
 slice-aggregate-gather-tables c = sym (made mostCountries)
@@ -24,7 +24,7 @@ slice-aggregate-gather-tables-2 : tie.Need-slice-aggregate-gather-tables-2
 slice-aggregate-gather-tables-2 c = sym (made mostCountries)
 
 slice-aggregate-gather-tables-3 : tie.Need-slice-aggregate-gather-tables-3
-slice-aggregate-gather-tables-3 c = sym (made mostSwitches)
+slice-aggregate-gather-tables-3 c = sym (made mostSettling)
 
 slice-aggregate-gather-tables-4 : tie.Need-slice-aggregate-gather-tables-4
 slice-aggregate-gather-tables-4 c = sym (made mostChanges)
@@ -63,7 +63,7 @@ slice-aggregate-place-nations-2 : tie.Need-slice-aggregate-place-nations-2
 slice-aggregate-place-nations-2 c = sym ((c .before .before .before .before .before .before .before .before .before .before .before .before .before .before .before .before) .gather-tables .kept .1 .1 .0 ∙ made mostCountries)
 
 slice-aggregate-place-nations-3 : tie.Need-slice-aggregate-place-nations-3
-slice-aggregate-place-nations-3 c = sym ((c .before .before .before .before .before .before .before .before .before .before .before .before .before .before .before .before .before) .gather-tables .kept .1 .1 .1 .0 ∙ made mostSwitches)
+slice-aggregate-place-nations-3 c = sym ((c .before .before .before .before .before .before .before .before .before .before .before .before .before .before .before .before .before) .gather-tables .kept .1 .1 .1 .0 ∙ made mostSettling)
 
 slice-aggregate-place-nations-4 : tie.Need-slice-aggregate-place-nations-4
 slice-aggregate-place-nations-4 c = sym ((c .before .before .before .before .before .before .before .before .before .before .before .before .before .before .before .before .before .before) .gather-tables .kept .1 .1 .1 .1 .1 .0 ∙ made mostChanges)

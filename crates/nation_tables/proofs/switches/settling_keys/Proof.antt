@@ -1,11 +1,11 @@
--- The keys of all switches, sorted in their place.
+-- The keys of all switches and countries, sorted in their place.
 use borrow.Author.Needs.{needs}
 use Rattle.nation_tables.proofs.tables.CountryLaws.{filled-inside, sorted-filled}
-use Rattle.nation_tables.proofs.switches.sorted_keys.Statement.{statement}
-use Rattle.nation_tables.proofs.switches.sorted_keys.Tie as tie
+use Rattle.nation_tables.proofs.switches.settling_keys.Statement.{statement}
+use Rattle.nation_tables.proofs.switches.settling_keys.Tie as tie
 
-all-keys-requires : tie.Need-all-keys-requires
-all-keys-requires c κs = search needs
+all-settling-keys-requires : tie.Need-all-settling-keys-requires
+all-settling-keys-requires c κs = search needs
 
 sub-sort-keys : tie.Need-sub-sort-keys
 sub-sort-keys c = search needs
@@ -14,7 +14,7 @@ part-sort-keys-start : tie.Need-part-sort-keys-start
 part-sort-keys-start c = search needs
 
 part-sort-keys-end : tie.Need-part-sort-keys-end
-part-sort-keys-end c = filled-inside _ _ _ _ (c .before .before .all-keys .ensures)
+part-sort-keys-end c = filled-inside _ _ _ _ (c .before .before .all-settling-keys .ensures)
 
 sort-keys-requires : tie.Need-sort-keys-requires
 sort-keys-requires c κs = search needs
@@ -28,13 +28,13 @@ same-length-2 c = search needs
 returns : tie.Need-returns
 returns c =
     let sorted = c .before .before .before .before in
-    sorted-filled _ _ _ _ _ (sorted .before .before .before .before .before .all-keys .ensures) (sorted .sort-keys .ensures .keys)
+    sorted-filled _ _ _ _ _ (sorted .before .before .before .before .before .all-settling-keys .ensures) (sorted .sort-keys .ensures .keys)
 
-pub sorted-keys-spec : {M : Type 1} → statement M
-sorted-keys-spec =
+pub settling-keys-spec : {M : Type 1} → statement M
+settling-keys-spec =
     tie.close
     (tie.spec
-    all-keys-requires
+    all-settling-keys-requires
     sub-sort-keys
     part-sort-keys-start
     part-sort-keys-end

@@ -7,15 +7,17 @@ use borrow.Author.Needs.{needs}
 use lib.ListN.{length}
 use Rattle.record.specs.Cursors.{countryOf, countriesLeft, countryTold}
 use Rattle.format.proofs.CampaignLaws.{told-row, told-length, told-end}
-use Rattle.nation_tables.proofs.tables.PlacedLaws.{Keying, keying-start, keying-here, keying-more, keying-done}
-use Rattle.nation_tables.proofs.switches.all_keys.Statement.{statement}
-use Rattle.nation_tables.proofs.switches.all_keys.Tie as tie
+use Rattle.nation_tables.specs.declared.switches.SwitchOrder.the-variants.{ByRow}
+use Rattle.nation_tables.specs.Switches.{runsFrom}
+use Rattle.nation_tables.proofs.tables.PlacedLaws.{Keying, row-asked, keying-start, keying-here, keying-more, keying-done}
+use Rattle.nation_tables.proofs.switches.all_run_keys.Statement.{statement}
+use Rattle.nation_tables.proofs.switches.all_run_keys.Tie as tie
 
 abbrev Inv-loop : tie.InvT-loop
-Inv-loop s order cells₀ left₀ row₀ k₀ cells left row k = Keying order (countriesLeft s left₀) (countriesLeft s left) cells₀ row k cells
+Inv-loop s cells₀ left₀ row₀ k₀ cells left row k = Keying ByRow (countriesLeft s left₀) (countriesLeft s left) cells₀ row k cells
 
 abbrev μ-loop : tie.MeasureT-loop
-μ-loop s order cells₀ left₀ row₀ k₀ cells left row k = length (countriesLeft s left)
+μ-loop s cells₀ left₀ row₀ k₀ cells left row k = length (countriesLeft s left)
 
 -- what was left is the country of the row, and what the next cursor has left
 told : (c : tie.After-known-told Inv-loop μ-loop)
@@ -25,7 +27,10 @@ told : (c : tie.After-known-told Inv-loop μ-loop)
 told c = told-row (countryTold _) (c .before .before .before .next .ensures) (c .before .country .given .1) refl
 
 loop-holds : tie.Need-loop-holds Inv-loop μ-loop
-loop-holds c = keying-start _ _ _ (c .before .before .pre .0 .0) (c .before .before .pre .0 .1) (c .before .before .pre .1)
+loop-holds c =
+    let p = c .before .before .pre in
+    let a = row-asked _ _ (p .0 .0) (p .0 .1) (p .1) in
+    keying-start _ _ _ (a .0 .0) (a .0 .1) (a .1)
 
 next-requires : tie.Need-next-requires Inv-loop μ-loop
 next-requires c κs = search needs
@@ -61,12 +66,13 @@ same-length : tie.Need-same-length Inv-loop μ-loop
 same-length c = c .before .before .before .loop .inv .cells .long
 
 returns : tie.Need-returns Inv-loop μ-loop
+unfolding runsFrom
 returns c =
     let l = c .before .before .before .loop in
     keying-done _ _ _ _ _ _ _ (l .inv) (told-end (countryTold _) (c .before .before .next .ensures) (c .enum-told .given .1) refl)
 
-pub all-keys-spec : {M : Type 1} → statement M
-all-keys-spec =
+pub all-run-keys-spec : {M : Type 1} → statement M
+all-run-keys-spec =
     tie.close
     (tie.spec
     Inv-loop
