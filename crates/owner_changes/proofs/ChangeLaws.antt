@@ -26,7 +26,8 @@ use Rattle.format.proofs.CampaignLaws.{told-row, told-end}
 use Rattle.format.proofs.BoundLaws.{small-provinces, few-events}
 use Rattle.rules.specs.Chronicle.{Change}
 use Rattle.rules.specs.Changes.{changesFrom, provinceChanges, byDateAndId, changesOf}
-use Rattle.owner_changes.specs.ChangeSteps.{changesLeft, entered, mostChanges, perId, perTag}
+use Rattle.owner_changes.specs.ChangeSteps.{changesLeft, entered, mostChanges}
+pub use Rattle.owner_changes.specs.RowSteps.{Narrow}
 use Rattle.rules.proofs.CampaignLaws.{all-changes}
 
 -- ## One step of the walk
@@ -92,11 +93,6 @@ unfolding changesOf
 changes-few xs h = omega (arith, length-sort byDateAndId (entered xs), entered-few xs h)
 
 -- ## How large their numbers are
-
--- The id of a change takes 16 bits, and its second tag 32.
-pub record Narrow (x : Change) : Type 0 where
-  pub id : x .id .0 < perId
-  pub to : x .to .0 < perTag
 
 pub entered-narrow : (xs : List ℕ) → refusal xs ≡ 0 → All Narrow (entered xs)
 entered-narrow xs h =

@@ -5,3 +5,6 @@ pub mod RoomLaws
 pub mod OutcomeLaws
 pub mod CountLaws
 pub mod WrittenLaws
+pub mod ReadRowLaws
+pub mod EnterRowLaws
+pub mod OwnerRowLaws

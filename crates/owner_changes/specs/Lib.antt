@@ -1,2 +1,3 @@
 pub mod ChangeSteps
+pub mod RowSteps
 pub mod Cases

@@ -1,14 +1,15 @@
 // What is asked of owner changes: all of them in order, and the run of a date.
 use crate::changes;
 use crate::changes::NextChange;
-use crate::keys;
-use crate::keys::MOST_CHANGES;
+use crate::entering;
+use crate::entering::one;
+use crate::keys::CHANGE_WIDTH;
+use crate::rows;
 use record::Dated;
 use record::Eu4Date;
 use record::Opened;
 use record::Provinces;
 ghost use mathlib.Core.Path.{_≡_};
-ghost use Rattle.lists.specs.Lists.{one as oneOf};
 ghost use Rattle.format.specs.Campaign.{campaignOf};
 ghost use Rattle.rules.specs.Lent.{gives};
 ghost use Rattle.rules.specs.Changes.{changesOf, eventsOn};
@@ -22,18 +23,18 @@ pub enum Owners {
     Refused(u32),
 }
 
-// Sorts and counts the changes before the first cell is written.
+// Refuses before the first cell is written; then enters the changes and puts their rows in order.
 fn owner_rows(s: &[u8], provinces: Provinces, out: &mut [u32]) -> Owners
     requires { ⌜ AtFirstProvince (now s) provinces ⌝ }
     ensures { λ r. ⌜ ownersOutcome r (now (out .exit)) ≡ callProvinceOwners (now (s .entry)) (now (out .entry)) ⌝ }
 {
-    let mut sorted = [0u64; MOST_CHANGES];
-    let mut tags = [0u64; MOST_CHANGES];
-    let n = keys::sort_changes(s, provinces, &mut sorted, &mut tags);
-    if out.len() < keys::CHANGE_WIDTH * n {
+    if !entering::has_room(s, provinces, out.len() / CHANGE_WIDTH) {
         return Owners::Refused(10);
     }
-    keys::write_rows(&sorted[0..n], &tags[0..n], out);
+    let walked = entering::enter_rows(s, provinces, out);
+    let n = walked.count;
+    let end = CHANGE_WIDTH * n;
+    rows::order_rows(&mut out[0..end], walked.falls);
     Owners::Rows(n)
 }
 
@@ -55,13 +56,6 @@ pub fn province_owners(s: &[u8], out: &mut [u32]) -> Owners
 pub enum EventsOn {
     Run(usize, usize),
     Refused(u32),
-}
-
-// 1 if it is so, else 0.
-fn one(b: bool) -> usize
-    ensures { λ r. ⌜ r ≡ oneOf b ⌝ }
-{
-    if b { 1 } else { 0 }
 }
 
 // How many changes are before the day, and how many are on it: their order does not matter.

@@ -1,7 +1,9 @@
 // Owner changes.
 mod answers;
 mod changes;
+mod entering;
 mod keys;
+mod rows;
 
 pub use answers::EventsOn;
 pub use answers::Owners;

@@ -1,88 +1,80 @@
--- The outcome by its case: too short a slice, or the rows of the sorted changes.
-use native.Mathlib.Nat.{sub-zero}
-use mathlib.Core.Path.{_∙_}
-use Rattle.owner_changes.specs.ChangeSteps.{mostChanges}
-use Rattle.owner_changes.proofs.ChangeLaws.{changes-few}
-use Rattle.owner_changes.proofs.OutcomeLaws.{owners-short, owners-rows}
-use Prim.Native.Nat.{_≤_}
+-- The outcome by its case: too short a slice, or the rows of the changes, entered and put in order.
+use mathlib.Core.Path.{_≡_, sym, _∙_}
+use mathlib.Core.Bool.{true}
+use Prim.Native.Nat.{_*_, _/_, _≤_}
 use native.Mathlib.Omega.{arith}
-use borrow.Author.Needs.{needs, zero≤}
+use borrow.Author.Tests.{not-true, not-false}
+use lib.Dec.{leb}
+use lib.ListN.{length}
+use Rattle.rules.specs.Changes.{changeWidth}
+use Rattle.owner_changes.specs.ChangeSteps.{changesAhead, mostChanges}
+use Rattle.owner_changes.proofs.OwnerRowLaws.{ahead-few, owners-over, owners-room, entered-whole, entered-falls, owners-ordered}
+use borrow.Author.Needs.{needs}
 use Rattle.owner_changes.proofs.answers.owner_rows.Statement.{statement}
 use Rattle.owner_changes.proofs.answers.owner_rows.Tie as tie
 
--- There are not many changes.
-few : (c : tie.After-sort-changes) → c .sort-changes .result ≤ mostChanges
-few c = let start = c .before .before .before .before .before in omega (arith, changes-few _ (start .pre .accepted), c .sort-changes .ensures .counted)
+-- All changes find room.
+room : (c : tie.Else1) → changeWidth * length (changesAhead (c .before .before .before .before .args .s .now) (c .before .before .before .before .args .provinces)) ≤ length (c .before .before .before .before .args .out .now)
+room c = owners-room _ _ (c .before .before .before .before .pre) (c .before .before .before .before .args .out .now) (sym (c .before .has-room .ensures) ∙ not-false _ (c .if1 .left))
 
-slice-aggregate-sort-changes : tie.Need-slice-aggregate-sort-changes
-slice-aggregate-sort-changes c = search needs
+-- There are not many.
+many : (c : tie.After-enter-rows) → c .enter-rows .result .count ≤ mostChanges
+many c =
+    let start = c .before .before .before .before .before .before in
+    omega (arith, c .enter-rows .ensures .counted, ahead-few _ _ (start .pre))
 
-slice-aggregate-sort-changes-2 : tie.Need-slice-aggregate-sort-changes-2
-slice-aggregate-sort-changes-2 c = search needs
-
-sort-changes-requires : tie.Need-sort-changes-requires
-sort-changes-requires c κs = (c .before .before .before .before .pre, (omega arith, omega arith))
-
-mul-if1 : tie.Need-mul-if1
-mul-if1 c = omega (arith, few (c .before .before))
+has-room-requires : tie.Need-has-room-requires
+has-room-requires c κs = search needs
 
 returns : tie.Need-returns
 returns c =
-    let sorted = c .before .before .before in
-    owners-short _ _ (sorted .before .before .before .before .before .pre .accepted) (omega (arith, c .if1 .taken, sorted .sort-changes .ensures .counted))
+    let start = c .before .before .before .before in
+    owners-over _ _ (start .pre) _ (sym (c .before .has-room .ensures) ∙ not-true _ (c .if1 .taken))
 
-sub-write-rows : tie.Need-sub-write-rows
-sub-write-rows c = zero≤
+enter-rows-requires : tie.Need-enter-rows-requires
+enter-rows-requires c κs = room (c .before)
 
-part-write-rows-start : tie.Need-part-write-rows-start
-part-write-rows-start c = zero≤
+mul-end : tie.Need-mul-end
+mul-end c = omega (arith, many (c .before .before))
 
-part-write-rows-end : tie.Need-part-write-rows-end
-part-write-rows-end c =
-    let sorted = c .before .before .before .before in
-    omega (arith, few sorted, sorted .sort-changes .kept .1 .1 .0)
+sub-order-rows : tie.Need-sub-order-rows
+sub-order-rows c = search needs
 
-sub-write-rows-2 : tie.Need-sub-write-rows-2
-sub-write-rows-2 c = zero≤
+part-order-rows-start : tie.Need-part-order-rows-start
+part-order-rows-start c = search needs
 
-part-write-rows-start-2 : tie.Need-part-write-rows-start-2
-part-write-rows-start-2 c = zero≤
+part-order-rows-end : tie.Need-part-order-rows-end
+part-order-rows-end c =
+    let walked = c .before .before in
+    omega (arith, walked .enter-rows .ensures .counted, walked .enter-rows .kept .1 .1 .0, room (walked .before .before))
 
-part-write-rows-end-2 : tie.Need-part-write-rows-end-2
-part-write-rows-end-2 c =
-    let sorted = c .before .before .before .before .before .before in
-    omega (arith, few sorted, sorted .sort-changes .kept .1 .1 .1 .0)
-
-write-rows-requires : tie.Need-write-rows-requires
-write-rows-requires c κs = search needs
+order-rows-requires : tie.Need-order-rows-requires
+order-rows-requires c κs =
+    let walked = c .before .before .before in
+    let start = walked .before .before .before .before .before .before in
+    (entered-whole _ _ (start .pre) _ _ _ (walked .enter-rows .ensures), entered-falls _ _ (start .pre) _ _ _ (walked .enter-rows .ensures))
 
 same-length : tie.Need-same-length
 same-length c = search needs
 
 returns-2 : tie.Need-returns-2
 returns-2 c =
-    let fits = c .before .before .before .before .before .before .before .before in
-    let sorted = fits .before .before .before in
-    let start = sorted .before .before .before .before .before in
-    let answer = sorted .sort-changes .ensures in
-    owners-rows _ _ _ _ (start .pre .accepted) (answer .counted) (omega (arith, fits .if1 .left))
-    (c .before .before .write-rows .ensures ∙ simp (sub-zero, answer .changes))
+    let ordered = c .before .before in
+    let walked = ordered .before .before .before .before in
+    let start = walked .before .before .before .before .before .before in
+    owners-ordered _ _ (start .pre) _ _ _ (walked .enter-rows .ensures) (room (walked .before .before)) _ (ordered .order-rows .ensures)
 
 pub owner-rows-spec : {M : Type 1} → statement M
 owner-rows-spec =
     tie.close
     (tie.spec
-    slice-aggregate-sort-changes
-    slice-aggregate-sort-changes-2
-    sort-changes-requires
-    mul-if1
+    has-room-requires
     returns
-    sub-write-rows
-    part-write-rows-start
-    part-write-rows-end
-    sub-write-rows-2
-    part-write-rows-start-2
-    part-write-rows-end-2
-    write-rows-requires
+    enter-rows-requires
+    mul-end
+    sub-order-rows
+    part-order-rows-start
+    part-order-rows-end
+    order-rows-requires
     same-length
     returns-2)

@@ -19,6 +19,8 @@ mod ledgers;
 #[cfg(found)]
 mod nations;
 #[cfg(found)]
+mod orders;
+#[cfg(found)]
 mod owners;
 #[cfg(found)]
 mod page;

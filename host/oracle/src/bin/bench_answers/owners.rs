@@ -6,6 +6,7 @@ use chronicle_host::extremes::{in_order, owners, reversed, rising};
 use chronicle_host::pack::{pack, Campaign};
 use chronicle_oracle::rust::Rust;
 
+use crate::orders::{self, game};
 use crate::race::{self, heading, spent, Timed};
 
 /// How the province rows stand, and what puts them so; they are drawn shuffled.
@@ -29,6 +30,25 @@ pub fn all(rounds: usize) {
             race(&format!("{events} events"), &arranged(owners(events, 1)), events, rounds);
         }
     }
+    heading("province_owners: C = 2,000, one province with E = 60,000");
+    for (order, made) in orders::ALL {
+        race(order, &orders::one_province(&made(60_000)), 60_000, rounds);
+    }
+    heading("province_owners: C = 800, P = 4,000, E = 15,000, as a game writes them");
+    race("dates rising in a province", &game(), 15_000, rounds);
+    heading("province_owners: small records");
+    for events in [3, 30, 300] {
+        race(&format!("{events} events"), &owners_of(events), events, 20 * rounds);
+    }
+}
+
+/// As many events in as many provinces.
+fn owners_of(events: usize) -> Campaign {
+    let mut campaign = in_order(rising(owners(60_000, 1)));
+    campaign.countries.truncate(events);
+    campaign.provinces.truncate(events);
+    campaign.provinces.iter_mut().for_each(|province| province.events.truncate(1));
+    campaign
 }
 
 fn race(name: &str, campaign: &Campaign, rows: usize, rounds: usize) {

@@ -1,0 +1,85 @@
+//! Orders in which the changes of one province may come, each disliked by some sort.
+
+use chronicle_host::extremes::{in_order, owners, rising};
+use chronicle_host::generate::{sized, Random};
+use chronicle_host::layout::Counts;
+use chronicle_host::pack::{Campaign, Date, OwnerEvent};
+
+/// A name, and so many ranks in that order.
+pub type Order = (&'static str, fn(usize) -> Vec<usize>);
+
+/// Rising, falling, in runs, and such as part badly.
+pub const ALL: [Order; 11] = [
+    ("rising", |n| (0..n).collect()),
+    ("falling", |n| (0..n).rev().collect()),
+    ("one day", |n| vec![0; n]),
+    ("two runs", |n| runs(n, 2)),
+    ("ten runs", |n| runs(n, 10)),
+    ("ten falling runs", |n| runs(n, 10).into_iter().rev().collect()),
+    ("a hundred runs", |n| runs(n, 100)),
+    ("a thousand runs", |n| runs(n, 1000)),
+    ("up and down", |n| (0..n / 2).chain((n / 2..n).rev()).collect()),
+    ("worst for a pivot of nine", worst_for_pivots),
+    ("shuffled", shuffled),
+];
+
+/// So many runs that all span the whole: the first ranks of each run, then the second of each.
+fn runs(n: usize, count: usize) -> Vec<usize> {
+    (0..count).flat_map(|run| (run..n).step_by(count)).collect()
+}
+
+fn shuffled(n: usize) -> Vec<usize> {
+    let mut random = Random::new(3);
+    let mut ranks: Vec<usize> = (0..n).collect();
+    for last in (1..n).rev() {
+        let places: Vec<usize> = vec![last, last / 2, last / 3, last / 5, 0];
+        ranks.swap(last, random.pick(&places));
+    }
+    ranks
+}
+
+/// The sort takes its pivot from nine places, a median of three medians, and keeps the order of those
+/// that are not below it. Here four of the nine are always the least that have no rank yet: so three
+/// or four go below the pivot, and all others stay. What is left after so many pivots is shuffled.
+fn worst_for_pivots(n: usize) -> Vec<usize> {
+    let mut ranks: Vec<Option<usize>> = vec![None; n];
+    let mut left: Vec<usize> = (0..n).collect();
+    let mut next = 0;
+    for _ in 0..100 {
+        let step = (left.len() - 1) / 8;
+        for place in [0, step, 3 * step, 4 * step] {
+            if ranks[left[place]].is_none() {
+                ranks[left[place]] = Some(next);
+                next += 1;
+            }
+        }
+        left.retain(|&at| ranks[at].is_none_or(|rank| rank + 1 == next));
+    }
+    let mut others = shuffled(n - next).into_iter().map(|rank| rank + next);
+    ranks.into_iter().map(|rank| rank.unwrap_or_else(|| others.next().unwrap())).collect()
+}
+
+/// One province with an event for each rank, every one a change.
+pub fn one_province(ranks: &[usize]) -> Campaign {
+    let mut campaign = in_order(owners(ranks.len(), 1));
+    let turns = [campaign.countries[1].tag, campaign.countries[0].tag];
+    campaign.provinces.truncate(1);
+    campaign.provinces[0].owner = turns[1];
+    campaign.provinces[0].events = ranks
+        .iter()
+        .enumerate()
+        .map(|(at, rank)| OwnerEvent { date: nth_day(*rank), tag: turns[at % 2] })
+        .collect();
+    campaign
+}
+
+/// A record of the size that games leave, events by date within each province.
+pub fn game() -> Campaign {
+    rising(sized(&Counts::of(&[('C', 800), ('P', 4_000), ('B', 40), ('E', 15_000)]), 1))
+}
+
+/// Days one behind the other, 28 to a month.
+fn nth_day(number: usize) -> Date {
+    let (month, day) = (number / 28, number % 28);
+    ((1445 + month / 12) * 10_000 + (month % 12 + 1) * 100 + day + 1) as Date
+}
