@@ -6,5 +6,6 @@ pub mod OutcomeLaws
 pub mod CountLaws
 pub mod WrittenLaws
 pub mod ReadRowLaws
+pub mod RowTurnLaws
 pub mod EnterRowLaws
 pub mod OwnerRowLaws
