@@ -24,7 +24,6 @@ use Rattle.record.specs.Cursors.{ownerEventsLeft, ownerEventTold, provincesLeft
 use Rattle.format.specs.Refusal.{refusal}
 use Rattle.format.proofs.CampaignLaws.{told-row, told-end}
 use Rattle.format.proofs.BoundLaws.{small-provinces, few-events}
-use Rattle.rules.specs.Chronicle.{Change}
 use Rattle.rules.specs.Changes.{changesFrom, provinceChanges, byDateAndId, changesOf}
 use Rattle.owner_changes.specs.ChangeSteps.{changesLeft, entered, mostChanges}
 pub use Rattle.owner_changes.specs.RowSteps.{Narrow}

@@ -1,10 +1,8 @@
 -- The outcome by its case: too short a slice, or the rows of the changes, entered and put in order.
-use mathlib.Core.Path.{_≡_, sym, _∙_}
-use mathlib.Core.Bool.{true}
-use Prim.Native.Nat.{_*_, _/_, _≤_}
+use mathlib.Core.Path.{sym, _∙_}
+use Prim.Native.Nat.{_*_, _≤_}
 use native.Mathlib.Omega.{arith}
 use borrow.Author.Tests.{not-true, not-false}
-use lib.Dec.{leb}
 use lib.ListN.{length}
 use Rattle.rules.specs.Changes.{changeWidth}
 use Rattle.owner_changes.specs.ChangeSteps.{changesAhead, mostChanges}

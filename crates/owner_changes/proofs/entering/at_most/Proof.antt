@@ -1,11 +1,9 @@
 -- The invariant: the changes left fit into the room left just if all changes fit. The changes left measure the loop.
-use mathlib.Core.Path.{_≡_, refl, sym, ap, _∙_}
-use mathlib.Core.Bool.{true, false}
+use mathlib.Core.Path.{_≡_, refl, sym, ap}
 use mathlib.Core.List.{_∷_}
 use native.Mathlib.Omega.{arith}
 use Prim.Native.Nat.{_+_}
 use borrow.Author.Tests.{le-leb, lt-leb}
-use lib.Dec.{leb}
 use lib.ListN.{length}
 use Rattle.lists.specs.Lists.{joinOf}
 use Rattle.format.proofs.CampaignLaws.{told-row, told-end}

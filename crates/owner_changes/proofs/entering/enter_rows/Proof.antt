@@ -1,5 +1,5 @@
 -- The invariant: the rows of the changes passed stand at the front, and the falls of their keys are counted. The changes left measure the loop.
-use mathlib.Core.Path.{_≡_, refl, sym, ap, _∙_}
+use mathlib.Core.Path.{_≡_, refl, sym, ap}
 use mathlib.Core.List.{_∷_}
 use native.Mathlib.Omega.{arith}
 use Prim.Native.Nat.{_*_}
