@@ -7,7 +7,8 @@ use Prim.Native.Nat.{ℕ, _+_, _/_, _%_, _<_, _≤_}
 use native.Mathlib.Nat.{mod-eq-of-lt}
 use native.Mathlib.Omega.{arith}
 use lib.Dec.{eqb}
-use lib.ListN.{length, getD, length-map}
+use lib.ListN.{length, take, getD, length-map}
+use lib.Seq.{getD-take}
 use Rattle.lists.specs.Lists.{All, joinOf, firstThat, numbersFrom}
 use Rattle.lists.specs.Text.{ascii}
 use Rattle.lists.proofs.BoolLaws.{cases, and-left, and-right}
@@ -17,18 +18,14 @@ use Rattle.format.specs.Tags.{isTag, created, sameTag, tagOf}
 use Rattle.format.proofs.TagLaws.{tag-bytes}
 use Rattle.rules.specs.Chronicle.{Entry, Nation}
 use Rattle.rules.specs.NationRows.{NationRow, nationRowsIn, nationsIn, tagsShaped, wellShaped}
-use Rattle.rules.specs.Page.{oneMore, selectionOf, tagsRead, decimal, tagText, line, isLiving, tagLine, pageText}
+use Rattle.rules.specs.Page.{oneMore, selectionOf, decimal, tagText, line, isLiving, tagLine, pageText}
 use Rattle.chronicle_rows.specs.RowAt.{nationRowAt, entryAt, entriesAt, nationNumbered}
 use Rattle.chronicle_rows.proofs.NumberedLaws.{nation-tags, nations-numbered}
 use Rattle.search.specs.Places.{placeFrom}
 use Rattle.search.proofs.PlaceLaws.{first-placed, place-inside}
-use Rattle.page_text.specs.declared.text.Text.{Text}
-use Rattle.page_text.specs.Selecting.{IsTags}
-use Rattle.page_text.specs.Status.{livingBy}
 use Rattle.page_text.specs.Lines.{tagField, statusField, rowLine, absentLine, heading}
-use Rattle.page_text.specs.Stored.{tagsStored, livingCells, lineAt, lineOf, linesOf}
-use Rattle.page_text.specs.Texts.{TextWritten, WritesText}
-use Rattle.page_text.proofs.StatusLaws.{living-rule}
+use Rattle.page_text.specs.Stored.{tagsStored, lineAt, lineOf, linesOf}
+use Rattle.page_text.specs.Texts.{textOf}
 
 -- ## Tags that were read
 
@@ -64,14 +61,6 @@ tags-tagged (a ∷ b ∷ c ∷ []) tags e = absurd (Option·none-ne-some tags e)
 tags-tagged (a ∷ b ∷ c ∷ d ∷ rest) tags e =
     one-tagged (created (a ∷ b ∷ c ∷ [])) (eqb d 10) (selectionOf rest) tags (created-tag (a ∷ b ∷ c ∷ [])) (tags-tagged rest) e
 
--- A selection whose tags were counted is tags.
-pub tags-counted : (n : ℕ) (o : Option (List CountryTag)) → some n ≡ Option·map length o → o ≡ some (tagsRead o)
-tags-counted n none e = absurd (Option·none-ne-some n (sym e))
-tags-counted n (some ts) e = refl
-
-pub tags-uncounted : (o : Option (List CountryTag)) (tags : List CountryTag) → none ≡ Option·map length o → o ≡ some tags → ⊥
-tags-uncounted o tags e k = Option·none-ne-some (length tags) (e ∙ ap (Option·map length) k)
-
 -- ## Lines
 
 tag-field : (t : CountryTag) → isTag t ≡ true → tagField t ≡ tagText t ++ (32 ∷ [])
@@ -98,24 +87,23 @@ absent-line : (t : CountryTag) → isTag t ≡ true → absentLine t ≡ tagLine
 unfolding tagLine line
 absent-line t h = ap (λ (f : List ℕ). f ++ ascii "absent\n") (tag-field t h)
 
-row-line : (t : CountryTag) (r : NationRow) (ents : List Entry) (b : Bool) → tagsShaped r ≡ true → length ents ≡ r .count → b ≡ livingBy ents
+row-line : (t : CountryTag) (r : NationRow) (ents : List Entry) (b : Bool) → tagsShaped r ≡ true → length ents ≡ r .count
+    → b ≡ isLiving (record { initial = r .initial; latest = r .latest; stored = r .stored; entries = ents })
     → rowLine r b ≡ tagLine t (some (record { initial = r .initial; latest = r .latest; stored = r .stored; entries = ents }))
 unfolding tagLine
 row-line t r ents b h l e =
     let n : Nation = record { initial = r .initial; latest = r .latest; stored = r .stored; entries = ents } in
     let two = and-left (isTag (r .initial) && isTag (r .latest)) (isTag (r .stored)) h in
-    ap₂ (λ (c : ℕ) (s : Bool). tagField (r .stored) ++ (tagField (r .initial) ++ (tagField (r .latest) ++ (decimal c ++ statusField s)))) (sym l) (e ∙ living-rule n)
+    ap₂ (λ (c : ℕ) (s : Bool). tagField (r .stored) ++ (tagField (r .initial) ++ (tagField (r .latest) ++ (decimal c ++ statusField s)))) (sym l) e
     ∙ fields-line (r .stored) (r .initial) (r .latest) (length ents) (isLiving n) (and-right (isTag (r .initial) && isTag (r .latest)) (isTag (r .stored)) h)
     (and-left (isTag (r .initial)) (isTag (r .latest)) two) (and-right (isTag (r .initial)) (isTag (r .latest)) two)
 
 -- ## The page
 
-module _ (ws es : List ℕ) (shaped : wellShaped ws es ≡ true) where
+module _ (ws es : List ℕ) (shaped : wellShaped ws es ≡ true) (cells : List Bool)
+    (living : take (length (nationRowsIn ws)) cells ≡ map isLiving (nationsIn ws es)) where
   abbrev rows : ℕ
   rows = length (nationRowsIn ws)
-
-  abbrev cells : List Bool
-  cells = livingCells ws es 0 rows
 
   abbrev none-known : Nation
   none-known = nationNumbered ws es 0
@@ -134,11 +122,13 @@ module _ (ws es : List ℕ) (shaped : wellShaped ws es ≡ true) where
         ∙ numbers-at (nationNumbered ws es) none-known 0 rows i h
         ∙ ap (nationNumbered ws es) z
 
-    cell-here : getD cells i false ≡ livingBy (entriesAt es (nationRowAt ws i .first) (nationRowAt ws i .count))
+    cell-here : getD cells i false ≡ isLiving (nationNumbered ws es i)
     cell-here =
         let z : 0 + i ≡ i = omega arith in
-        numbers-at (λ (j : ℕ). livingBy (entriesAt es (nationRowAt ws j .first) (nationRowAt ws j .count))) false 0 rows i h
-        ∙ ap (λ (j : ℕ). livingBy (entriesAt es (nationRowAt ws j .first) (nationRowAt ws j .count))) z
+        sym (getD-take rows cells i false h)
+        ∙ ap (λ (l : List Bool). getD l i false) (living ∙ ap (map isLiving) (nations-numbered ws es shaped) ∙ map-then (nationNumbered ws es) isLiving (numbersFrom 0 rows))
+        ∙ numbers-at (λ (j : ℕ). isLiving (nationNumbered ws es j)) false 0 rows i h
+        ∙ ap (λ (j : ℕ). isLiving (nationNumbered ws es j)) z
 
     count-here : length (entriesAt es (nationRowAt ws i .first) (nationRowAt ws i .count)) ≡ nationRowAt ws i .count
     count-here =
@@ -171,18 +161,7 @@ module _ (ws es : List ℕ) (shaped : wellShaped ws es ≡ true) where
   lines-found [] h = refl
   lines-found (t ∷ ts) h = ap₂ _++_ (line-found t (h .0)) (lines-found ts (h .1))
 
-  page-text : (tags : List CountryTag) → Tagged tags → heading (length tags) ++ linesOf ws cells tags ≡ pageText (nationsIn ws es) tags
+  -- The text by rows and cells is the page of the nations that they tell.
+  pub text-page : (selection : List ℕ) (tags : List CountryTag) → selectionOf selection ≡ some tags → textOf ws cells tags ≡ pageText (nationsIn ws es) tags
   unfolding pageText line
-  page-text tags h = ap (λ (l : List ℕ). heading (length tags) ++ l) (lines-found tags h)
-
-pub text-told : (ws es sel : List ℕ) (living : List Bool) (count : ℕ) (r : Text) (before after : List ℕ)
-    → some count ≡ Option·map length (selectionOf sel) → living ≡ livingCells ws es 0 (length (nationRowsIn ws))
-    → TextWritten r (heading count ++ linesOf ws living (tagsRead (selectionOf sel))) before after
-    → WritesText ws es sel r before after
-text-told ws es sel living count r before after told l w shaped few tags e =
-    let counted : count ≡ length tags = Option·some-injective count (length tags) (told ∙ ap (Option·map length) e) in
-    let same : heading count ++ linesOf ws living (tagsRead (selectionOf sel)) ≡ pageText (nationsIn ws es) tags =
-    ap₂ (λ (n : ℕ) (cs : List Bool). heading n ++ linesOf ws cs (tagsRead (selectionOf sel))) counted l
-    ∙ ap (λ (o : Option (List CountryTag)). heading (length tags) ++ linesOf ws (livingCells ws es 0 (length (nationRowsIn ws))) (tagsRead o)) e
-    ∙ page-text ws es shaped tags (tags-tagged sel tags e) in
-    subst (λ (text : List ℕ). TextWritten r text before after) same w
+  text-page selection tags e = ap (λ (l : List ℕ). heading (length tags) ++ l) (lines-found tags (tags-tagged selection tags e))

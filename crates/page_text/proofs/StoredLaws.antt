@@ -1,4 +1,4 @@
--- The tables of nations: filled row by row, the keys then sorted, and a tag's line found by them.
+-- The table of nations: filled row by row, the keys then sorted, and a tag's line found by them.
 use mathlib.Core.Path.{_≡_, refl, sym, ap, _∙_}
 use mathlib.Core.Bool.{Bool, false}
 use mathlib.Core.List.{List, [], _∷_, _++_, map}
@@ -19,18 +19,17 @@ use Rattle.sorting.proofs.SortedKeyLaws.{sorted-front}
 use Rattle.format.specs.declared.tag.CountryTag.{CountryTag}
 use Rattle.rules.specs.Lent.{written}
 use Rattle.rules.specs.NationRows.{NationRow, nationRowsIn}
-use Rattle.chronicle_rows.specs.RowAt.{nationRowAt, entriesAt}
+use Rattle.chronicle_rows.specs.RowAt.{nationRowAt}
 use Rattle.search.specs.declared.places.Place as Place
 use Rattle.search.specs.Places.{tagKey, tagKeysFrom, placeFrom, placeTold}
 use Rattle.search.proofs.PlaceLaws.{place-inside}
-use Rattle.page_text.specs.Status.{livingBy}
 use Rattle.page_text.specs.Lines.{rowLine, absentLine}
-use Rattle.page_text.specs.Stored.{storedTags, tagsStored, livingCells, KeysSorted, Tabled, lineAt, lineOf}
+use Rattle.page_text.specs.Stored.{storedTags, tagsStored, KeysSorted, LineTables, lineAt, lineOf}
 
 -- ## Filled row by row
 
 module _ {A : Type 0} (f : ℕ → A) where
-  length-numbered : (a n : ℕ) → length (map f (numbersFrom a n)) ≡ n
+  pub length-numbered : (a n : ℕ) → length (map f (numbersFrom a n)) ≡ n
   length-numbered a n = length-map (numbersFrom a n) f ∙ length-numbers a n
 
   pub numbered-next : (i n : ℕ) → i < n → map f (numbersFrom i (n - i)) ≡ f i ∷ map f (numbersFrom (i + 1) (n - (i + 1)))
@@ -63,9 +62,6 @@ module _ (ws : List ℕ) where
   length-stored : (n : ℕ) → length (tagKeysFrom 0 (storedTags ws 0 n)) ≡ n
   length-stored n = length-keys 0 (storedTags ws 0 n) ∙ length-numbered (λ (i : ℕ). nationRowAt ws i .stored) 0 n
 
-  length-living : (es : List ℕ) (n : ℕ) → length (livingCells ws es 0 n) ≡ n
-  length-living es n = length-numbered (λ (i : ℕ). livingBy (entriesAt es (nationRowAt ws i .first) (nationRowAt ws i .count))) 0 n
-
   pub keys-start : (n : ℕ) (keys : List ℕ) → n ≤ length keys → Filling (tagKeysFrom 0 (storedTags ws 0 n)) (tagKeysFrom 0 (storedTags ws 0 (n - 0))) keys 0 keys
   keys-start n keys h = rw (sub-zero n) (filling-new (tagKeysFrom 0 (storedTags ws 0 n)) keys (omega (arith, length-stored n, h)))
 
@@ -75,11 +71,6 @@ module _ (ws : List ℕ) where
 
   pub keys-none : (i n : ℕ) → n ≤ i → tagKeysFrom i (storedTags ws i (n - i)) ≡ []
   keys-none i n h = ap (tagKeysFrom i) (numbered-none (λ (j : ℕ). nationRowAt ws j .stored) i n h) ∙ keys-nil i
-
-  pub living-filled : (es : List ℕ) (n m : ℕ) (cells₀ cells : List Bool) → n ≡ m → cells ≡ livingCells ws es 0 n ++ drop (length (livingCells ws es 0 n)) cells₀
-      → cells ≡ livingCells ws es 0 m ++ drop m cells₀
-  living-filled es n m cells₀ cells e w =
-      w ∙ ap (λ (j : ℕ). livingCells ws es 0 n ++ drop j cells₀) (length-living es n) ∙ ap (λ (j : ℕ). livingCells ws es 0 j ++ drop j cells₀) e
 
   -- ## Sorted
 
@@ -106,26 +97,17 @@ module _ (ws : List ℕ) where
           cells = ap (take rows) cells ∙ take-at (sortBy leb all) (drop (length (sortBy leb all)) keys₀) rows size;
         }
 
-    pub living-inside : (es : List ℕ) (cells₀ cells : List Bool) → cells ≡ livingCells ws es 0 rows ++ drop rows cells₀ → n ≤ length cells
-    living-inside es cells₀ cells w =
-        omega (arith, counted, ap length w ∙ length-append (livingCells ws es 0 rows) (drop rows cells₀), length-living es rows)
-
-    pub living-all : (es : List ℕ) (cells₀ cells : List Bool) → cells ≡ livingCells ws es 0 rows ++ drop rows cells₀ → take (n - 0) cells ≡ livingCells ws es 0 rows
-    living-all es cells₀ cells w =
-        rw (sub-zero n) (ap (take n) w ∙ take-at (livingCells ws es 0 rows) (drop rows cells₀) n (length-living es rows ∙ sym counted))
-
-    pub tabled : (es keys : List ℕ) (cells : List Bool) → n ≤ 2000 → KeysSorted ws keys → take (n - 0) cells ≡ livingCells ws es 0 rows
-        → Tabled ws (take (n - 0) keys) (take (n - 0) cells)
-    tabled es keys cells few s l =
+    pub tabled : (keys : List ℕ) (cells : List Bool) → n ≤ 2000 → n ≤ length cells → KeysSorted ws keys → LineTables ws (take (n - 0) keys) cells
+    tabled keys cells few long s =
         record {
           few = omega (arith, counted, few);
           sorted = ap (λ (j : ℕ). take j keys) (sub-zero n ∙ counted) ∙ s .cells;
-          long = ap length l ∙ length-living es rows;
+          long = omega (arith, counted, long);
         }
 
 -- ## A tag's line
 
-module _ {ws keys : List ℕ} {cells : List Bool} (x : Tabled ws keys cells) (tag : CountryTag) (r : Place.Place)
+module _ {ws keys : List ℕ} {cells : List Bool} (x : LineTables ws keys cells) (tag : CountryTag) (r : Place.Place)
     (told : (ts : List CountryTag) → length ts ≤ 65536 → keys ≡ sortBy leb (tagKeysFrom 0 ts) → placeTold r ≡ placeFrom 0 tag ts) where
   length-tags : length (tagsStored ws) ≡ length (nationRowsIn ws)
   length-tags = length-numbered (λ (i : ℕ). nationRowAt ws i .stored) 0 (length (nationRowsIn ws))

@@ -1,5 +1,4 @@
 pub mod Selecting
-pub mod Status
 pub mod Lines
 pub mod Stored
 pub mod Texts

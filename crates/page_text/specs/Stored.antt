@@ -10,9 +10,8 @@ use Rattle.lists.specs.Lists.{joinOf, numbersFrom}
 use Rattle.sorting.specs.Sort.{sortBy}
 use Rattle.format.specs.declared.tag.CountryTag.{CountryTag}
 use Rattle.rules.specs.NationRows.{nationRowsIn}
-use Rattle.chronicle_rows.specs.RowAt.{nationRowAt, entriesAt}
+use Rattle.chronicle_rows.specs.RowAt.{nationRowAt}
 use Rattle.search.specs.Places.{tagKeysFrom, placeFrom}
-use Rattle.page_text.specs.Status.{livingBy}
 use Rattle.page_text.specs.Lines.{rowLine, absentLine}
 
 -- The tags that so many nations from a number on are stored under.
@@ -23,20 +22,16 @@ storedTags ws a n = map (λ i. nationRowAt ws i .stored) (numbersFrom a n)
 abbrev pub tagsStored : List ℕ → List CountryTag
 tagsStored ws = storedTags ws 0 (length (nationRowsIn ws))
 
--- Which of so many nations from a number on are living.
-abbrev pub livingCells : List ℕ → List ℕ → ℕ → ℕ → List Bool
-livingCells ws es a n = map (λ i. livingBy (entriesAt es (nationRowAt ws i .first) (nationRowAt ws i .count))) (numbersFrom a n)
-
 -- The first of the keys are those of the stored tags, in order.
 pub record KeysSorted (ws keys : List ℕ) : Type 0 where
   pub long : length keys ≡ 2000
   pub cells : take (length (nationRowsIn ws)) keys ≡ sortBy leb (tagKeysFrom 0 (tagsStored ws))
 
--- What the line of a tag is found by: the sorted keys of all nations, and a cell for each.
-pub record Tabled (ws keys : List ℕ) (cells : List Bool) : Type 0 where
+-- What the line of a tag is found by: the sorted keys of all nations, and a status cell for each.
+pub record LineTables (ws keys : List ℕ) (cells : List Bool) : Type 0 where
   pub few : length (nationRowsIn ws) ≤ 2000
   pub sorted : keys ≡ sortBy leb (tagKeysFrom 0 (tagsStored ws))
-  pub long : length cells ≡ length (nationRowsIn ws)
+  pub long : length (nationRowsIn ws) ≤ length cells
 
 -- The line of a tag, by the number of its nation.
 abbrev pub lineAt : List ℕ → List Bool → CountryTag → Option ℕ → List ℕ

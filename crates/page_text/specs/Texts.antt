@@ -1,25 +1,45 @@
--- What `write_text` promises, by case.
-use mathlib.Core.Path.{_≡_}
-use mathlib.Core.Bool.{true}
-use mathlib.Core.List.{List}
-use mathlib.Core.Option.{some}
-use Prim.Native.Nat.{ℕ, _<_, _≤_}
+-- What `write_text` promises: the text of nation rows with a status cell for each, and the outcome of the call.
+use mathlib.Core.Bool.{Bool, _&&_}
+use mathlib.Core.List.{List, [], _∷_, _++_}
+use Prim.Native.Nat.{ℕ}
+use lib.Dec.{leb}
 use lib.ListN.{length}
 use Rattle.format.specs.declared.tag.CountryTag.{CountryTag}
-use Rattle.rules.specs.Lent.{written}
-use Rattle.rules.specs.NationRows.{nationRowsIn, nationsIn, wellShaped}
-use Rattle.rules.specs.Page.{selectionOf, pageText}
-use Rattle.page_text.specs.declared.text.Text as Text
+use Rattle.format.specs.Refusal.{firstOf}
+use Rattle.rules.specs.Lent.{Answer, refused, gives, written, fits, roomNumber, Outcome, outcome}
+use Rattle.rules.specs.NationRows.{nationRowsIn}
+use Rattle.rules.specs.Page.{selectionOf, tagsRead}
+use Rattle.rules.specs.PageOutcomes.{selectionNumber}
+use Rattle.page_text.specs.declared.text.PageText as PageText
+use Rattle.page_text.specs.Lines.{heading}
+use Rattle.page_text.specs.Stored.{linesOf}
 
--- A text is written, and its length answered; or there is no room for it, and nothing is written.
-abbrev pub TextWritten : Text.Text → List ℕ → List ℕ → List ℕ → Type 0
-TextWritten (Text.the-variants.Bytes n) text before after = (n ≡ length text) × (length text ≤ length before) × (after ≡ written text before)
-TextWritten Text.the-variants.NoRoom text before after = (length before < length text) × (after ≡ before)
+abbrev pub textAnswer : PageText.PageText → Answer ℕ
+textAnswer (PageText.the-variants.Bytes n) = gives n
+textAnswer (PageText.the-variants.Refused n) = refused n
 
--- Of a well-shaped chronicle of at most 2,000 nations and a selection that is tags, that text is the page.
-abbrev pub WritesText : List ℕ → List ℕ → List ℕ → Text.Text → List ℕ → List ℕ → Type 0
-WritesText ws es sel r before after =
-    wellShaped ws es ≡ true
-    → length (nationRowsIn ws) ≤ 2000
-    → (tags : List CountryTag) → selectionOf sel ≡ some tags
-    → TextWritten r (pageText (nationsIn ws es) tags) before after
+-- The answer with the lent output after the call.
+abbrev pub textOutcome : PageText.PageText → List ℕ → Outcome ℕ (List ℕ)
+textOutcome r after = record { answer = textAnswer r; memory = after }
+
+-- Bytes are written where they have room, and counted.
+abbrev pub callLines : List ℕ → List ℕ → Outcome ℕ (List ℕ)
+callLines text before = outcome (roomNumber (fits text before)) (length text) (written text before) before
+
+-- The text of tags, by nation rows and a status cell for each.
+abbrev pub textOf : List ℕ → List Bool → List CountryTag → List ℕ
+textOf ws cells tags = heading (length tags) ++ linesOf ws cells tags
+
+-- 10: more rows than a record can have nations, or a row without a status cell.
+abbrev pub rowsNumber : List ℕ → List Bool → ℕ
+rowsNumber ws cells = roomNumber (leb (length (nationRowsIn ws)) 2000 && leb (length (nationRowsIn ws)) (length cells))
+
+-- Refused by the rows, by a selection that is not tags, or for want of room.
+unfoldable pub callText : List ℕ → List Bool → List ℕ → List ℕ → Outcome ℕ (List ℕ)
+callText ws cells selection before =
+    let text = textOf ws cells (tagsRead (selectionOf selection)) in
+    outcome
+    (firstOf (rowsNumber ws cells ∷ selectionNumber (selectionOf selection) ∷ roomNumber (fits text before) ∷ []))
+    (length text)
+    (written text before)
+    before

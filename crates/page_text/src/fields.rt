@@ -9,7 +9,7 @@ ghost use Rattle.page_text.specs.Lines.{tagField};
 
 const SPACE: u8 = 32;
 
-pub(crate) const LINE_FEED: u8 = 10;
+pub const LINE_FEED: u8 = 10;
 
 // How many bytes a tag takes with the space behind it.
 pub(crate) const TAG_FIELD: usize = 4;

@@ -3,13 +3,14 @@ mod decimal;
 mod fields;
 mod lines;
 mod selection;
-mod status;
 mod stored;
 mod tag_lines;
 mod text;
 
 pub use decimal::put_number;
+pub use fields::LINE_FEED;
 pub use selection::Selection;
 pub use selection::read_selection;
-pub use text::Text;
+pub use stored::MOST_NATIONS;
+pub use text::PageText;
 pub use text::write_text;

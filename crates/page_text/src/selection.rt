@@ -1,4 +1,5 @@
 // The selection: tags, each with a line feed behind it.
+use crate::fields::LINE_FEED;
 use record::CountryTag;
 use record::Created;
 ghost use mathlib.Core.Path.{_≡_};
@@ -9,8 +10,6 @@ ghost use Rattle.page_text.specs.Selecting.{tagTold, selectionTold};
 
 // How many bytes a tag takes with its line feed.
 pub(crate) const TAG_LINE: usize = 4;
-
-const LINE_FEED: u8 = 10;
 
 // How many tags were read, or that the bytes are anything else.
 pub enum Selection {

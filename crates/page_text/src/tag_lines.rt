@@ -9,11 +9,11 @@ ghost use mathlib.Core.Path.{_≡_};
 ghost use Prim.Native.Nat.{_≤_};
 ghost use lib.ListN.{length};
 ghost use Rattle.rules.specs.Lent.{written};
-ghost use Rattle.page_text.specs.Stored.{Tabled, lineOf};
+ghost use Rattle.page_text.specs.Stored.{LineTables, lineOf};
 
 // How many bytes a tag's line has.
 pub(crate) fn tag_length(nations: &[u32], keys: &[u64], living: &[bool], tag: CountryTag) -> usize
-    requires { ⌜ Tabled (now nations) (now keys) (now living) ⌝ }
+    requires { ⌜ LineTables (now nations) (now keys) (now living) ⌝ }
     ensures { λ r. ⌜ r ≡ length (lineOf (now (nations .entry)) (now (living .entry)) tag) ⌝ }
 {
     match first_place(keys, tag) {
@@ -30,7 +30,7 @@ pub(crate) fn put_line(
     tag: CountryTag,
     out: &mut [u8],
 ) -> usize
-    requires { ⌜ Tabled (now nations) (now keys) (now living) ⌝ }
+    requires { ⌜ LineTables (now nations) (now keys) (now living) ⌝ }
     requires { ⌜ length (lineOf (now nations) (now living) tag) ≤ length (now out) ⌝ }
     ensures { λ r. ⌜ (r ≡ length (lineOf (now (nations .entry)) (now (living .entry)) tag)) × (now (out .exit) ≡ written (lineOf (now (nations .entry)) (now (living .entry)) tag) (now (out .entry))) ⌝ }
 {

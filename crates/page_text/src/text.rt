@@ -19,18 +19,18 @@ ghost use Rattle.rules.specs.Lent.{written};
 ghost use Rattle.rules.specs.Page.{selectionOf, tagsRead};
 ghost use Rattle.page_text.specs.Selecting.{IsTags};
 ghost use Rattle.page_text.specs.Lines.{heading};
-ghost use Rattle.page_text.specs.Stored.{Tabled, linesOf};
-ghost use Rattle.page_text.specs.Texts.{TextWritten, WritesText};
+ghost use Rattle.page_text.specs.Stored.{LineTables, linesOf};
+ghost use Rattle.page_text.specs.Texts.{textOutcome, callLines, callText};
 
-// How many bytes were written, or that the page has no room.
-pub enum Text {
+// How many bytes were written, or the number of the refusal.
+pub enum PageText {
     Bytes(usize),
-    NoRoom,
+    Refused(u32),
 }
 
 // Whether the lines of all tags have room.
 fn lines_fit(nations: &[u32], keys: &[u64], living: &[bool], selection: &[u8], room: usize) -> bool
-    requires { ⌜ (Tabled (now nations) (now keys) (now living)) × (IsTags (now selection)) ⌝ }
+    requires { ⌜ (LineTables (now nations) (now keys) (now living)) × (IsTags (now selection)) ⌝ }
     ensures { λ r. ⌜ r ≡ leb (length (linesOf (now (nations .entry)) (now (living .entry)) (tagsRead (selectionOf (now (selection .entry)))))) room ⌝ }
 {
     let mut at = 0;
@@ -63,7 +63,7 @@ fn put_lines(
     selection: &[u8],
     out: &mut [u8],
 ) -> usize
-    requires { ⌜ (Tabled (now nations) (now keys) (now living)) × (IsTags (now selection)) × (length (linesOf (now nations) (now living) (tagsRead (selectionOf (now selection)))) ≤ length (now out)) ⌝ }
+    requires { ⌜ (LineTables (now nations) (now keys) (now living)) × (IsTags (now selection)) × (length (linesOf (now nations) (now living) (tagsRead (selectionOf (now selection)))) ≤ length (now out)) ⌝ }
     ensures { λ r. ⌜ (r ≡ length (linesOf (now (nations .entry)) (now (living .entry)) (tagsRead (selectionOf (now (selection .entry)))))) × (now (out .exit) ≡ written (linesOf (now (nations .entry)) (now (living .entry)) (tagsRead (selectionOf (now (selection .entry))))) (now (out .entry))) ⌝ }
 {
     let mut at = 0;
@@ -110,39 +110,37 @@ fn write_tabled(
     selection: &[u8],
     count: usize,
     out: &mut [u8],
-) -> Text
-    requires { ⌜ (Tabled (now nations) (now keys) (now living)) × (IsTags (now selection)) ⌝ }
-    ensures { λ r. ⌜ TextWritten r (heading count ++ linesOf (now (nations .entry)) (now (living .entry)) (tagsRead (selectionOf (now (selection .entry))))) (now (out .entry)) (now (out .exit)) ⌝ }
+) -> PageText
+    requires { ⌜ (LineTables (now nations) (now keys) (now living)) × (IsTags (now selection)) ⌝ }
+    ensures { λ r. ⌜ textOutcome r (now (out .exit)) ≡ callLines (heading count ++ linesOf (now (nations .entry)) (now (living .entry)) (tagsRead (selectionOf (now (selection .entry))))) (now (out .entry)) ⌝ }
 {
     let first = heading_length(count);
     if out.len() < first {
-        return Text::NoRoom;
+        return PageText::Refused(10);
     }
     if !lines_fit(nations, keys, living, selection, out.len() - first) {
-        return Text::NoRoom;
+        return PageText::Refused(10);
     }
     put_heading(count, out);
     let rest = put_lines(nations, keys, living, selection, &mut out[first..]);
-    Text::Bytes(first + rest)
+    PageText::Bytes(first + rest)
 }
 
-// The page of a chronicle's nations for a selection: its first line, then a line for each tag read; held against the room before anything
-// is written. Promised of well-shaped words of at most 2,000 nations, and of a selection that is tags.
-pub fn write_text(nations: &[u32], entries: &[u32], selection: &[u8], out: &mut [u8]) -> Text
-    ensures { λ r. ⌜ WritesText (now (nations .entry)) (now (entries .entry)) (now (selection .entry)) r (now (out .entry)) (now (out .exit)) ⌝ }
+// The page of nation rows, with a status cell for each, for a selection: its first line, then a line for each tag read; held against the
+// room before anything is written. Refused by 10 for more than 2,000 rows, cells too few or no room, by 12 for a selection that is not tags.
+pub fn write_text(nations: &[u32], living: &[bool], selection: &[u8], out: &mut [u8]) -> PageText
+    ensures { λ r. ⌜ textOutcome r (now (out .exit)) ≡ callText (now (nations .entry)) (now (living .entry)) (now (selection .entry)) (now (out .entry)) ⌝ }
 {
     let n = nation_count(nations);
-    if MOST_NATIONS < n {
-        return Text::NoRoom;
+    if (MOST_NATIONS < n) | (living.len() < n) {
+        return PageText::Refused(10);
     }
     match selection::read_selection(selection) {
         Selection::Tags(count) => {
             let mut keys = [0u64; MOST_NATIONS];
-            let mut living = [false; MOST_NATIONS];
             stored::sort_stored(nations, &mut keys);
-            stored::fill_living(nations, entries, &mut living);
-            write_tabled(nations, &keys[0..n], &living[0..n], selection, count, out)
+            write_tabled(nations, &keys[0..n], living, selection, count, out)
         }
-        Selection::NotTags => Text::NoRoom,
+        Selection::NotTags => PageText::Refused(12),
     }
 }

@@ -6,4 +6,5 @@ pub mod PrintLaws
 pub mod RefusalLaws
 pub mod RoomLaws
 pub mod SizeLaws
+pub mod StatusLaws
 pub mod TextLaws

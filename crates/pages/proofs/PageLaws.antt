@@ -12,11 +12,13 @@ use Rattle.format.specs.declared.tag.CountryTag.{CountryTag}
 use Rattle.format.specs.Campaign.{campaignOf}
 use Rattle.format.specs.Refusal.{refusal, firstOf}
 use Rattle.format.proofs.FirstLaws.{first-stop, first-pass, first-one}
-use Rattle.rules.specs.Lent.{refused, gives, written, fits, roomNumber}
+use Rattle.rules.specs.Lent.{refused, gives, written, fits, roomNumber, outcome}
 use Rattle.rules.specs.Page.{selectionOf, tagsRead, pageText}
 use Rattle.rules.specs.Nations.{nationsOf}
 use Rattle.rules.specs.PageOutcomes.{bytesNumber, selectionNumber, limitsNumber, pageNumber, pageOf, callPage}
-use Rattle.rules.proofs.LentLaws.{outcome-refused, outcome-gives}
+use Rattle.rules.proofs.LentLaws.{outcome-refused}
+use Rattle.page_text.specs.Texts.{callLines}
+use Rattle.page_text.proofs.OutcomeLaws.{lines-short, lines-written}
 use Rattle.pages.specs.Steps.{PageBegun}
 
 module _ (xs selection before : List ℕ) where
@@ -34,18 +36,17 @@ module _ (xs selection before : List ℕ) where
     number : firstOf (pageNumber xs selection ∷ roomNumber (fits text before) ∷ []) ≡ roomNumber (fits text before)
     number = first-pass (pageNumber xs selection) _ z ∙ first-one _
 
+    -- Only the room is left to be asked for.
+    pub number-passed : callLines (pageOf xs selection) before ≡ callPage xs selection before
+    unfolding callPage
+    number-passed = ap (λ n. outcome n (length text) (written text before) before) (sym number)
+
     pub given-by : length (pageOf xs selection) ≤ length before
         → record { answer = gives (length (pageOf xs selection)); memory = written (pageOf xs selection) before } ≡ callPage xs selection before
-    unfolding callPage
-    given-by h =
-        sym (outcome-gives _ (length text) (written text before) before (number ∙ ap roomNumber (le-leb (length text) (length before) h)))
+    given-by h = lines-written text before (length text) (written text before) h refl refl ∙ number-passed
 
     pub short-by : length before < length (pageOf xs selection) → record { answer = refused 10; memory = before } ≡ callPage xs selection before
-    unfolding callPage
-    short-by h =
-        let first : firstOf (pageNumber xs selection ∷ roomNumber (fits text before) ∷ []) ≡ 10 =
-        number ∙ ap roomNumber (lt-leb (length text) (length before) h) in
-        sym (rw first (outcome-refused 10 (length text) (written text before) before (omega arith)))
+    short-by h = lines-short text before h ∙ number-passed
 
   -- Too many bytes are found first.
   pub page-many : bytesNumber xs selection ≡ 10 → record { answer = refused 10; memory = before } ≡ callPage xs selection before
@@ -80,10 +81,5 @@ module _ (xs selection before : List ℕ) where
     pub page-over : limitsNumber (campaignOf xs) ≡ 10 → record { answer = refused 10; memory = before } ≡ callPage xs selection before
     page-over e = refused-by 10 (omega arith) (number-left ∙ e)
 
-    module _ (w : limitsNumber (campaignOf xs) ≡ 0) where
-      pub page-short : length before < length (pageOf xs selection) → record { answer = refused 10; memory = before } ≡ callPage xs selection before
-      page-short h = short-by (number-left ∙ w) h
-
-      pub page-written : (n : ℕ) (after : List ℕ) → length (pageOf xs selection) ≤ length before → n ≡ length (pageOf xs selection)
-          → after ≡ written (pageOf xs selection) before → record { answer = gives n; memory = after } ≡ callPage xs selection before
-      page-written n after h c e = rw (c, e) (given-by (number-left ∙ w) h)
+    pub page-left : limitsNumber (campaignOf xs) ≡ 0 → callLines (pageOf xs selection) before ≡ callPage xs selection before
+    page-left w = number-passed (number-left ∙ w)

@@ -23,7 +23,6 @@ use Rattle.rules.specs.Outcomes.{Answers, answersOf, NationCells, cellsOf, allF
 use Rattle.rules.specs.PageOutcomes.{limitsNumber}
 use Rattle.rules.proofs.RowLaws.{length-nationWords, length-entryWords, length-changeRows}
 use Rattle.nations.proofs.answer.NationOutcomeLaws.{SmallCounts, counts-small, nations-given, nations-short, nations-rows}
-use Rattle.pages.specs.Steps.{Listed}
 use Rattle.pages.proofs.AnswerLaws.{not-refused, same-gives}
 
 -- Two tests are the same if each makes the other true.
@@ -136,13 +135,14 @@ module _ (lent : NationCells) (l : LentFor lent) (xs : List ℕ) (z : refusal xs
       pub entries-inside : entryWidth * (r .entries) ≤ length (m .entries)
       entries-inside = front-inside (entryWords ns) (lent .entries) (m .entries) entry-cells entry-count
 
-      pub fronts : Listed xs (take (nationWidth * (r .nations) - 0) (m .nations)) (take (entryWidth * (r .entries) - 0) (m .entries))
-      fronts =
-          record {
-            within = listed given .0;
-            nations = front (nationWords ns) (lent .nations) (m .nations) nation-cells nation-count;
-            entries = front (entryWords ns) (lent .entries) (m .entries) entry-cells entry-count;
-          }
+      pub limits-kept : limitsNumber c ≡ 0
+      limits-kept = listed given .0
+
+      pub nation-front : take (nationWidth * (r .nations) - 0) (m .nations) ≡ nationWords (nationsOf c)
+      nation-front = front (nationWords ns) (lent .nations) (m .nations) nation-cells nation-count
+
+      pub entry-front : take (entryWidth * (r .entries) - 0) (m .entries) ≡ entryWords (nationsOf c)
+      entry-front = front (entryWords ns) (lent .entries) (m .entries) entry-cells entry-count
 
       pub counts-short : (nationWidth * (r .nations) ≤ 10000) × (entryWidth * (r .entries) ≤ 840000000)
       counts-short =

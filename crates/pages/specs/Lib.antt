@@ -1,3 +1,5 @@
 pub mod Cases
+pub mod Listing
 pub mod Printing
+pub mod Status
 pub mod Steps

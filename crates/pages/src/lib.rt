@@ -1,6 +1,8 @@
 // The page of a record for a selection of tags.
+mod listing;
 mod paging;
 mod printing;
+mod status;
 
 pub use paging::Paged;
 pub use paging::write_page;

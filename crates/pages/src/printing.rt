@@ -1,6 +1,7 @@
 // What the program page prints, in a slice.
 use crate::paging::Paged;
 use crate::paging::write_page;
+use page_text::LINE_FEED;
 use page_text::put_number;
 ghost use mathlib.Core.Path.{_≡_};
 ghost use mathlib.Core.Option.{some};
@@ -13,8 +14,6 @@ ghost use Rattle.pages.specs.Printing.{fileRead, mostPrinted, callPrint,
 
 // Room for every page: the first line has at most 15 bytes, each of at most 16,384 tags has 25.
 pub const PRINTED_BYTES: usize = 409615;
-
-const LINE_FEED: u8 = 10;
 
 // Whether campaign.atl could be read.
 pub enum CampaignFile {

@@ -5,8 +5,8 @@ use borrow.Author.Needs.{needs}
 use Rattle.page_text.proofs.stored.sort_stored.Statement.{statement}
 use Rattle.page_text.proofs.stored.sort_stored.Tie as tie
 
-fill-keys-requires : tie.Need-fill-keys-requires
-fill-keys-requires c κs = c .before .before .before .pre
+fill-stored-requires : tie.Need-fill-stored-requires
+fill-stored-requires c κs = c .before .before .before .pre
 
 nation-count-requires : tie.Need-nation-count-requires
 nation-count-requires c κs = search needs
@@ -20,7 +20,7 @@ part-sort-keys-start c = search needs
 part-sort-keys-end : tie.Need-part-sort-keys-end
 part-sort-keys-end c =
     let f = c .before .before .before in
-    stored-inside _ _ (c .nation-count .ensures) _ _ (f .fill-keys .ensures)
+    stored-inside _ _ (c .nation-count .ensures) _ _ (f .fill-stored .ensures)
 
 slice-aggregate-sort-keys : tie.Need-slice-aggregate-sort-keys
 slice-aggregate-sort-keys c = search needs
@@ -37,13 +37,13 @@ returns c =
     let n = t .before .before .before in
     let f = n .before .before .before in
     let s = f .before .before .before .before in
-    stored-sorted _ _ (n .nation-count .ensures) (s .args .keys .now) _ _ _ _ (s .pre .0) (s .pre .1) (f .fill-keys .ensures) (t .sort-keys .ensures)
+    stored-sorted _ _ (n .nation-count .ensures) (s .args .keys .now) _ _ _ _ (s .pre .0) (s .pre .1) (f .fill-stored .ensures) (t .sort-keys .ensures)
 
 pub sort-stored-spec : {M : Type 1} → statement M
 sort-stored-spec =
     tie.close
     (tie.spec
-    fill-keys-requires
+    fill-stored-requires
     nation-count-requires
     sub-sort-keys
     part-sort-keys-start

@@ -1,5 +1,5 @@
 -- No room for the first line, none for the others, or both are written.
-use mathlib.Core.Path.{_≡_, refl, sym, _∙_}
+use mathlib.Core.Path.{_≡_, sym, _∙_}
 use mathlib.Core.List.{List, _++_}
 use Prim.Native.Nat.{ℕ, _≤_}
 use native.Mathlib.Omega.{arith}
@@ -8,6 +8,7 @@ use lib.ListN.{length, length-append}
 use Rattle.rules.specs.Page.{selectionOf, tagsRead}
 use Rattle.page_text.specs.Lines.{heading}
 use Rattle.page_text.specs.Stored.{linesOf}
+use Rattle.page_text.proofs.OutcomeLaws.{lines-short, lines-written}
 use Rattle.page_text.proofs.TailLaws.{tail-start, tail-room, then-written}
 use borrow.Author.Needs.{needs}
 use Rattle.page_text.proofs.text.write_tabled.Statement.{statement}
@@ -35,7 +36,7 @@ heading-length-requires c κs = search needs
 returns : tie.Need-returns
 returns c =
     let h = c .before in
-    (omega (arith, c .if1 .taken, h .heading-length .ensures, length-append (first-line h) (lines h)), refl)
+    lines-short (first-line h ++ lines h) (start h .args .out .now) (omega (arith, c .if1 .taken, h .heading-length .ensures, length-append (first-line h) (lines h)))
 
 sub-lines-fit : tie.Need-sub-lines-fit
 sub-lines-fit c = search needs
@@ -48,7 +49,7 @@ returns-2 c =
     let e = c .before .before in
     let h = e .before in
     let l = leb-false (length (lines h)) _ (sym (c .before .lines-fit .ensures) ∙ not-true _ (c .if2 .taken)) in
-    (omega (arith, l, e .if1 .left, h .heading-length .ensures, length-append (first-line h) (lines h)), refl)
+    lines-short (first-line h ++ lines h) (start h .args .out .now) (omega (arith, l, e .if1 .left, h .heading-length .ensures, length-append (first-line h) (lines h)))
 
 put-heading-requires : tie.Need-put-heading-requires
 put-heading-requires c κs =
@@ -93,11 +94,10 @@ returns-3 : tie.Need-returns-3
 returns-3 c =
     let l = c .before .before in
     let p = l .before .before .before .before in
-    let h = p .before .before .before .before .before in (
-      omega (arith, l .put-lines .ensures .0, h .heading-length .ensures, length-append (first-line h) (lines h)),
-      fits (p .before .before),
-      then-written (first-line h) (start h .args .out .now) _ _ (h .heading-length .ensures) (p .put-heading .ensures .1) (lines h) _ (l .put-lines .ensures .1),
-    )
+    let h = p .before .before .before .before .before in
+    lines-written (first-line h ++ lines h) (start h .args .out .now) _ _ (fits (p .before .before))
+    (omega (arith, l .put-lines .ensures .0, h .heading-length .ensures, length-append (first-line h) (lines h)))
+    (then-written (first-line h) (start h .args .out .now) _ _ (h .heading-length .ensures) (p .put-heading .ensures .1) (lines h) _ (l .put-lines .ensures .1))
 
 pub write-tabled-spec : {M : Type 1} → statement M
 write-tabled-spec =

@@ -1,15 +1,20 @@
 -- Each check by its number, in their order; what passes them all is a page begun.
 use mathlib.Core.Path.{_≡_, sym, ap, _∙_}
+use Rattle.rules.specs.Page.{selectionOf}
 use Rattle.rules.specs.PageOutcomes.{bytesNumber}
 use Rattle.page_text.specs.Selecting.{selectionTold}
-use Rattle.pages.proofs.BeginLaws.{bytes-many, bytes-few, counted, uncounted}
+use Rattle.page_text.proofs.OutcomeLaws.{tags-counted, tags-uncounted}
+use Rattle.pages.proofs.BeginLaws.{bytes-many, bytes-few}
 use Rattle.pages.proofs.PageLaws.{page-many, page-bad, page-no-tags}
 use borrow.Author.Needs.{needs}
 use Rattle.pages.proofs.paging.write_page.Statement.{statement}
 use Rattle.pages.proofs.paging.write_page.Tie as tie
 
+abbrev start : tie.Else1 → tie.Start
+start c = c .before .before .before .before
+
 -- Neither is too long.
-few : (c : tie.Else1) → let a = c .before .before .before .before .args in bytesNumber (a .s .now) (a .selection .now) ≡ 0
+few : (c : tie.Else1) → let a = start c .args in bytesNumber (a .s .now) (a .selection .now) ≡ 0
 few c = bytes-few _ _ (c .if1 .left)
 
 returns : tie.Need-returns
@@ -33,7 +38,7 @@ chronicle-page-requires c κs =
     record {
       few = few (read .before .before .before);
       accepted = sym (read .before .before .check .ensures) ∙ read .before .if2 .left;
-      tags = counted _ (sym (ap selectionTold (c .before .enum-told .given .1)) ∙ read .read-selection .ensures);
+      tags = tags-counted (selectionOf (start (read .before .before .before) .args .selection .now)) (sym (ap selectionTold (c .before .enum-told .given .1)) ∙ read .read-selection .ensures) .0;
     }
 
 enum-told-2 : tie.Need-enum-told-2
@@ -49,7 +54,7 @@ returns-4 : tie.Need-returns-4
 returns-4 c =
     let read = c .before .before in
     page-no-tags _ _ _ (few (read .before .before .before)) (sym (read .before .before .check .ensures) ∙ read .before .if2 .left)
-    (uncounted _ (sym (ap selectionTold (c .enum-told2 .given .1)) ∙ read .read-selection .ensures))
+    (tags-uncounted (selectionOf (start (read .before .before .before) .args .selection .now)) (sym (ap selectionTold (c .enum-told2 .given .1)) ∙ read .read-selection .ensures))
 
 pub write-page-spec : {M : Type 1} → statement M
 write-page-spec =

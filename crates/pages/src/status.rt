@@ -1,11 +1,17 @@
-// Whether a nation is living.
+// Which nations are living.
 use chronicle_rows::Kind;
 use chronicle_rows::Nation;
 use chronicle_rows::entry_at;
+use chronicle_rows::nation_at;
+use chronicle_rows::nation_count;
 ghost use mathlib.Core.Path.{_≡_};
+ghost use mathlib.Core.List.{_++_};
+ghost use Prim.Native.Nat.{_≤_};
+ghost use lib.ListN.{length, drop};
+ghost use Rattle.rules.specs.NationRows.{nationRowsIn};
 ghost use Rattle.chronicle_rows.specs.Cases.{kindTold};
 ghost use Rattle.chronicle_rows.specs.RowAt.{entriesAt};
-ghost use Rattle.page_text.specs.Status.{livesOn, livingBy};
+ghost use Rattle.pages.specs.Status.{livesOn, livingBy, livingCells};
 
 // Whether it lives on behind an entry of this kind: a switch changes nothing.
 fn lives_on(living: bool, kind: Kind) -> bool
@@ -19,7 +25,7 @@ fn lives_on(living: bool, kind: Kind) -> bool
 }
 
 // Whether a nation is living: unless Annexed came last of what is no switch.
-pub(crate) fn is_living(entries: &[u32], nation: Nation) -> bool
+fn is_living(entries: &[u32], nation: Nation) -> bool
     ensures { λ r. ⌜ r ≡ livingBy (entriesAt (now (entries .entry)) (nation .first) (nation .count)) ⌝ }
 {
     let mut at = nation.first as usize;
@@ -32,4 +38,17 @@ pub(crate) fn is_living(entries: &[u32], nation: Nation) -> bool
         at += 1;
     }
     living
+}
+
+// Marks the nations that are living, a cell for each row.
+pub(crate) fn fill_living(nations: &[u32], entries: &[u32], cells: &mut [bool])
+    requires { ⌜ length (nationRowsIn (now nations)) ≤ length (now cells) ⌝ }
+    ensures { λ _. ⌜ now (cells .exit) ≡ livingCells (now (nations .entry)) (now (entries .entry)) 0 (length (nationRowsIn (now (nations .entry)))) ++ drop (length (nationRowsIn (now (nations .entry)))) (now (cells .entry)) ⌝ }
+{
+    let n = nation_count(nations);
+    let mut i = 0;
+    while i < n {
+        cells[i] = is_living(entries, nation_at(nations, i));
+        i += 1;
+    }
 }

@@ -5,12 +5,12 @@ use native.Mathlib.Omega.{arith}
 use lib.ListN.{length}
 use Rattle.lists.proofs.FillLaws.{Filling, filling-room, filling-put, filling-written}
 use Rattle.chronicle_rows.specs.RowAt.{entriesAt}
-use Rattle.page_text.specs.Status.{livingBy}
-use Rattle.page_text.specs.Stored.{livingCells}
-use Rattle.page_text.proofs.StoredLaws.{numbered-start, numbered-next, numbered-none, living-filled}
+use Rattle.pages.specs.Status.{livingBy, livingCells}
+use Rattle.page_text.proofs.StoredLaws.{numbered-start, numbered-next, numbered-none}
+use Rattle.pages.proofs.StatusLaws.{living-filled}
 use borrow.Author.Needs.{needs}
-use Rattle.page_text.proofs.stored.fill_living.Statement.{statement}
-use Rattle.page_text.proofs.stored.fill_living.Tie as tie
+use Rattle.pages.proofs.status.fill_living.Statement.{statement}
+use Rattle.pages.proofs.status.fill_living.Tie as tie
 
 abbrev Inv-loop : tie.InvT-loop
 Inv-loop nations entries cells₀ n i₀ cells i = Filling (livingCells nations entries 0 n) (livingCells nations entries i (n - i)) cells₀ i cells

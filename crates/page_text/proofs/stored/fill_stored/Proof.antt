@@ -9,8 +9,8 @@ use Rattle.search.specs.Places.{tagKeysFrom}
 use Rattle.page_text.specs.Stored.{storedTags}
 use Rattle.page_text.proofs.StoredLaws.{keys-start, keys-next, keys-none, stored-key}
 use borrow.Author.Needs.{needs}
-use Rattle.page_text.proofs.stored.fill_keys.Statement.{statement}
-use Rattle.page_text.proofs.stored.fill_keys.Tie as tie
+use Rattle.page_text.proofs.stored.fill_stored.Statement.{statement}
+use Rattle.page_text.proofs.stored.fill_stored.Tie as tie
 
 abbrev Inv-loop : tie.InvT-loop
 Inv-loop nations keys₀ n i₀ keys i = Filling (tagKeysFrom 0 (storedTags nations 0 n)) (tagKeysFrom i (storedTags nations i (n - i))) keys₀ i keys
@@ -71,8 +71,8 @@ returns c =
     let s = c .before .before .before .before .before in
     filling-written _ _ _ _ _ (l .inv) (keys-none (s .args .nations .now) (l .i) (c .before .before .nation-count .result) (omega (arith, c .loop-test .left))) ∙ ap (λ m. written (tagKeysFrom 0 (storedTags (s .args .nations .now) 0 m)) (s .args .keys .now)) n
 
-pub fill-keys-spec : {M : Type 1} → statement M
-fill-keys-spec =
+pub fill-stored-spec : {M : Type 1} → statement M
+fill-stored-spec =
     tie.close
     (tie.spec
     Inv-loop
