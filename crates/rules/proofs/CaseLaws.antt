@@ -1,12 +1,15 @@
 -- The computed cases hold of the definitions. An edit of a rule that changes one of them is refused here.
 use mathlib.Core.Path.{_≡_, refl}
+use mathlib.Core.List.{List}
 use Prim.Native.Nat.{ℕ}
 use lib.ListN.{length}
 use Rattle.lists.specs.Lists.{joinOf}
-use Rattle.format.specs.Campaign.{Campaign}
+use Rattle.format.specs.Campaign.{Campaign, campaignOf}
+use Rattle.format.specs.Refusal.{refusal, firstOf}
 use Rattle.rules.specs.Changes.{changesOf}
 use Rattle.rules.specs.Nations.{nationsOf}
-use Rattle.rules.specs.PageOutcomes.{limitsNumber}
+use Rattle.rules.specs.Page.{selectionOf}
+use Rattle.rules.specs.PageOutcomes.{bytesNumber, selectionNumber, limitsNumber, pageNumber}
 use Rattle.rules.specs.cases.CaseForms.{Hold}
 use Rattle.rules.specs.cases.RecordCases.{changeCases, eventsOnCases, nationCases, holderCases, wornCases, dayCases, countedCases}
 use Rattle.rules.specs.cases.LentCases.{resolveCases, dayResolveCases, askedCases, shapeCases, misshapenCases, bookingCases, ledgerCases}
@@ -84,3 +87,9 @@ module _ (c : Campaign) where
   pub entries-over : length (changesOf c) ≡ 4000 → entries ≡ 5001 → limitsNumber c ≡ 10
   unfolding limitsNumber
   entries-over h k = simp (h, k)
+
+-- Likewise of a record of that size: a selection that is no tags is found before the record's limits.
+pub tags-before-limits : (xs selection : List ℕ) → bytesNumber xs selection ≡ 0 → refusal xs ≡ 0 → selectionNumber (selectionOf selection) ≡ 12
+    → limitsNumber (campaignOf xs) ≡ 10 → pageNumber xs selection ≡ 12
+unfolding pageNumber firstOf
+tags-before-limits xs selection b r s l = simp (b, r, s, l)
