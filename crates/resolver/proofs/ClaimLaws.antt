@@ -21,10 +21,25 @@ use Rattle.chronicle_rows.specs.RowAt.{nationRowAt, entryAt}
 use Rattle.resolver.specs.declared.claims.Claim.{Claim}
 use Rattle.resolver.specs.declared.claims.Walk.{Walk}
 use Rattle.resolver.specs.declared.claims.NextClaim as NextClaim
-use Rattle.resolver.specs.Claims.{kindClaims, initialClaims, nationClaims, claimsFrom, claimsIn, claimsLeft, claimTold, walkStart, isAsked, claimDay, bestOf}
+use Rattle.resolver.specs.Claims.{kindClaims, switchesIn, initialClaims, nationClaims, claimsFrom, claimsIn, claimsLeft, claimTold, walkStart, isAsked, claimDay, bestOf}
 
 pub numbers-more : (a n : ℕ) → 0 < n → numbersFrom a n ≡ a ∷ numbersFrom (a + 1) (n - 1)
 numbers-more a n h = let e : n ≡ suc (n - 1) = omega arith in rw e (let f : suc (n - 1) - 1 ≡ n - 1 = omega arith in simp (f, add-one))
+
+-- ## A nation's switches, entry by entry
+
+module _ (es : List ℕ) (i : ℕ) where
+  pub switches-end : (at end : ℕ) → end ≤ at → switchesIn es i at end ≡ []
+  switches-end at end h = let e : end - at ≡ 0 = omega arith in rw e
+
+  -- The entry, as the code has read it.
+  pub switches-read : (at end : ℕ) (date : Eu4Date) (kind : Kind) → at < end → record { date = date; kind = kind } ≡ entryAt es at
+      → switchesIn es i at end ≡ kindClaims i date kind ++ switchesIn es i (at + 1) end
+  switches-read at end date kind inside e =
+      let f : end - at - 1 ≡ end - (at + 1) = omega arith in
+      let d : date ≡ entryAt es at .date = ap (λ (x : Entry). x .date) e in
+      let k : kind ≡ entryAt es at .kind = ap (λ (x : Entry). x .kind) e in
+      rw (numbers-more at (end - at) (omega arith), f, d, k)
 
 module _ (ws es : List ℕ) where
   -- ## Nation by nation
@@ -58,24 +73,16 @@ module _ (ws es : List ℕ) where
   module _ (owner entry end coming : ℕ) where
     pub walk-done : end ≤ entry → claimsLeft ws es (record { owner = owner; entry = entry; end = end; coming = coming }) ≡ claimsFrom ws es coming
     unfolding claimsLeft
-    walk-done h = let e : end - entry ≡ 0 = omega arith in rw e
-
-    walk-next : entry < end
-        → claimsLeft ws es (record { owner = owner; entry = entry; end = end; coming = coming })
-        ≡ kindClaims owner (entryAt es entry .date) (entryAt es entry .kind) ++ claimsLeft ws es (record { owner = owner; entry = entry + 1; end = end; coming = coming })
-    unfolding claimsLeft
-    walk-next h =
-        let e : end - entry - 1 ≡ end - (entry + 1) = omega arith in
-        rw (numbers-more entry (end - entry) (omega arith), e) (simp append-assoc)
+    walk-done h = rw (switches-end es owner entry end h)
 
     -- The entry, as the code has read it.
     module _ (date : Eu4Date) (kind : Kind) (inside : entry < end) (e : record { date = date; kind = kind } ≡ entryAt es entry) where
       read : claimsLeft ws es (record { owner = owner; entry = entry; end = end; coming = coming })
           ≡ kindClaims owner date kind ++ claimsLeft ws es (record { owner = owner; entry = entry + 1; end = end; coming = coming })
+      unfolding claimsLeft
       read =
-          let d : date ≡ entryAt es entry .date = ap (λ (x : Entry). x .date) e in
-          let k : kind ≡ entryAt es entry .kind = ap (λ (x : Entry). x .kind) e in
-          rw (d, k) (walk-next inside)
+          ap (λ (cs : List Claim). cs ++ claimsFrom ws es coming) (switches-read es owner entry end date kind inside e)
+          ∙ append-assoc (kindClaims owner date kind) (switchesIn es owner (entry + 1) end) (claimsFrom ws es coming)
 
       pub walk-switch : (tag : CountryTag) → kind ≡ switch tag
           → claimsLeft ws es (record { owner = owner; entry = entry; end = end; coming = coming })
@@ -117,16 +124,17 @@ module _ (ws es : List ℕ) (w : Walk) {r : NextClaim.NextClaim} (told : claimsL
 
 -- ## The best so far
 
--- A scan goes claim by claim.
-scan-next : (p : Claim → Bool) (best : Option Claim) (x : Claim) (xs : List Claim)
-    → scan claimDay best (keep p (x ∷ xs)) ≡ scan claimDay (scan claimDay best (keep p (x ∷ []))) (keep p xs)
-scan-next p best x xs = cases (p x) (λ h. simp h) (λ h. simp h)
+-- A scan of two lists, one behind the other.
+pub scan-append : (p : Claim → Bool) (best : Option Claim) (xs ys : List Claim)
+    → scan claimDay best (keep p (xs ++ ys)) ≡ scan claimDay (scan claimDay best (keep p xs)) (keep p ys)
+scan-append p best [] ys = refl
+scan-append p best (x ∷ xs) ys = cases (p x) (λ h. simp h (scan-append p _ xs ys)) (λ h. simp h (scan-append p best xs ys))
 
 pub scan-step : (tag : CountryTag) (date : Eu4Date) (best next : Option Claim) (claim : Claim) (left rest : List Claim) (all : Option Claim)
     → left ≡ claim ∷ rest → next ≡ scan claimDay best (keep (isAsked tag date) (claim ∷ []))
     → scan claimDay best (keep (isAsked tag date) left) ≡ all → scan claimDay next (keep (isAsked tag date) rest) ≡ all
 scan-step tag date best next claim left rest all row step so-far =
-    rw step (sym (scan-next (isAsked tag date) best claim rest) ∙ (rw row at so-far))
+    rw step (sym (scan-append (isAsked tag date) best (claim ∷ []) rest) ∙ (rw row at so-far))
 
 -- A scan of all claims, and one that has come to the end.
 pub scan-all : (tag : CountryTag) (date : Eu4Date) (claims : List Claim) (best : Option Claim) → best ≡ none

@@ -19,40 +19,25 @@ use Rattle.rules.specs.NationRows.{NationRow, nationRowsIn}
 use Rattle.chronicle_rows.specs.RowAt.{nationRowAt, entryAt}
 use Rattle.resolver.specs.declared.claims.Claim.{Claim}
 use Rattle.resolver.specs.Claims.{kindClaims, switchesIn, nationClaims, claimsFrom, claimsIn, isAsked, claimDay, bestOf}
-use Rattle.resolver.proofs.ClaimLaws.{numbers-more, claims-next, scan-all}
+use Rattle.resolver.proofs.ClaimLaws.{switches-read, claims-next, scan-append, scan-all}
 
--- A scan of two lists, one behind the other.
-scan-append : (p : Claim → Bool) (best : Option Claim) (xs ys : List Claim)
-    → scan claimDay best (keep p (xs ++ ys)) ≡ scan claimDay (scan claimDay best (keep p xs)) (keep p ys)
-scan-append p best [] ys = refl
-scan-append p best (x ∷ xs) ys = cases (p x) (λ h. simp h (scan-append p _ xs ys)) (λ h. simp h (scan-append p best xs ys))
+module _ (es : List ℕ) (i at end : ℕ) (date : Eu4Date) (kind : Kind) (inside : at < end) (e : record { date = date; kind = kind } ≡ entryAt es at) where
+  here : switchesIn es i at end ≡ kindClaims i date kind ++ switchesIn es i (at + 1) end
+  here = switches-read es i at end date kind inside e
 
-module _ (es : List ℕ) (i : ℕ) where
-  pub switches-end : (at end : ℕ) → end ≤ at → switchesIn es i at end ≡ []
-  switches-end at end h = let e : end - at ≡ 0 = omega arith in rw e
+  module _ (tag : CountryTag) (asked : Eu4Date) (best : Option Claim) (all : Option Claim) (so-far : scan claimDay best (keep (isAsked tag asked) (switchesIn es i at end)) ≡ all) where
+    pub best-switch : (to : CountryTag) (next : Option Claim) → kind ≡ switch to
+        → next ≡ scan claimDay best (keep (isAsked tag asked) (record { tag = to; date = date; nation = i } ∷ []))
+        → scan claimDay next (keep (isAsked tag asked) (switchesIn es i (at + 1) end)) ≡ all
+    best-switch to next k step =
+        let r : switchesIn es i at end ≡ (record { tag = to; date = date; nation = i } ∷ []) ++ switchesIn es i (at + 1) end = rw k at here in
+        rw step (sym (scan-append (isAsked tag asked) best (record { tag = to; date = date; nation = i } ∷ []) (switchesIn es i (at + 1) end)) ∙ (rw r at so-far))
 
-  module _ (at end : ℕ) (date : Eu4Date) (kind : Kind) (inside : at < end) (e : record { date = date; kind = kind } ≡ entryAt es at) where
-    -- The entry, as the code has read it.
-    switches-read : switchesIn es i at end ≡ kindClaims i date kind ++ switchesIn es i (at + 1) end
-    switches-read =
-        let f : end - at - 1 ≡ end - (at + 1) = omega arith in
-        let d : date ≡ entryAt es at .date = ap (λ (x : Entry). x .date) e in
-        let k : kind ≡ entryAt es at .kind = ap (λ (x : Entry). x .kind) e in
-        rw (numbers-more at (end - at) (omega arith), f, d, k)
+    pub best-appeared : kind ≡ appeared → scan claimDay best (keep (isAsked tag asked) (switchesIn es i (at + 1) end)) ≡ all
+    best-appeared k = let r : switchesIn es i at end ≡ switchesIn es i (at + 1) end = rw k at here in rw r at so-far
 
-    module _ (tag : CountryTag) (asked : Eu4Date) (best : Option Claim) (all : Option Claim) (so-far : scan claimDay best (keep (isAsked tag asked) (switchesIn es i at end)) ≡ all) where
-      pub best-switch : (to : CountryTag) (next : Option Claim) → kind ≡ switch to
-          → next ≡ scan claimDay best (keep (isAsked tag asked) (record { tag = to; date = date; nation = i } ∷ []))
-          → scan claimDay next (keep (isAsked tag asked) (switchesIn es i (at + 1) end)) ≡ all
-      best-switch to next k step =
-          let r : switchesIn es i at end ≡ (record { tag = to; date = date; nation = i } ∷ []) ++ switchesIn es i (at + 1) end = rw k at switches-read in
-          rw step (sym (scan-append (isAsked tag asked) best (record { tag = to; date = date; nation = i } ∷ []) (switchesIn es i (at + 1) end)) ∙ (rw r at so-far))
-
-      pub best-appeared : kind ≡ appeared → scan claimDay best (keep (isAsked tag asked) (switchesIn es i (at + 1) end)) ≡ all
-      best-appeared k = let r : switchesIn es i at end ≡ switchesIn es i (at + 1) end = rw k at switches-read in rw r at so-far
-
-      pub best-annexed : kind ≡ annexed → scan claimDay best (keep (isAsked tag asked) (switchesIn es i (at + 1) end)) ≡ all
-      best-annexed k = let r : switchesIn es i at end ≡ switchesIn es i (at + 1) end = rw k at switches-read in rw r at so-far
+    pub best-annexed : kind ≡ annexed → scan claimDay best (keep (isAsked tag asked) (switchesIn es i (at + 1) end)) ≡ all
+    best-annexed k = let r : switchesIn es i at end ≡ switchesIn es i (at + 1) end = rw k at here in rw r at so-far
 
 -- Nation number i, as the code has read it: its initial is held against the best so far, then its switches.
 pub best-nation : (ws es : List ℕ) (i : ℕ) (row : NationRow) (start : Eu4Date) (tag : CountryTag) (date : Eu4Date) (best own next : Option Claim)

@@ -6,8 +6,8 @@ use Rattle.lists.specs.Lists.{keep}
 use Rattle.lists.proofs.ScanLaws.{scan}
 use Rattle.chronicle_rows.specs.Cases.{kindTold}
 use Rattle.resolver.specs.Claims.{switchesIn, isAsked, claimDay, soFarTold}
-use Rattle.resolver.proofs.ClaimLaws.{scan-end}
-use Rattle.resolver.proofs.ScannedLaws.{switches-end, best-switch, best-appeared, best-annexed}
+use Rattle.resolver.proofs.ClaimLaws.{switches-end, scan-end}
+use Rattle.resolver.proofs.ScannedLaws.{best-switch, best-appeared, best-annexed}
 use Rattle.resolver.proofs.claims.best_switch.Statement.{statement}
 use Rattle.resolver.proofs.claims.best_switch.Tie as tie
 
