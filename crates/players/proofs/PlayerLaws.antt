@@ -28,7 +28,7 @@ use Rattle.rules.specs.PlayerOutcomes.{callPlayers}
 use Rattle.rules.proofs.LentLaws.{outcome-refused, outcome-gives}
 use Rattle.players.specs.declared.pairs.Pairs.{Pairs}
 use Rattle.players.specs.PairSteps.{pairsLeft}
-use Rattle.players.specs.PlayerSteps.{playersLeft, Ready}
+use Rattle.players.specs.PlayerSteps.{playersLeft, PlayersReady}
 use Rattle.players.proofs.PairLaws.{pairs-numbered, pairs-short}
 
 -- ## The player of a pair
@@ -104,7 +104,7 @@ filling-full all rest before k now f h = go rest (omega (arith, f .fits, f .long
 -- ## `players`
 
 -- An opened record has all its players before its first string.
-pub walk-ready : (xs : List ℕ) (r : Record) → refusal xs ≡ 0 → Tells xs r → Ready xs (r .multiplayer) (record { number = 0; strings = r .strings })
+pub walk-ready : (xs : List ℕ) (r : Record) → refusal xs ≡ 0 → Tells xs r → PlayersReady xs (r .multiplayer) (record { number = 0; strings = r .strings })
 unfolding playersOf
 walk-ready xs r z t =
     record {

@@ -33,6 +33,6 @@ playerTold xs multiplayer (NextPlayer.the-variants.Row p c) = playerIn p ∷ pla
 playerTold xs multiplayer NextPlayer.the-variants.End = []
 
 -- An accepted record, and a walk that has all its players left.
-pub record Ready (xs : List ℕ) (multiplayer : Bool) (c : Pairs) : Type 0 where
+pub record PlayersReady (xs : List ℕ) (multiplayer : Bool) (c : Pairs) : Type 0 where
   pub accepted : refusal xs ≡ 0
   pub all : playersLeft xs multiplayer c ≡ playersOf (campaignOf xs)

@@ -6,7 +6,7 @@ ghost use mathlib.Core.Path.{_≡_};
 ghost use Rattle.players.specs.PairSteps.{pairsLeft, pairTold};
 
 // No record has as many strings: their number takes 16 bits.
-const NUMBERS: u32 = 65536;
+const STRING_NUMBERS: u32 = 65536;
 
 // How many strings a pair takes.
 const PAIR_WIDTH: u32 = 2;
@@ -33,7 +33,7 @@ pub(crate) enum NextPair {
 pub(crate) fn next_pair(s: &[u8], at: Pairs) -> NextPair
     ensures { λ r. ⌜ pairsLeft (now (s .entry)) at ≡ pairTold (now (s .entry)) r ⌝ }
 {
-    let number = at.number % NUMBERS;
+    let number = at.number % STRING_NUMBERS;
     let strings = at.strings;
     match strings.next(s) {
         NextString::Row(name, behind) => match behind.next(s) {

@@ -13,14 +13,14 @@ ghost use Rattle.rules.specs.Lent.{written};
 ghost use Rattle.rules.specs.Players.{playerWords, playerRows};
 ghost use Rattle.rules.specs.PlayerOutcomes.{callPlayers};
 ghost use Rattle.players.specs.Cases.{playersOutcome};
-ghost use Rattle.players.specs.PlayerSteps.{playerIn, playersLeft, Ready};
+ghost use Rattle.players.specs.PlayerSteps.{playerIn, playersLeft, PlayersReady};
 
 // How many words a player row has.
 const PLAYER_WIDTH: usize = 2;
 
 // How many players there are.
 fn count_players(s: &[u8], start: Pairs, multiplayer: bool) -> usize
-    requires { ⌜ Ready (now s) multiplayer start ⌝ }
+    requires { ⌜ PlayersReady (now s) multiplayer start ⌝ }
     ensures { λ r. ⌜ r ≡ length (playersLeft (now (s .entry)) multiplayer start) ⌝ }
 {
     let mut at = start;
@@ -71,7 +71,7 @@ fn write_players(s: &[u8], start: Pairs, multiplayer: bool, out: &mut [u32])
 
 // Counts the players before the first cell is written.
 fn rows_of(s: &[u8], start: Pairs, multiplayer: bool, out: &mut [u32]) -> Players
-    requires { ⌜ Ready (now s) multiplayer start ⌝ }
+    requires { ⌜ PlayersReady (now s) multiplayer start ⌝ }
     ensures { λ r. ⌜ playersOutcome r (now (out .exit)) ≡ callPlayers (now (s .entry)) (now (out .entry)) ⌝ }
 {
     let n = count_players(s, start, multiplayer);
