@@ -22,36 +22,61 @@ use Rattle.resolver.specs.declared.claims.Claim.{Claim}
 use Rattle.resolver.specs.declared.claims.Walk.{Walk}
 use Rattle.resolver.specs.Claims.{claimsIn, claimsLeft, walkStart, bestOf}
 use Rattle.resolver.proofs.ClaimLaws.{walk-start}
-use Rattle.questions.specs.Keys.{keysFrom, lastAsked, SortsBlock, roomOf}
+use Rattle.questions.specs.Keys.{keysFrom, lastAsked, SortsBlock, blockRoom}
 use Rattle.questions.specs.Passes.{claimWords, updated, rowsWith, blankRow, blockRow, bestRow}
 use Rattle.questions.proofs.BlockLaws.{length-keys}
 use Rattle.questions.proofs.GoodLaws.{SoundClaim, claims-sound}
 use Rattle.questions.proofs.KeyLaws.{GoodClaim}
 use Rattle.questions.proofs.RowsLaws.{block-updated, block-rows, blank-rows}
 
-pub record Between (ws es qs before : List ℕ) (walk : Walk) (out keys owners scratch : List ℕ) : Type 0 where
+-- What the rows hold by then is given of the claims passed: rows of questions, or of anything else.
+pub record Between (ws es : List ℕ) (rows : List Claim → List ℕ) (before : List ℕ) (walk : Walk) (out keys owners scratch : List ℕ) : Type 0 where
   pub passed : List Claim
   pub whole : claimsIn ws es ≡ passed ++ claimsLeft ws es walk
-  pub cells : out ≡ rowsWith (bestRow qs passed) (length (questionsIn qs)) before
+  pub cells : out ≡ rows passed
   pub long : length out ≡ length before
   pub keys-long : length keys ≡ 24576
   pub owners-long : length owners ≡ 24576
   pub scratch-long : length scratch ≡ 24576
 
--- ## The first block
-
-pub between-start : (ws es qs before out : List ℕ) (walk : Walk) (n : ℕ) (keys owners scratch : List ℕ) → n ≡ length (questionsIn qs) → out ≡ rowsWith blankRow n before → walk ≡ walkStart
-    → length keys ≡ 24576 → length owners ≡ 24576 → length scratch ≡ 24576 → Between ws es qs out walk out keys owners scratch
-between-start ws es qs before out walk n keys owners scratch m e w k o s =
+pub block-first : (ws es : List ℕ) (rows : List Claim → List ℕ) (out : List ℕ) (walk : Walk) (keys owners scratch : List ℕ) → out ≡ rows [] → walk ≡ walkStart
+    → length keys ≡ 24576 → length owners ≡ 24576 → length scratch ≡ 24576 → Between ws es rows out walk out keys owners scratch
+block-first ws es rows out walk keys owners scratch e w k o s =
     record {
       passed = [];
       whole = sym (ap (claimsLeft ws es) w ∙ walk-start ws es);
-      cells = rw (← m) (blank-rows qs n before out e);
+      cells = e;
       long = refl;
       keys-long = k;
       owners-long = o;
       scratch-long = s;
     }
+
+module _ (ws es : List ℕ) (rows : List Claim → List ℕ) (before : List ℕ) (walk : Walk) (out keys owners scratch : List ℕ) (t : Between ws es rows before walk out keys owners scratch) where
+  pub block-last : claimsLeft ws es walk ≡ [] → out ≡ rows (claimsIn ws es)
+  block-last e =
+      let all : claimsIn ws es ≡ t .passed = t .whole ∙ (ap (λ (l : List Claim). t .passed ++ l) e ∙ append-nil (t .passed)) in
+      rw all (t .cells)
+
+  -- The rows are moved on by the claims of the block.
+  pub block-next : (rest : Walk) (count : ℕ) (keys₁ owners₁ scratch₁ new : List ℕ)
+      → SortsBlock (claimsLeft ws es walk) (claimsLeft ws es rest) (blockRoom keys owners) count keys keys₁ owners owners₁ scratch scratch₁
+      → new ≡ rows (t .passed ++ take (blockRoom keys owners) (claimsLeft ws es walk))
+      → length new ≡ length out → length keys₁ ≡ length keys → length owners₁ ≡ length owners → length scratch₁ ≡ length scratch
+      → Between ws es rows before rest new keys₁ owners₁ scratch₁
+  block-next rest count keys₁ owners₁ scratch₁ new b w lo lk lw ls =
+      let left = claimsLeft ws es walk in
+      let room = blockRoom keys owners in
+      let ys : List Claim = take room left in
+      record {
+        passed = t .passed ++ ys;
+        whole = t .whole ∙ (ap (λ (l : List Claim). t .passed ++ l) (sym (take-append-drop room left) ∙ ap (λ (l : List Claim). ys ++ l) (sym (b .behind))) ∙ sym (append-assoc (t .passed) ys (claimsLeft ws es rest)));
+        cells = w;
+        long = lo ∙ t .long;
+        keys-long = lk ∙ t .keys-long;
+        owners-long = lw ∙ t .owners-long;
+        scratch-long = ls ∙ t .scratch-long;
+      }
 
 -- ## A block
 
@@ -114,32 +139,30 @@ module _ (ws es : List ℕ) (shaped : wellShaped ws es ≡ true) (passed left : 
       rw (part-sorted left rest room count keys₀ keys₁ owners₀ owners₁ scratch₀ scratch₁ b, b .owners)
       (block-updated tag date t d passed (take room left) _ block-good (block-few left rest room count keys₀ keys₁ owners₀ owners₁ scratch₀ scratch₁ b h))
 
-module _ (ws es qs before : List ℕ) (walk : Walk) (out keys owners scratch : List ℕ) (t : Between ws es qs before walk out keys owners scratch) where
-  pub between-end : claimsLeft ws es walk ≡ [] → out ≡ rowsWith (bestRow qs (claimsIn ws es)) (length (questionsIn qs)) before
-  between-end e =
-      let all : claimsIn ws es ≡ t .passed = t .whole ∙ (ap (λ (l : List Claim). t .passed ++ l) e ∙ append-nil (t .passed)) in
-      rw all (t .cells)
+-- ## The rows of questions
 
-  pub between-next : (rest : Walk) (count : ℕ) (keys₁ owners₁ scratch₁ new : List ℕ) → wellShaped ws es ≡ true → allOf questionShaped (questionsIn qs) ≡ true
-      → SortsBlock (claimsLeft ws es walk) (claimsLeft ws es rest) (roomOf keys owners) count keys keys₁ owners owners₁ scratch scratch₁
-      → new ≡ rowsWith (blockRow qs (take (count - 0) keys₁) owners₁ out) (length (questionsIn qs)) out
-      → length new ≡ length out → length keys₁ ≡ length keys → length owners₁ ≡ length owners → length scratch₁ ≡ length scratch
-      → Between ws es qs before rest new keys₁ owners₁ scratch₁
-  unfolding block sorted
-  between-next rest count keys₁ owners₁ scratch₁ new shaped good b w lo lk lw ls =
-      let left = claimsLeft ws es walk in
-      let room = roomOf keys owners in
-      let ys : List Claim = take room left in
-      record {
-        passed = t .passed ++ ys;
-        whole = t .whole ∙ (ap (λ (l : List Claim). t .passed ++ l) (sym (take-append-drop room left) ∙ ap (λ (l : List Claim). ys ++ l) (sym (b .behind))) ∙ sym (append-assoc (t .passed) ys (claimsLeft ws es rest)));
-        cells =
-            block-rows qs good (t .passed) ys (drop (length (map (λ (c : Claim). c .nation) ys)) owners) before (block-good ws es shaped (t .passed) left (t .whole) (claimsLeft ws es rest) room count keys keys₁ owners owners₁ scratch scratch₁ b)
-            (block-few left (claimsLeft ws es rest) room count keys keys₁ owners owners₁ scratch scratch₁ b (omega arith))
-            (take (count - 0) keys₁) owners₁ (part-sorted left (claimsLeft ws es rest) room count keys keys₁ owners owners₁ scratch scratch₁ b) (b .owners)
-            (length (questionsIn qs)) refl out new (t .cells) w;
-        long = lo ∙ t .long;
-        keys-long = lk ∙ t .keys-long;
-        owners-long = lw ∙ t .owners-long;
-        scratch-long = ls ∙ t .scratch-long;
-      }
+-- Each has the best of the claims passed.
+abbrev pub bestRows : List ℕ → List ℕ → List Claim → List ℕ
+bestRows qs before cs = rowsWith (bestRow qs cs) (length (questionsIn qs)) before
+
+pub between-start : (ws es qs before out : List ℕ) (walk : Walk) (n : ℕ) (keys owners scratch : List ℕ) → n ≡ length (questionsIn qs) → out ≡ rowsWith blankRow n before → walk ≡ walkStart
+    → length keys ≡ 24576 → length owners ≡ 24576 → length scratch ≡ 24576 → Between ws es (bestRows qs out) out walk out keys owners scratch
+between-start ws es qs before out walk n keys owners scratch m e =
+    block-first ws es (bestRows qs out) out walk keys owners scratch (rw (← m) (blank-rows qs n before out e))
+
+pub between-next : (ws es qs before : List ℕ) (walk : Walk) (out keys owners scratch : List ℕ) (t : Between ws es (bestRows qs before) before walk out keys owners scratch)
+    (rest : Walk) (count : ℕ) (keys₁ owners₁ scratch₁ new : List ℕ) → wellShaped ws es ≡ true → allOf questionShaped (questionsIn qs) ≡ true
+    → SortsBlock (claimsLeft ws es walk) (claimsLeft ws es rest) (blockRoom keys owners) count keys keys₁ owners owners₁ scratch scratch₁
+    → new ≡ rowsWith (blockRow qs (take (count - 0) keys₁) owners₁ out) (length (questionsIn qs)) out
+    → length new ≡ length out → length keys₁ ≡ length keys → length owners₁ ≡ length owners → length scratch₁ ≡ length scratch
+    → Between ws es (bestRows qs before) before rest new keys₁ owners₁ scratch₁
+unfolding block sorted
+between-next ws es qs before walk out keys owners scratch t rest count keys₁ owners₁ scratch₁ new shaped good b w =
+    let left = claimsLeft ws es walk in
+    let room = blockRoom keys owners in
+    let ys : List Claim = take room left in
+    block-next ws es (bestRows qs before) before walk out keys owners scratch t rest count keys₁ owners₁ scratch₁ new b
+    (block-rows qs good (t .passed) ys (drop (length (map (λ (c : Claim). c .nation) ys)) owners) before (block-good ws es shaped (t .passed) left (t .whole) (claimsLeft ws es rest) room count keys keys₁ owners owners₁ scratch scratch₁ b)
+    (block-few left (claimsLeft ws es rest) room count keys keys₁ owners owners₁ scratch scratch₁ b (omega arith))
+    (take (count - 0) keys₁) owners₁ (part-sorted left (claimsLeft ws es rest) room count keys keys₁ owners owners₁ scratch scratch₁ b) (b .owners)
+    (length (questionsIn qs)) refl out new (t .cells) w)

@@ -44,8 +44,8 @@ pub record SortsBlock (left rest : List Claim) (room count : ℕ) (keys₀ keys�
   pub scratch : scratch₁ ≡ cleared count scratch₀
 
 -- The room of a block: both slices must hold its claims, and a number takes 16 bits.
-abbrev pub roomOf : List ℕ → List ℕ → ℕ
-roomOf keys owners = min (min (length keys) (length owners)) 65536
+abbrev pub blockRoom : List ℕ → List ℕ → ℕ
+blockRoom keys owners = min (min (length keys) (length owners)) 65536
 
 -- The keys to a tag that are dated not after a date, of a claim with any number.
 abbrev pub isAskedKey : CountryTag → Eu4Date → ℕ → Bool

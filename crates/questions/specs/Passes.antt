@@ -72,7 +72,7 @@ abbrev pub claimRow : List ℕ → List ℕ → List ℕ → ℕ → List ℕ
 claimRow ws es qs i = answerWords (Option·map (plainOf ws) (bestOf (questionAt qs i .tag) (questionAt qs i .date) (claimsIn ws es)))
 
 -- What the passes start from: a well-shaped chronicle, good questions, and room for their rows.
-pub record Ready (ws es qs out : List ℕ) : Type 0 where
+pub record QuestionsReady (ws es qs out : List ℕ) : Type 0 where
   pub shaped : wellShaped ws es ≡ true
   pub good : allOf questionShaped (questionsIn qs) ≡ true
   pub room : 2 * length (questionsIn qs) ≤ length out

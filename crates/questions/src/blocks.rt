@@ -12,13 +12,13 @@ ghost use lib.Dec.{leb};
 ghost use Rattle.sorting.specs.Sort.{sortBy};
 ghost use Rattle.search.specs.Halving.{CountsBelow};
 ghost use Rattle.resolver.specs.Claims.{claimsLeft};
-ghost use Rattle.questions.specs.Keys.{tagBits, lowestKey, Fills, SortsBlock, roomOf, lastAsked, lookedTold};
+ghost use Rattle.questions.specs.Keys.{tagBits, lowestKey, Fills, SortsBlock, blockRoom, lastAsked, lookedTold};
 
 // How many claims are sorted at a time: a chronicle at 01's limits is one block.
 pub const BLOCK: usize = 24576;
 
 // The most claims that a block can have: a number takes 16 bits.
-const NUMBERS: usize = 65536;
+const CLAIM_NUMBERS: usize = 65536;
 
 // A tag's 21 bits, seven for each byte.
 fn tag_bits(tag: CountryTag) -> u64
@@ -55,9 +55,9 @@ fn fill_block(
     keys: &mut [u64],
     owners: &mut [u64],
 ) -> Block
-    ensures { λ r. ⌜ Fills (claimsLeft (now (nations .entry)) (now (entries .entry)) walk) (claimsLeft (now (nations .entry)) (now (entries .entry)) (r .rest)) (roomOf (now (keys .entry)) (now (owners .entry))) (r .count) (now (keys .entry)) (now (keys .exit)) (now (owners .entry)) (now (owners .exit)) ⌝ }
+    ensures { λ r. ⌜ Fills (claimsLeft (now (nations .entry)) (now (entries .entry)) walk) (claimsLeft (now (nations .entry)) (now (entries .entry)) (r .rest)) (blockRoom (now (keys .entry)) (now (owners .entry))) (r .count) (now (keys .entry)) (now (keys .exit)) (now (owners .entry)) (now (owners .exit)) ⌝ }
 {
-    let room = least(least(keys.len(), owners.len()), NUMBERS);
+    let room = least(least(keys.len(), owners.len()), CLAIM_NUMBERS);
     let mut rest = walk;
     let mut count = 0;
     while count < room {
@@ -88,7 +88,7 @@ pub fn sort_block(
     owners: &mut [u64],
     scratch: &mut [u64],
 ) -> Block
-    ensures { λ r. ⌜ SortsBlock (claimsLeft (now (nations .entry)) (now (entries .entry)) walk) (claimsLeft (now (nations .entry)) (now (entries .entry)) (r .rest)) (roomOf (now (keys .entry)) (now (owners .entry))) (r .count) (now (keys .entry)) (now (keys .exit)) (now (owners .entry)) (now (owners .exit)) (now (scratch .entry)) (now (scratch .exit)) ⌝ }
+    ensures { λ r. ⌜ SortsBlock (claimsLeft (now (nations .entry)) (now (entries .entry)) walk) (claimsLeft (now (nations .entry)) (now (entries .entry)) (r .rest)) (blockRoom (now (keys .entry)) (now (owners .entry))) (r .count) (now (keys .entry)) (now (keys .exit)) (now (owners .entry)) (now (owners .exit)) (now (scratch .entry)) (now (scratch .exit)) ⌝ }
 {
     let block = fill_block(nations, entries, walk, keys, owners);
     let n = block.count;

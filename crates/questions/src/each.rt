@@ -18,7 +18,7 @@ ghost use Rattle.sorting.specs.Sort.{sortBy};
 ghost use Rattle.rules.specs.Questions.{questionsIn, callResolveEach};
 ghost use Rattle.resolver.specs.Claims.{claimsIn};
 ghost use Rattle.questions.specs.Cases.{eachOutcome};
-ghost use Rattle.questions.specs.Passes.{Ready, rowsWith, blankRow, blockRow, bestRow, finishedRow, claimRow};
+ghost use Rattle.questions.specs.Passes.{QuestionsReady, rowsWith, blankRow, blockRow, bestRow, finishedRow, claimRow};
 
 // How many questions were answered, or the number of the refusal.
 pub enum Each {
@@ -58,7 +58,7 @@ fn answer_block(questions: &[u32], keys: &[u64], owners: &[u64], out: &mut [u32]
         let q = asked::question_at(questions, i);
         let tag = q.tag;
         let date = q.date;
-        let at = 2 * i;
+        let at = words::ANSWER_WIDTH * i;
         let best = out[at];
         let owner = out[at + 1];
         let looked = blocks::look_up_near(keys, &starts, tag, date);
@@ -75,7 +75,7 @@ fn finish_rows(nations: &[u32], n: usize, out: &mut [u32])
 {
     let mut i = 0;
     while i < n {
-        let at = 2 * i;
+        let at = words::ANSWER_WIDTH * i;
         let owner = out[at + 1];
         words::put_row(out, i, words::finished_row(nations, owner));
         i += 1;
@@ -104,7 +104,7 @@ fn answer_each(nations: &[u32], entries: &[u32], questions: &[u32], out: &mut [u
 
 // Looks every question up in each block of the claims, until none is left. The chronicle is well shaped, and every question is good.
 fn answer_blocks(nations: &[u32], entries: &[u32], questions: &[u32], out: &mut [u32])
-    requires { ⌜ Ready (now nations) (now entries) (now questions) (now out) ⌝ }
+    requires { ⌜ QuestionsReady (now nations) (now entries) (now questions) (now out) ⌝ }
     ensures { λ _. ⌜ now (out .exit) ≡ rowsWith (bestRow (now (questions .entry)) (claimsIn (now (nations .entry)) (now (entries .entry)))) (length (questionsIn (now (questions .entry)))) (now (out .entry)) ⌝ }
 {
     clear_rows(asked::question_count(questions), out);
@@ -133,7 +133,7 @@ fn answer_blocks(nations: &[u32], entries: &[u32], questions: &[u32], out: &mut 
 // Answers all questions block by block. A row holds a nation's number in 32 bits until the end; a chronicle that has more nations is
 // passed over anew for each question.
 fn answer_all(nations: &[u32], entries: &[u32], questions: &[u32], out: &mut [u32])
-    requires { ⌜ Ready (now nations) (now entries) (now questions) (now out) ⌝ }
+    requires { ⌜ QuestionsReady (now nations) (now entries) (now questions) (now out) ⌝ }
     ensures { λ _. ⌜ now (out .exit) ≡ rowsWith (claimRow (now (nations .entry)) (now (entries .entry)) (now (questions .entry))) (length (questionsIn (now (questions .entry)))) (now (out .entry)) ⌝ }
 {
     if 4294967295 <= nation_count(nations) {
@@ -157,7 +157,7 @@ pub fn resolve_each(nations: &[u32], entries: &[u32], questions: &[u32], out: &m
         return Each::Refused(12);
     }
     let n = asked::question_count(questions);
-    if out.len() / 2 < n {
+    if out.len() / words::ANSWER_WIDTH < n {
         return Each::Refused(10);
     }
     answer_all(nations, entries, questions, out);

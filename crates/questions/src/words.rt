@@ -13,6 +13,9 @@ ghost use Rattle.resolver.specs.Found.{plainOf};
 ghost use Rattle.questions.specs.Keys.{lookedTold, keyNumber};
 ghost use Rattle.questions.specs.Passes.{rowSet, updated, finished};
 
+// How many words an answer's row has.
+pub(crate) const ANSWER_WIDTH: usize = 2;
+
 pub struct Words {
     pub first: u32,
     pub second: u32,
@@ -23,7 +26,7 @@ pub(crate) fn put_row(out: &mut [u32], i: usize, row: Words)
     requires { ⌜ 2 * i + 1 < length (now out) ⌝ }
     ensures { λ _. ⌜ now (out .exit) ≡ rowSet (now (out .entry)) i (row .first ∷ row .second ∷ []) ⌝ }
 {
-    let at = 2 * i;
+    let at = ANSWER_WIDTH * i;
     out[at] = row.first;
     out[at + 1] = row.second;
 }

@@ -9,12 +9,12 @@ use native.Mathlib.Omega.{arith}
 use lib.ListN.{length}
 use Rattle.resolver.specs.Claims.{claimsLeft}
 use Rattle.questions.proofs.RowsLaws.{rows-over}
-use Rattle.questions.proofs.BetweenLaws.{Between, between-start, between-next, between-end, sorted-inside, part-in-order, nothing-left, fewer-left}
+use Rattle.questions.proofs.BetweenLaws.{Between, block-last, bestRows, between-start, between-next, sorted-inside, part-in-order, nothing-left, fewer-left}
 use Rattle.questions.proofs.each.answer_blocks.Statement.{statement}
 use Rattle.questions.proofs.each.answer_blocks.Tie as tie
 
 abbrev Inv-loop : tie.InvT-loop
-Inv-loop nations entries questions out₀ keys₀ owners₀ scratch₀ walk₀ out keys owners scratch walk = Between nations entries questions out₀ walk out keys owners scratch
+Inv-loop nations entries questions out₀ keys₀ owners₀ scratch₀ walk₀ out keys owners scratch walk = Between nations entries (bestRows questions out₀) out₀ walk out keys owners scratch
 
 abbrev μ-loop : tie.MeasureT-loop
 μ-loop nations entries questions out₀ keys₀ owners₀ scratch₀ walk₀ out keys owners scratch walk = length (claimsLeft nations entries walk)
@@ -59,7 +59,7 @@ returns c =
     let a = cleared .before .before .before .before .before .before .before .args in
     rows-over (a .questions .now) (claimsIn (a .nations .now) (a .entries .now)) (length (questionsIn (a .questions .now))) (a .out .now) _ _
     (rw (cleared .before .before .question-count .ensures) at (cleared .clear-rows .ensures))
-    (between-end _ _ _ _ _ _ _ _ _ (loop .loop .inv)
+    (block-last _ _ _ _ _ _ _ _ _ (loop .loop .inv)
     (nothing-left _ _ _ _ _ _ _ _ _ _ (sorted .sort-block .ensures) (omega (arith, loop .loop .inv .keys-long, loop .loop .inv .owners-long)) (search needs)))
 
 sub-answer-block : tie.Need-sub-answer-block Inv-loop μ-loop
