@@ -17,7 +17,7 @@ use Rattle.rules.specs.Lent.{refused, gives, written}
 use Rattle.rules.specs.PlayerOutcomes.{HistoryCells, bothFit, bothWritten}
 use Rattle.rules.specs.HistoryRows.{HistoryRow, historyRowOf, historyRowWords}
 use Rattle.rules.proofs.LentLaws.{outcome-refused, outcome-gives}
-use Rattle.histories.specs.Arranging.{hasNames, isPopped, finishedRows, namesAt, keptWords, keptOf, draftWords, ArrangeReady, draftedCells, draftedCounts, draftedOutcome}
+use Rattle.histories.specs.Arranging.{hasNames, isPopped, historiesFrom, namesAt, keptWords, keptOf, draftWords, ArrangeReady, draftedCells, draftedCounts, draftedOutcome}
 use Rattle.histories.proofs.ArrangeStepLaws.{length-rows, length-finished, length-all-names, sum-few}
 
 -- ## Two parts, one behind the other
@@ -63,15 +63,15 @@ sum-idle (d ∷ ds) =
 length-kept : (ds : List HistoryRow) (kept : ℕ) → kept ≤ length (keep (hasNames false) ds)
     → length (keptWords ds kept) ≡ 7 * (length (keep (hasNames true) ds) + kept)
 length-kept ds kept h =
-    let ps : List HistoryRow = finishedRows 0 (keep (hasNames true) ds) in
+    let ps : List HistoryRow = historiesFrom 0 (keep (hasNames true) ds) in
     let ls : List HistoryRow = take kept (keep (hasNames false) ds) in
     let total : ℕ = sumOf (λ d. d .count) ds in
     omega (
       arith,
-      length-append (joinOf historyRowWords ps) (joinOf historyRowWords (finishedRows total ls)),
+      length-append (joinOf historyRowWords ps) (joinOf historyRowWords (historiesFrom total ls)),
       length-rows ps,
       length-finished 0 (keep (hasNames true) ds),
-      length-rows (finishedRows total ls),
+      length-rows (historiesFrom total ls),
       length-finished total ls,
       length-take kept (keep (hasNames false) ds),
     )
@@ -82,23 +82,23 @@ length-drafted false ds = length-kept ds (keptOf false ds) (omega arith)
 
 module _ (ds : List HistoryRow) (popped : Bool) (played kept : ℕ) (p : played ≡ length (keep (hasNames true) ds)) (k : kept ≡ keptOf popped ds) where
   abbrev front : List ℕ
-  front = joinOf historyRowWords (finishedRows 0 (keep (hasNames true) ds))
+  front = joinOf historyRowWords (historiesFrom 0 (keep (hasNames true) ds))
 
   abbrev back : List ℕ
-  back = joinOf historyRowWords (finishedRows (sumOf (λ d. d .count) ds) (take kept (keep (hasNames false) ds)))
+  back = joinOf historyRowWords (historiesFrom (sumOf (λ d. d .count) ds) (take kept (keep (hasNames false) ds)))
 
   front-wide : 7 * played ≡ length front
-  front-wide = omega (arith, length-rows (finishedRows 0 (keep (hasNames true) ds)), length-finished 0 (keep (hasNames true) ds))
+  front-wide = omega (arith, length-rows (historiesFrom 0 (keep (hasNames true) ds)), length-finished 0 (keep (hasNames true) ds))
 
   back-wide : length back ≤ 7 * kept
   back-wide =
       let ls : List HistoryRow = take kept (keep (hasNames false) ds) in
-      omega (arith, length-rows (finishedRows (sumOf (λ d. d .count) ds) ls), length-finished (sumOf (λ d. d .count) ds) ls, length-take kept (keep (hasNames false) ds))
+      omega (arith, length-rows (historiesFrom (sumOf (λ d. d .count) ds) ls), length-finished (sumOf (λ d. d .count) ds) ls, length-take kept (keep (hasNames false) ds))
 
   -- Both passes have written.
   pub kept-written : (names : ℕ) (before first ys : List ℕ) → names ≡ sumOf (λ d. d .count) ds → 7 * (played + kept) ≤ length before
-      → first ≡ written (joinOf historyRowWords (finishedRows 0 (take played (keep (hasNames true) ds)))) before
-      → ys ≡ written (joinOf historyRowWords (finishedRows names (take kept (keep (hasNames false) ds)))) (take (length first - 7 * played) (drop (7 * played) first))
+      → first ≡ written (joinOf historyRowWords (historiesFrom 0 (take played (keep (hasNames true) ds)))) before
+      → ys ≡ written (joinOf historyRowWords (historiesFrom names (take kept (keep (hasNames false) ds)))) (take (length first - 7 * played) (drop (7 * played) first))
       → take (7 * played) first ++ (ys ++ drop (length first - 7 * played) (drop (7 * played) first)) ≡ written (keptWords ds kept) before
   kept-written names before first ys q room f w =
       let whole : take played (keep (hasNames true) ds) ≡ keep (hasNames true) ds = take-all played (keep (hasNames true) ds) p in

@@ -17,7 +17,7 @@ use Rattle.sorting.proofs.SortLaws.{all-kept}
 use Rattle.rules.specs.Histories.{History, hasPlayers, isReleased, takesInitial, arranged, namesIn}
 use Rattle.rules.specs.HistoryRows.{HistoryRow, historyRowOf, historyRowWords, historyRowsFrom, historyWords}
 use Rattle.histories.specs.Drafts.{draftOf}
-use Rattle.histories.specs.Arranging.{hasNames, isPopped, finishedRows, namesAt, keptOf, draftWords}
+use Rattle.histories.specs.Arranging.{hasNames, isPopped, historiesFrom, namesAt, keptOf, draftWords}
 
 module _ (keys : List ℕ) where
   abbrev draft : History → HistoryRow
@@ -38,8 +38,8 @@ module _ (keys : List ℕ) where
   flag-released false true = refl
   flag-released false false = refl
 
-  pub finished-rows : (first : ℕ) (hs : List History) → finishedRows first (map draft hs) ≡ historyRowsFrom first hs
-  unfolding finishedRows historyRowsFrom
+  pub finished-rows : (first : ℕ) (hs : List History) → historiesFrom first (map draft hs) ≡ historyRowsFrom first hs
+  unfolding historiesFrom historyRowsFrom
   finished-rows first [] = refl
   finished-rows first (h ∷ hs) = rw (flag-human (h .country .human) (isReleased h), finished-rows (first + length (h .names)) hs)
 
@@ -119,10 +119,10 @@ module _ (keys : List ℕ) where
     -- ## Their words
 
     abbrev frontWords : List History → List ℕ
-    frontWords hs = joinOf historyRowWords (finishedRows 0 (map draft hs))
+    frontWords hs = joinOf historyRowWords (historiesFrom 0 (map draft hs))
 
     abbrev backWords : ℕ → ℕ → List History → List ℕ
-    backWords total kept ls = joinOf historyRowWords (finishedRows total (take kept (map draft ls)))
+    backWords total kept ls = joinOf historyRowWords (historiesFrom total (take kept (map draft ls)))
 
     words-plain : (hs ls : List History) (total : ℕ) → pops hs ls ≡ false → total ≡ sumOf (λ h. length (h .names)) hs
         → historyWords (arranged ironman hs ls) ≡ frontWords hs ++ backWords total (length (map draft ls)) ls
@@ -136,7 +136,7 @@ module _ (keys : List ℕ) where
     words-popped : (h l : History) (rest : List History) (total : ℕ) → total ≡ sumOf (λ g. length (g .names)) (h ∷ [])
         → historyWords (takesInitial h (lastOr l rest) ∷ butLast (l ∷ rest))
         ≡ set (frontWords (h ∷ []) ++ backWords total (length (map draft (l ∷ rest)) - 1) (l ∷ rest)) 0 (lastOr (historyRowOf []) (map draft (l ∷ rest)) .initial .0)
-    unfolding historyWords historyRowsFrom finishedRows
+    unfolding historyWords historyRowsFrom historiesFrom
     words-popped h l rest total t =
         let e1 = flag-human (h .country .human) (isReleased h) in
         let e2 : take (length (map draft (l ∷ rest)) - 1) (map draft (l ∷ rest)) ≡ map draft (butLast (l ∷ rest)) = take-last (draft l) (map draft rest) ∙ sym (map-butLast l rest) in

@@ -35,7 +35,7 @@ use Rattle.players.proofs.PlayerLaws.{walk-ready, players-few}
 use Rattle.players.proofs.LackLaws.{nations-many}
 use Rattle.histories.specs.Cases.{AcceptedRecord}
 use Rattle.histories.specs.Tables.{storedWord, playerKey}
-use Rattle.histories.specs.Drafts.{playedLeft, runStart, runLength, draftWith, draftOf, nameIn}
+use Rattle.histories.specs.Drafts.{playedLeft, keysBefore, runLength, draftWith, draftOf, nameIn}
 use Rattle.histories.specs.Arranging.{isPopped, namesAt, ArrangeReady, draftedCells, draftedCounts, draftedOutcome}
 use Rattle.histories.proofs.NameLaws.{players-rising, names-told}
 use Rattle.histories.proofs.HistoryDraftLaws.{drafts-read, history-parts, draft-history}
@@ -45,7 +45,7 @@ use Rattle.histories.proofs.ArrangedLaws.{words-same, names-same, count
 -- ## The drafts of a campaign
 
 -- The run of a tag lies inside the keys.
-run-inside : (keys : List ℕ) (tag : CountryTag) → runStart keys tag + runLength keys tag ≤ length keys
+run-inside : (keys : List ℕ) (tag : CountryTag) → keysBefore keys tag + runLength keys tag ≤ length keys
 run-inside keys tag = omega (arith, count-le (λ n. ltb n (tag .0 * 65536)) keys, count-le (λ n. ltb n (tag .0 * 65536 + 65536)) keys)
 
 module _ (c : Campaign) (ws es : List ℕ) (shaped : wellShaped ws es ≡ true) (numbered : length (nationRowsIn ws) ≤ 4294967295) (few : length (c .strings) ≤ 1000) where
@@ -55,21 +55,21 @@ module _ (c : Campaign) (ws es : List ℕ) (shaped : wellShaped ws es ≡ true) 
   abbrev history : Country → History
   history k = historyOf (namesOf (playersOf c) (k .tag)) k 0 (nationsIn ws es)
 
-  names-here : (k : Country) → map nameIn (take (runLength keys (k .tag)) (drop (runStart keys (k .tag)) keys)) ≡ namesOf (playersOf c) (k .tag)
+  names-here : (k : Country) → map nameIn (take (runLength keys (k .tag)) (drop (keysBefore keys (k .tag)) keys)) ≡ namesOf (playersOf c) (k .tag)
   names-here k = names-told (playersOf c) (k .tag) (players-rising c few)
 
   length-here : (k : Country) → length (namesOf (playersOf c) (k .tag)) ≡ runLength keys (k .tag)
   length-here k =
       sym (ap length (names-here k))
-      ∙ length-map (take (runLength keys (k .tag)) (drop (runStart keys (k .tag)) keys)) nameIn
-      ∙ length-take (runLength keys (k .tag)) (drop (runStart keys (k .tag)) keys)
-      ∙ omega (arith, length-drop (runStart keys (k .tag)) keys, run-inside keys (k .tag))
+      ∙ length-map (take (runLength keys (k .tag)) (drop (keysBefore keys (k .tag)) keys)) nameIn
+      ∙ length-take (runLength keys (k .tag)) (drop (keysBefore keys (k .tag)) keys)
+      ∙ omega (arith, length-drop (keysBefore keys (k .tag)) keys, run-inside keys (k .tag))
 
   draft-names : (k : Country) → namesAt keys (draftOf keys (history k)) ≡ history k .names
   draft-names k =
       let parts = history-parts (namesOf (playersOf c) (k .tag)) k 0 (nationsIn ws es) in
       let many : length (history k .names) ≡ runLength keys (k .tag) = ap length (parts .1) ∙ length-here k in
-      let start : runStart keys (history k .country .tag) ≡ runStart keys (k .tag) = ap (λ (j : Country). runStart keys (j .tag)) (parts .0) in
+      let start : keysBefore keys (history k .country .tag) ≡ keysBefore keys (k .tag) = ap (λ (j : Country). keysBefore keys (j .tag)) (parts .0) in
       rw (many, start) (names-here k ∙ sym (parts .1))
 
   pub drafts-histories : (ks : List Country)

@@ -22,7 +22,7 @@ use Rattle.format.specs.Campaign.{Campaign}
 use Rattle.rules.specs.Players.{Pair, pairsFrom, Player, isAnonymous, taggedPlayer, playerOf, playersOf}
 use Rattle.rules.specs.Histories.{namesOf}
 use Rattle.histories.specs.Tables.{playerKey}
-use Rattle.histories.specs.Drafts.{runStart, runLength, nameIn}
+use Rattle.histories.specs.Drafts.{keysBefore, runLength, nameIn}
 
 -- ## Names rise
 
@@ -98,7 +98,7 @@ module _ (ps : List Player) (tag : CountryTag) (rising : Rising 0 65536 ps) wher
           let n : r .name % 65536 ≡ r .name = omega (arith, b .0 .1) in
           (le-leb (playerKey q) (playerKey r) (rw (m, n, x, y) (omega (arith, l .0))), go rs (b .1) (l .1))
 
-  pub names-told : map nameIn (take (runLength (sortBy leb (map playerKey ps)) tag) (drop (runStart (sortBy leb (map playerKey ps)) tag) (sortBy leb (map playerKey ps)))) ≡ namesOf ps tag
+  pub names-told : map nameIn (take (runLength (sortBy leb (map playerKey ps)) tag) (drop (keysBefore (sortBy leb (map playerKey ps)) tag) (sortBy leb (map playerKey ps)))) ≡ namesOf ps tag
   unfolding namesOf
   names-told =
       let keys : List ℕ = sortBy leb (map playerKey ps) in

@@ -20,7 +20,7 @@ use Rattle.rules.specs.Lent.{written}
 use Rattle.players.specs.declared.pairs.Pairs.{Pairs}
 use Rattle.players.specs.PlayerSteps.{playersLeft}
 use Rattle.histories.specs.Tables.{playerKey, SortsPlayers}
-use Rattle.histories.specs.Drafts.{runStart, RunOf}
+use Rattle.histories.specs.Drafts.{keysBefore, RunOf}
 
 -- ## Keys of tags
 
@@ -36,7 +36,7 @@ tag-key-small t n h = let e : n % 65536 ≡ n = omega arith in rw e
 
 module _ (keys : List ℕ) (tag : CountryTag) (low first end : ℕ) (l : low ≡ tagKey tag (0 % 65536)) (sorted : sortBy leb keys ≡ keys)
     (a : CountsBelow keys (low / 2 * 2) first) (b : CountsBelow keys ((low + 65536) / 2 * 2) end) where
-  first-told : first ≡ runStart keys tag
+  first-told : first ≡ keysBefore keys tag
   first-told = let e : low / 2 * 2 ≡ tag .0 * 65536 = omega arith in rw e at (a .counted sorted)
 
   end-told : end ≡ countOf (λ k. ltb k (tag .0 * 65536 + 65536)) keys

@@ -24,8 +24,8 @@ draftTold ds named (NextDraft.the-variants.Row x i) = historyTold x ∷ keep (ha
 draftTold ds named NextDraft.the-variants.End = []
 
 -- The history of a draft, with the number of names before its own.
-abbrev pub finishedRow : HistoryRow → ℕ → HistoryRow
-finishedRow d first =
+abbrev pub historyFrom : HistoryRow → ℕ → HistoryRow
+historyFrom d first =
     record {
       initial = d .initial;
       latest = d .latest;
@@ -36,9 +36,9 @@ finishedRow d first =
       count = d .count;
     }
 
-unfoldable pub finishedRows : ℕ → List HistoryRow → List HistoryRow
-finishedRows first [] = []
-finishedRows first (d ∷ ds) = finishedRow d first ∷ finishedRows (first + d .count) ds
+unfoldable pub historiesFrom : ℕ → List HistoryRow → List HistoryRow
+historiesFrom first [] = []
+historiesFrom first (d ∷ ds) = historyFrom d first ∷ historiesFrom (first + d .count) ds
 
 -- The names that a draft leads to.
 abbrev pub namesAt : List ℕ → HistoryRow → List ℕ
@@ -68,8 +68,8 @@ pub record WriteReady (ds : List HistoryRow) (named : Bool) (n names : ℕ) (out
 -- The words of all histories with players and of so many leftovers.
 abbrev pub keptWords : List HistoryRow → ℕ → List ℕ
 keptWords ds kept =
-    joinOf historyRowWords (finishedRows 0 (keep (hasNames true) ds))
-    ++ joinOf historyRowWords (finishedRows (sumOf (λ d. d .count) ds) (take kept (keep (hasNames false) ds)))
+    joinOf historyRowWords (historiesFrom 0 (keep (hasNames true) ds))
+    ++ joinOf historyRowWords (historiesFrom (sumOf (λ d. d .count) ds) (take kept (keep (hasNames false) ds)))
 
 -- How many leftovers stay.
 abbrev pub keptOf : Bool → List HistoryRow → ℕ

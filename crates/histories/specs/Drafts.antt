@@ -36,15 +36,15 @@ playedTold xs NextCountry.the-variants.End = []
 -- ## The players of a tag, by sorted keys
 
 -- How many keys stand before those of a tag, and how many are its own.
-abbrev pub runStart : List ℕ → CountryTag → ℕ
-runStart keys tag = countOf (λ k. ltb k (tag .0 * 65536)) keys
+abbrev pub keysBefore : List ℕ → CountryTag → ℕ
+keysBefore keys tag = countOf (λ k. ltb k (tag .0 * 65536)) keys
 
 abbrev pub runLength : List ℕ → CountryTag → ℕ
-runLength keys tag = countOf (λ k. ltb k (tag .0 * 65536 + 65536)) keys - runStart keys tag
+runLength keys tag = countOf (λ k. ltb k (tag .0 * 65536 + 65536)) keys - keysBefore keys tag
 
 -- The run that the code holds.
 pub record RunOf (keys : List ℕ) (tag : CountryTag) (r : NameRun) : Type 0 where
-  pub first : r .first ≡ runStart keys tag
+  pub first : r .first ≡ keysBefore keys tag
   pub count : r .count ≡ runLength keys tag
   pub inside : r .first + r .count ≤ length keys
 
@@ -75,7 +75,7 @@ draftBy human switched cities word n first count =
 -- A country's draft with this word.
 abbrev pub draftWith : List ℕ → List ℕ → Country → ℕ → HistoryRow
 draftWith ws keys k word =
-    draftBy (k .human) (k .hasSwitchedNation) (k .cities) word (toldBy ws (k .tag) word) (runStart keys (k .tag)) (runLength keys (k .tag))
+    draftBy (k .human) (k .hasSwitchedNation) (k .cities) word (toldBy ws (k .tag) word) (keysBefore keys (k .tag)) (runLength keys (k .tag))
 
 -- The same, with the word of its cell.
 abbrev pub draftFor : List ℕ → List CountryTag → List ℕ → List ℕ → Country → HistoryRow
@@ -121,7 +121,7 @@ draftOf keys h =
       stored = h .stored;
       nation = nationWord (h .nation);
       human = one (h .country .human) + 2 * one (isReleased h);
-      first = runStart keys (h .country .tag);
+      first = keysBefore keys (h .country .tag);
       count = length (h .names);
     }
 

@@ -19,7 +19,7 @@ ghost use Rattle.rules.specs.PlayerOutcomes.{callPlayerHistories};
 ghost use Rattle.histories.specs.Cases.{historiesOutcome, lentCells, AcceptedRecord};
 
 // The most nations that a word can number from 1 on.
-const MOST_NATIONS: usize = 4294967295;
+const MOST_NUMBERED: usize = 4294967295;
 
 // The words of a draft for each of the most countries.
 const MOST_WORDS: usize = 14000;
@@ -40,7 +40,7 @@ pub enum PlayerHistories {
 fn is_numbered(nations: &[u32], entries: &[u32]) -> bool
     ensures { λ r. ⌜ r ≡ (wellShaped (now (nations .entry)) (now (entries .entry)) && leb (length (nationRowsIn (now (nations .entry)))) 4294967295) ⌝ }
 {
-    is_well_shaped(nations, entries) & (nation_count(nations) <= MOST_NATIONS)
+    is_well_shaped(nations, entries) & (nation_count(nations) <= MOST_NUMBERED)
 }
 
 // Sorts the players, drafts a history for each country that was played, and arranges them.

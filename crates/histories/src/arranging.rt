@@ -17,7 +17,7 @@ ghost use Rattle.rules.specs.Lent.{written};
 ghost use Rattle.rules.specs.HistoryRows.{historyRowOf, historyRowWords, historyRowsIn};
 ghost use Rattle.players.specs.Cases.{historyTold};
 ghost use Rattle.histories.specs.Cases.{historiesOutcome, lentCells};
-ghost use Rattle.histories.specs.Arranging.{hasNames, draftTold, finishedRow, finishedRows, isPopped, WriteReady, HistoriesReady, draftWords, ArrangeReady, draftedOutcome};
+ghost use Rattle.histories.specs.Arranging.{hasNames, draftTold, historyFrom, historiesFrom, isPopped, WriteReady, HistoriesReady, draftWords, ArrangeReady, draftedOutcome};
 
 pub(crate) enum NextDraft {
     Row(History, usize),
@@ -100,7 +100,7 @@ fn is_popped(rows: &[u32], ironman: bool, played: usize, idle: usize) -> bool
 
 // The history of a draft, with the number of names before its own.
 fn finish(x: History, first: u32) -> History
-    ensures { λ r. ⌜ historyTold r ≡ finishedRow (historyTold x) first ⌝ }
+    ensures { λ r. ⌜ historyTold r ≡ historyFrom (historyTold x) first ⌝ }
 {
     let initial = x.initial;
     let latest = x.latest;
@@ -119,7 +119,7 @@ fn finish(x: History, first: u32) -> History
 // Writes the first n histories of the drafts with players, or without; so many names are before theirs.
 fn write_kind(rows: &[u32], named: bool, n: usize, names: u32, out: &mut [u32])
     requires { ⌜ WriteReady (historyRowsIn (now rows)) named n names (now out) ⌝ }
-    ensures { λ _. ⌜ now (out .exit) ≡ written (joinOf historyRowWords (finishedRows names (take n (keep (hasNames named) (historyRowsIn (now (rows .entry))))))) (now (out .entry)) ⌝ }
+    ensures { λ _. ⌜ now (out .exit) ≡ written (joinOf historyRowWords (historiesFrom names (take n (keep (hasNames named) (historyRowsIn (now (rows .entry))))))) (now (out .entry)) ⌝ }
 {
     let mut at = 0;
     let mut first = names;
