@@ -70,7 +70,7 @@ fn hold_rows(s: &[u8], start: JoiningWalk, keys: &[u64], owners: &[u64], out: &m
 }
 
 // Turns each row from its best claim into the booking.
-fn finish_rows(s: &[u8], start: JoiningWalk, nations: &[u32], out: &mut [u32])
+fn finish_bookings(s: &[u8], start: JoiningWalk, nations: &[u32], out: &mut [u32])
     requires { ⌜ Room (now s) start (now out) ⌝ }
     ensures { λ _. ⌜ now (out .exit) ≡ rowsBy (finalRow (now (nations .entry))) (joiningsLeft (now (s .entry)) start) (now (out .entry)) ⌝ }
 {
@@ -157,5 +157,5 @@ pub(crate) fn book_rows(
         return;
     }
     hold_blocks(s, start, n, nations, entries, out);
-    finish_rows(s, start, nations, out);
+    finish_bookings(s, start, nations, out);
 }

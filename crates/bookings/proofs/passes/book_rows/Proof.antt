@@ -23,8 +23,8 @@ returns c = c .before .before .claim-rows .ensures
 hold-blocks-requires : tie.Need-hold-blocks-requires
 hold-blocks-requires c κs = c .before .before .before .before .before .before .before .pre
 
-finish-rows-requires : tie.Need-finish-rows-requires
-finish-rows-requires c κs =
+finish-bookings-requires : tie.Need-finish-bookings-requires
+finish-bookings-requires c κs =
     let held = c .before .before .before in
     let ready = held .before .before .before .before .before .before .before .before .pre in
     record { few = ready .few .wars; room = omega (arith, ready .counted, ready .room, held .hold-blocks .kept .1 .1 .1 .1 .1 .0) }
@@ -40,7 +40,7 @@ returns-2 c =
     let start = held .before .before .before .before .before .before .before .before in
     let a = start .args in
     final-rows (a .nations .now) (a .entries .now) (start .pre .shaped) (omega (arith, many .before .nation-count .ensures, many .if1 .left))
-    (joiningsLeft (a .s .now) (a .start)) (a .out .now) _ _ (held .hold-blocks .ensures) (finish .finish-rows .ensures)
+    (joiningsLeft (a .s .now) (a .start)) (a .out .now) _ _ (held .hold-blocks .ensures) (finish .finish-bookings .ensures)
 
 pub book-rows-spec : {M : Type 1} → statement M
 book-rows-spec =
@@ -51,6 +51,6 @@ book-rows-spec =
     same-length
     returns
     hold-blocks-requires
-    finish-rows-requires
+    finish-bookings-requires
     same-length-2
     returns-2)

@@ -8,8 +8,8 @@ use Rattle.bookings.specs.Passes.{finalRow}
 use Rattle.bookings.proofs.JoiningLaws.{joining-row, joining-few, joining-end}
 use Rattle.bookings.proofs.BookingPassLaws.{Passing, passing-start, passing-room, passing-next, passing-end}
 use borrow.Author.Needs.{needs}
-use Rattle.bookings.proofs.passes.finish_rows.Statement.{statement}
-use Rattle.bookings.proofs.passes.finish_rows.Tie as tie
+use Rattle.bookings.proofs.passes.finish_bookings.Statement.{statement}
+use Rattle.bookings.proofs.passes.finish_bookings.Tie as tie
 
 abbrev Inv-loop : tie.InvT-loop
 Inv-loop s nations out₀ walk₀ k₀ out walk k = FewWars s walk × Passing (finalRow nations) (joiningsLeft s walk₀) out₀ (joiningsLeft s walk) k out
@@ -67,8 +67,8 @@ same-length c = c .before .before .before .loop .inv .1 .long
 returns : tie.Need-returns Inv-loop μ-loop
 returns c = passing-end _ _ _ (c .before .before .before .loop .inv .1) (joining-end (c .before .before .next-joining .ensures) (c .enum-told .given .1))
 
-pub finish-rows-spec : {M : Type 1} → statement M
-finish-rows-spec =
+pub finish-bookings-spec : {M : Type 1} → statement M
+finish-bookings-spec =
     tie.close
     (tie.spec
     Inv-loop

@@ -4,17 +4,17 @@ use Prim.Native.Nat.{ℕ}
 use native.Mathlib.Omega.{arith}
 use lib.ListN.{length, length-replicate}
 use Rattle.resolver.specs.Claims.{claimsIn, claimsLeft}
-use Rattle.questions.proofs.BetweenLaws.{sorted-inside, part-in-order, nothing-left, fewer-left}
+use Rattle.questions.proofs.BetweenLaws.{Between, block-last, sorted-inside, part-in-order, nothing-left, fewer-left}
 use Rattle.bookings.specs.Walking.{joiningsLeft}
 use Rattle.bookings.specs.Passes.{bestBookingRow}
-use Rattle.bookings.proofs.BookingBlockLaws.{Blocks, blocks-start, blocks-next, blocks-end, rows-over}
+use Rattle.bookings.proofs.BookingBlockLaws.{bestBookings, blocks-start, blocks-next, rows-over}
 use borrow.Author.Needs.{needs, zero≤}
 use Rattle.bookings.proofs.passes.hold_blocks.Statement.{statement}
 use Rattle.bookings.proofs.passes.hold_blocks.Tie as tie
 
 abbrev Inv-loop : tie.InvT-loop
 Inv-loop s start n nations entries out₀ keys₀ owners₀ scratch₀ walk₀ out keys owners scratch walk =
-    Blocks nations entries (joiningsLeft s start) out₀ walk out keys owners scratch
+    Between nations entries (bestBookings (joiningsLeft s start) out₀) out₀ walk out keys owners scratch
 
 abbrev μ-loop : tie.MeasureT-loop
 μ-loop s start n nations entries out₀ keys₀ owners₀ scratch₀ walk₀ out keys owners scratch walk = length (claimsLeft nations entries walk)
@@ -64,7 +64,7 @@ returns c =
     let cleared = loop .before .before .before .before in
     let start = begun cleared in
     let a = start .args in
-    blocks-end _ _ _ _ _ _ _ _ _ (loop .loop .inv)
+    block-last _ _ _ _ _ _ _ _ _ (loop .loop .inv)
     (nothing-left _ _ _ _ _ _ _ _ _ _ (sorted .sort-block .ensures) (omega (arith, loop .loop .inv .keys-long, loop .loop .inv .owners-long)) (search needs))
     ∙ rows-over (bestBookingRow (claimsIn (a .nations .now) (a .entries .now))) (joiningsLeft (a .s .now) (a .start)) (a .n) (a .out .now) _ (start .pre .counted) (cleared .clear-words .ensures)
 
