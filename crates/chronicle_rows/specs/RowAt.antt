@@ -1,8 +1,9 @@
 -- The rows of lent words by their number, from 0. Past the last one stands the row of no words, all zeros.
 use mathlib.Core.List.{List, [], map}
 use Prim.Native.Nat.{ℕ}
-use lib.ListN.{getD}
+use lib.ListN.{length, getD}
 use Rattle.lists.specs.Lists.{numbersFrom}
+use Rattle.format.specs.declared.tag.CountryTag.{CountryTag}
 use Rattle.rules.specs.Chronicle.{Entry, Nation}
 use Rattle.rules.specs.NationRows.{NationRow, nationRowOf, EntryRow, entryRowOf, entryOf, nationRowsIn, entryRowsIn}
 
@@ -31,3 +32,11 @@ nationNumbered ws es i =
       stored = nationRowAt ws i .stored;
       entries = entriesAt es (nationRowAt ws i .first) (nationRowAt ws i .count);
     }
+
+-- The tags that so many nations from a number on are stored under.
+abbrev pub storedTags : List ℕ → ℕ → ℕ → List CountryTag
+storedTags ws a n = map (λ i. nationRowAt ws i .stored) (numbersFrom a n)
+
+-- Of all nations.
+abbrev pub tagsStored : List ℕ → List CountryTag
+tagsStored ws = storedTags ws 0 (length (nationRowsIn ws))

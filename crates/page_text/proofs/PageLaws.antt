@@ -19,12 +19,12 @@ use Rattle.format.proofs.TagLaws.{tag-bytes}
 use Rattle.rules.specs.Chronicle.{Entry, Nation}
 use Rattle.rules.specs.NationRows.{NationRow, nationRowsIn, nationsIn, tagsShaped, wellShaped}
 use Rattle.rules.specs.Page.{oneMore, selectionOf, decimal, tagText, line, isLiving, tagLine, pageText}
-use Rattle.chronicle_rows.specs.RowAt.{nationRowAt, entryAt, entriesAt, nationNumbered}
+use Rattle.chronicle_rows.specs.RowAt.{nationRowAt, entryAt, entriesAt, nationNumbered, tagsStored}
 use Rattle.chronicle_rows.proofs.NumberedLaws.{nation-tags, nations-numbered}
 use Rattle.search.specs.Places.{placeFrom}
 use Rattle.search.proofs.PlaceLaws.{first-placed, place-inside}
 use Rattle.page_text.specs.Lines.{tagField, statusField, rowLine, absentLine, heading}
-use Rattle.page_text.specs.Stored.{tagsStored, lineAt, lineOf, linesOf}
+use Rattle.page_text.specs.Stored.{lineAt, lineOf, linesOf}
 use Rattle.page_text.specs.Texts.{textOf}
 
 -- ## Tags that were read

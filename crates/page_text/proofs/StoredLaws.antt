@@ -19,12 +19,12 @@ use Rattle.sorting.proofs.SortedKeyLaws.{sorted-front}
 use Rattle.format.specs.declared.tag.CountryTag.{CountryTag}
 use Rattle.rules.specs.Lent.{written}
 use Rattle.rules.specs.NationRows.{NationRow, nationRowsIn}
-use Rattle.chronicle_rows.specs.RowAt.{nationRowAt}
+use Rattle.chronicle_rows.specs.RowAt.{nationRowAt, storedTags, tagsStored}
 use Rattle.search.specs.declared.places.Place as Place
 use Rattle.search.specs.Places.{tagKey, tagKeysFrom, placeFrom, placeTold}
 use Rattle.search.proofs.PlaceLaws.{place-inside}
 use Rattle.page_text.specs.Lines.{rowLine, absentLine}
-use Rattle.page_text.specs.Stored.{storedTags, tagsStored, KeysSorted, LineTables, lineAt, lineOf}
+use Rattle.page_text.specs.Stored.{KeysSorted, LineTables, lineAt, lineOf}
 
 -- ## Filled row by row
 

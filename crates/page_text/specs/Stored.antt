@@ -1,26 +1,18 @@
 -- Tables of nations, and the line of a tag by them: inner steps, which no promise of a call of 01 cites.
 use mathlib.Core.Path.{_≡_}
 use mathlib.Core.Bool.{Bool, false}
-use mathlib.Core.List.{List, map}
+use mathlib.Core.List.{List}
 use mathlib.Core.Option.{Option, none, some}
 use Prim.Native.Nat.{ℕ, _≤_}
 use lib.Dec.{leb}
 use lib.ListN.{length, take, getD}
-use Rattle.lists.specs.Lists.{joinOf, numbersFrom}
+use Rattle.lists.specs.Lists.{joinOf}
 use Rattle.sorting.specs.Sort.{sortBy}
 use Rattle.format.specs.declared.tag.CountryTag.{CountryTag}
 use Rattle.rules.specs.NationRows.{nationRowsIn}
-use Rattle.chronicle_rows.specs.RowAt.{nationRowAt}
+use Rattle.chronicle_rows.specs.RowAt.{nationRowAt, tagsStored}
 use Rattle.search.specs.Places.{tagKeysFrom, placeFrom}
 use Rattle.page_text.specs.Lines.{rowLine, absentLine}
-
--- The tags that so many nations from a number on are stored under.
-abbrev pub storedTags : List ℕ → ℕ → ℕ → List CountryTag
-storedTags ws a n = map (λ i. nationRowAt ws i .stored) (numbersFrom a n)
-
--- Of all nations.
-abbrev pub tagsStored : List ℕ → List CountryTag
-tagsStored ws = storedTags ws 0 (length (nationRowsIn ws))
 
 -- The first of the keys are those of the stored tags, in order.
 pub record KeysSorted (ws keys : List ℕ) : Type 0 where

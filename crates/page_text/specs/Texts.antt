@@ -14,6 +14,7 @@ use Rattle.page_text.specs.declared.text.PageText as PageText
 use Rattle.page_text.specs.Lines.{heading}
 use Rattle.page_text.specs.Stored.{linesOf}
 
+-- How many bytes were written, or the number of the refusal.
 abbrev pub textAnswer : PageText.PageText → Answer ℕ
 textAnswer (PageText.the-variants.Bytes n) = gives n
 textAnswer (PageText.the-variants.Refused n) = refused n

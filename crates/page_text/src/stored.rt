@@ -9,7 +9,8 @@ ghost use lib.ListN.{length};
 ghost use Rattle.rules.specs.Lent.{written};
 ghost use Rattle.rules.specs.NationRows.{nationRowsIn};
 ghost use Rattle.search.specs.Places.{tagKeysFrom};
-ghost use Rattle.page_text.specs.Stored.{storedTags, KeysSorted};
+ghost use Rattle.chronicle_rows.specs.RowAt.{storedTags};
+ghost use Rattle.page_text.specs.Stored.{KeysSorted};
 
 // More nations are not listed.
 pub const MOST_NATIONS: usize = 2000;

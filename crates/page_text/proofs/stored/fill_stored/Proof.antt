@@ -6,7 +6,7 @@ use lib.ListN.{length}
 use Rattle.lists.proofs.FillLaws.{Filling, filling-room, filling-put, filling-written}
 use Rattle.rules.specs.Lent.{written}
 use Rattle.search.specs.Places.{tagKeysFrom}
-use Rattle.page_text.specs.Stored.{storedTags}
+use Rattle.chronicle_rows.specs.RowAt.{storedTags}
 use Rattle.page_text.proofs.StoredLaws.{keys-start, keys-next, keys-none, stored-key}
 use borrow.Author.Needs.{needs}
 use Rattle.page_text.proofs.stored.fill_stored.Statement.{statement}
