@@ -22,7 +22,8 @@ use Rattle.rules.specs.Lent.{written}
 use Rattle.rules.specs.NationRows.{nationRowsIn}
 use Rattle.rules.specs.HistoryRows.{HistoryRow, historyRowWords}
 use Rattle.search.specs.Places.{tagKeysFrom, placeFrom}
-use Rattle.histories.specs.Tables.{tagsLeft, storedTags, storedWord, markedFrom, cellAt}
+use Rattle.chronicle_rows.specs.RowAt.{storedTags}
+use Rattle.histories.specs.Tables.{tagsLeft, storedWord, markedFrom, cellAt}
 use Rattle.histories.specs.Drafts.{playedLeft, draftWith, draftFor, FillsDrafts, HoldsDrafts}
 use Rattle.histories.proofs.MarkLaws.{stored-word, all-placed}
 use Rattle.histories.proofs.PlayerKeyLaws.{length-tag-keys}

@@ -16,11 +16,11 @@ use Rattle.rules.specs.Chronicle.{Nation}
 use Rattle.rules.specs.NationRows.{nationRowsIn, nationsIn, wellShaped}
 use Rattle.rules.specs.Histories.{History, historyOf, isReleased}
 use Rattle.rules.specs.HistoryRows.{HistoryRow, historyWidth, historyRowOf, historyRowWords, historyRowsIn, nationWord}
-use Rattle.chronicle_rows.specs.RowAt.{nationNumbered}
+use Rattle.chronicle_rows.specs.RowAt.{nationNumbered, storedTags}
 use Rattle.chronicle_rows.proofs.NumberedLaws.{nations-numbered}
 use Rattle.search.specs.Places.{placeFrom}
 use Rattle.search.proofs.PlaceLaws.{place-inside}
-use Rattle.histories.specs.Tables.{storedTags, storedWord}
+use Rattle.histories.specs.Tables.{storedWord}
 use Rattle.histories.specs.Drafts.{runLength, draftWith, draftOf}
 
 -- ## Rows read back

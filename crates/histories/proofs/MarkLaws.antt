@@ -21,8 +21,8 @@ use Rattle.rules.specs.HistoryRows.{nationWord}
 use Rattle.search.specs.declared.places.Place as Place
 use Rattle.search.specs.Places.{placeFrom, placeTold}
 use Rattle.search.proofs.PlaceLaws.{place-inside, place-has}
-use Rattle.chronicle_rows.specs.RowAt.{nationRowAt}
-use Rattle.histories.specs.Tables.{storedTags, storedWord, markedAt, markedFrom, cellAt}
+use Rattle.chronicle_rows.specs.RowAt.{nationRowAt, storedTags}
+use Rattle.histories.specs.Tables.{storedWord, markedAt, markedFrom, cellAt}
 
 -- ## One mark
 

@@ -6,15 +6,13 @@ use mathlib.Core.Option.{Option, none, some}
 use Prim.Native.Nat.{ℕ, _+_, _%_, _≤_}
 use lib.Dec.{leb, ltb, eqb}
 use lib.ListN.{length, take, getD, set}
-use Rattle.lists.specs.Lists.{numbersFrom}
 use Rattle.sorting.specs.Sort.{sortBy}
 use Rattle.format.specs.declared.tag.CountryTag.{CountryTag}
 use Rattle.record.specs.declared.cursors.Countries.{Countries}
 use Rattle.record.specs.Cursors.{countriesLeft}
-use Rattle.rules.specs.NationRows.{nationRowsIn}
 use Rattle.rules.specs.HistoryRows.{nationWord}
 use Rattle.rules.specs.Players.{Player}
-use Rattle.chronicle_rows.specs.RowAt.{nationRowAt}
+use Rattle.chronicle_rows.specs.RowAt.{tagsStored}
 use Rattle.search.specs.Places.{tagKey, placeFrom}
 use Rattle.players.specs.declared.pairs.Pairs.{Pairs}
 use Rattle.players.specs.PlayerSteps.{playersLeft}
@@ -25,13 +23,9 @@ use Rattle.players.specs.PlayerSteps.{playersLeft}
 abbrev pub tagsLeft : List ℕ → Countries → List CountryTag
 tagsLeft xs c = map (λ k. k .tag) (countriesLeft xs c)
 
--- The tags that so many nations from a number on are stored under.
-abbrev pub storedTags : List ℕ → ℕ → ℕ → List CountryTag
-storedTags ws a n = map (λ i. nationRowAt ws i .stored) (numbersFrom a n)
-
 -- The number plus 1 of the first nation stored under a tag; 0 without one.
 abbrev pub storedWord : List ℕ → CountryTag → ℕ
-storedWord ws t = nationWord (placeFrom 0 t (storedTags ws 0 (length (nationRowsIn ws))))
+storedWord ws t = nationWord (placeFrom 0 t (tagsStored ws))
 
 -- Cells with a word at a place, unless a word stood there; a place past the end has none.
 abbrev pub markedAt : List ℕ → Option ℕ → ℕ → List ℕ

@@ -21,7 +21,8 @@ ghost use Rattle.rules.specs.Lent.{written};
 ghost use Rattle.rules.specs.NationRows.{nationRowsIn};
 ghost use Rattle.search.specs.Places.{tagKeysFrom, placeTold};
 ghost use Rattle.players.specs.PlayerSteps.{playersLeft};
-ghost use Rattle.histories.specs.Tables.{tagsLeft, storedTags, markedAt, markedFrom, playerKey, FewPlayers, SortsPlayers};
+ghost use Rattle.chronicle_rows.specs.RowAt.{storedTags};
+ghost use Rattle.histories.specs.Tables.{tagsLeft, markedAt, markedFrom, playerKey, FewPlayers, SortsPlayers};
 
 // The most countries of a record.
 pub(crate) const MOST_COUNTRIES: usize = 2000;

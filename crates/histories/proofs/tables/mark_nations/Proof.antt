@@ -9,7 +9,8 @@ use Rattle.sorting.specs.Sort.{sortBy}
 use Rattle.format.specs.declared.tag.CountryTag.{CountryTag}
 use Rattle.rules.specs.NationRows.{NationRow, nationRowsIn}
 use Rattle.search.specs.Places.{tagKeysFrom}
-use Rattle.histories.specs.Tables.{storedTags, markedFrom}
+use Rattle.chronicle_rows.specs.RowAt.{storedTags}
+use Rattle.histories.specs.Tables.{markedFrom}
 use Rattle.histories.proofs.MarkLaws.{marked-start, marked-end, marked-next}
 use borrow.Author.Needs.{needs}
 use Rattle.histories.proofs.tables.mark_nations.Statement.{statement}
