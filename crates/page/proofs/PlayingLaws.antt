@@ -24,7 +24,7 @@ use Rattle.rules.specs.PlayerOutcomes.{HistoryCells, HistoryCounts, historyCell
 use Rattle.rules.proofs.LentLaws.{answered-given}
 use Rattle.players.proofs.PlayerLaws.{players-few}
 use Rattle.page.specs.Host.{returned, Returns, foundCells}
-use Rattle.page.specs.Playing.{historiesGiven, callPlayerHistoriesGiven, tagWords, callStartingCountryCells}
+use Rattle.page.specs.Playing.{historiesGiven, callPlayerHistoriesGiven, startingWords, callStartingCountryCells}
 use Rattle.page.proofs.HostLaws.{room-true, returns-of}
 use Rattle.page.proofs.ResolvingLaws.{found-written}
 
@@ -76,12 +76,12 @@ histories-of xs ws es before o r e q =
 
 -- Its word in a cell.
 pub tag-found : (answer : Answer (Option CountryTag)) (before : List ℕ) (t : CountryTag) → answer ≡ gives (some t) → (x : ℕ) → 1 ≤ length before
-    → x ≡ t .0 → Returns (foundCells tagWords answer before) (pos 1) (set before 0 x)
+    → x ≡ t .0 → Returns (foundCells startingWords answer before) (pos 1) (set before 0 x)
 tag-found answer before t e x h p =
-    found-written tagWords answer before t e (set before 0 x) h (rw p (sets-eq (tagWords t) before 0 (omega arith)))
+    found-written startingWords answer before t e (set before 0 x) h (rw p (sets-eq (startingWords t) before 0 (omega arith)))
 
 -- What is found is the outcome of the call.
 pub starting-of : (hs ws es before : List ℕ) (a : Answer (Option CountryTag)) (r : ℤ) (after : List ℕ) → a ≡ callStartingCountry hs ws es
-    → Returns (foundCells tagWords a before) r after → Returns (callStartingCountryCells hs ws es before) r after
+    → Returns (foundCells startingWords a before) r after → Returns (callStartingCountryCells hs ws es before) r after
 unfolding callStartingCountryCells
 starting-of hs ws es before a r after e x = rw e at x

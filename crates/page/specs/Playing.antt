@@ -23,9 +23,9 @@ callPlayerHistoriesGiven xs ws es before =
 -- ## `starting_country`, with its tag in a lent slice
 
 -- One word: the tag's.
-abbrev pub tagWords : CountryTag → List ℕ
-tagWords t = t .0 ∷ []
+abbrev pub startingWords : CountryTag → List ℕ
+startingWords t = t .0 ∷ []
 
 -- The C function `starting_country`: the answer of the call, with the tag in the lent slice.
 unfoldable pub callStartingCountryCells : List ℕ → List ℕ → List ℕ → List ℕ → Outcome ℕ (List ℕ)
-callStartingCountryCells hs ws es before = foundCells tagWords (callStartingCountry hs ws es) before
+callStartingCountryCells hs ws es before = foundCells startingWords (callStartingCountry hs ws es) before

@@ -3,7 +3,7 @@ use mathlib.Core.Path.{ap, _∙_}
 use mir.Syntax.{w64}
 use mir.Facts.{toZ-ofZ}
 use Rattle.players.specs.Cases.{startingAnswer}
-use Rattle.page.specs.Playing.{tagWords}
+use Rattle.page.specs.Playing.{startingWords}
 use Rattle.page.proofs.ResolvingLaws.{found-refused, found-none, found-short}
 use Rattle.page.proofs.PlayingLaws.{tag-found, starting-of}
 use borrow.Author.Needs.{needs}
@@ -23,7 +23,7 @@ returns : tie.Need-returns
 returns c =
     let found = c .before .before .before in
     starting-of _ _ _ _ _ _ _ (found .before .before .starting-country .ensures)
-    (found-short tagWords _ _ _ (ap startingAnswer (found .tag .given .1)) _ (c .before .if1 .taken) (toZ-ofZ {w = w64} (record { sfits = c .minus .ok }) ∙ c .minus .ensures))
+    (found-short startingWords _ _ _ (ap startingAnswer (found .tag .given .1)) _ (c .before .if1 .taken) (toZ-ofZ {w = w64} (record { sfits = c .minus .ok }) ∙ c .minus .ensures))
 
 word-requires : tie.Need-word-requires
 word-requires c κs = search needs
@@ -51,13 +51,13 @@ returns-2 c =
 
 returns-3 : tie.Need-returns-3
 returns-3 c =
-    starting-of _ _ _ _ _ _ _ (c .before .before .starting-country .ensures) (found-none tagWords _ _ (ap startingAnswer (c .enum-told .given .1)))
+    starting-of _ _ _ _ _ _ _ (c .before .before .starting-country .ensures) (found-none startingWords _ _ (ap startingAnswer (c .enum-told .given .1)))
 
 returns-4 : tie.Need-returns-4
 returns-4 c =
     let refusing = c .before .before in
     starting-of _ _ _ _ _ _ _ (refusing .before .before .starting-country .ensures)
-    (found-refused tagWords _ _ _ _ (ap startingAnswer (refusing .number .given .1)) (toZ-ofZ {w = w64} (record { sfits = c .minus2 .ok }) ∙ c .minus2 .ensures))
+    (found-refused startingWords _ _ _ _ (ap startingAnswer (refusing .number .given .1)) (toZ-ofZ {w = w64} (record { sfits = c .minus2 .ok }) ∙ c .minus2 .ensures))
 
 pub starting-country-spec : {M : Type 1} → statement M
 starting-country-spec =
