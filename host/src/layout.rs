@@ -99,49 +99,40 @@ pub struct Sections {
     pub strings: usize,
 }
 
+/// How many 32-bit words to lend for each part of the answers, so that none is refused for want of
+/// room. Ledgers have no such bound: a call tells their length.
+#[derive(Clone, Copy, Debug, PartialEq, Eq)]
+pub struct Enough {
+    /// Nation rows.
+    pub nations: usize,
+    /// Entry rows.
+    pub entries: usize,
+    /// Holders of the slots.
+    pub holders: usize,
+    /// Slots held by each country.
+    pub held: usize,
+    /// Change rows.
+    pub changes: usize,
+    /// The five counts.
+    pub counts: usize,
+    /// Booking rows.
+    pub bookings: usize,
+    /// Player rows.
+    pub players: usize,
+    /// History rows.
+    pub histories: usize,
+    /// Names of the histories.
+    pub names: usize,
+}
+
 impl Counts {
-    /// Counts by 01's letters; those not named are 0.
-    ///
-    /// # Panics
-    ///
-    /// If a letter is none of 01's.
-    ///
-    /// ```
-    /// use chronicle_host::layout::Counts;
-    ///
-    /// let counts = Counts::of(&[('C', 2), ('B', 1)]);
-    /// assert_eq!((counts.countries, counts.switches, counts.points), (2, 1, 0));
-    /// ```
-    pub fn of(named: &[(char, usize)]) -> Counts {
-        let mut counts = Counts::default();
-        for &(letter, count) in named {
-            *counts.named(letter) = count;
-        }
-        counts
-    }
-
-    fn named(&mut self, letter: char) -> &mut usize {
-        match letter {
-            'C' => &mut self.countries,
-            'P' => &mut self.provinces,
-            'A' => &mut self.previous_tags,
-            'B' => &mut self.switches,
-            'E' => &mut self.owner_events,
-            'N' => &mut self.strings,
-            'W' => &mut self.wars,
-            'V' => &mut self.war_events,
-            'G' => &mut self.ledger_names,
-            'Y' => &mut self.points,
-            _ => panic!("01 has no count {letter}"),
-        }
-    }
-
     /// The counts as the head gives them, not yet held against the limits.
     ///
     /// ```
-    /// use chronicle_host::{layout::Counts, sample};
+    /// use chronicle::layout::Counts;
     ///
-    /// let counts = Counts::read(sample::WORKED.first_chunk().unwrap());
+    /// let record = std::fs::read("../samples/worked.atl").unwrap();
+    /// let counts = Counts::read(record.first_chunk().unwrap());
     /// assert_eq!((counts.countries, counts.provinces, counts.switches), (2, 2, 1));
     /// ```
     pub fn read(head: &[u8; HEAD]) -> Counts {
@@ -161,10 +152,35 @@ impl Counts {
         }
     }
 
+    /// The words that are enough for every answer about an accepted record with these counts.
+    ///
+    /// ```
+    /// use chronicle::layout::{Counts, Enough};
+    ///
+    /// let counts = Counts { countries: 2, provinces: 2, switches: 1, owner_events: 2, ..Counts::default() };
+    /// let Enough { nations, entries, holders, held, changes, .. } = counts.enough();
+    /// assert_eq!([nations, entries, holders, held, changes], [10, 15, 3, 2, 8]);
+    /// ```
+    pub fn enough(&self) -> Enough {
+        Enough {
+            nations: 5 * self.countries,
+            // An owner event brings two entries at most, and a switch one.
+            entries: 3 * (self.switches + 2 * self.owner_events),
+            holders: self.provinces + 1,
+            held: self.countries,
+            changes: 4 * self.owner_events,
+            counts: 5,
+            bookings: 3 * self.war_events,
+            players: 2 * (self.strings / 2),
+            histories: 7 * self.countries,
+            names: self.strings / 2,
+        }
+    }
+
     /// Whether no count is above its limit.
     ///
     /// ```
-    /// use chronicle_host::layout::{Counts, LIMITS};
+    /// use chronicle::layout::{Counts, LIMITS};
     ///
     /// assert!(LIMITS.within_limits());
     /// assert!(!Counts { wars: 5_001, ..LIMITS }.within_limits());
@@ -185,7 +201,7 @@ impl Counts {
     /// Where the sections lie in a record with these counts.
     ///
     /// ```
-    /// use chronicle_host::layout::{Counts, LIMITS};
+    /// use chronicle::layout::{Counts, LIMITS};
     ///
     /// assert_eq!(Counts::default().sections().strings, 44);
     /// assert_eq!(LIMITS.sections().strings, 7_520_044);

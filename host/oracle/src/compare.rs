@@ -6,14 +6,14 @@
 
 use std::fmt::Debug;
 
-use chronicle_host::adversary::{days_of, tags_of};
-use chronicle_host::demand::Met;
-use chronicle_host::generate::Random;
-use chronicle_host::lists::{altered, any_nations, questions, some_of};
-use chronicle_host::model::Chronicle;
-use chronicle_host::pack::{pack, Campaign, Date, Tag};
-use chronicle_host::rows::{Change, Kind, Nation, Run};
-use chronicle_host::{demand, model, recount, trial};
+use chronicle_trial::adversary::{days_of, tags_of};
+use chronicle_trial::demand::Met;
+use chronicle_trial::generate::Random;
+use chronicle_trial::lists::{altered, any_nations, questions, some_of};
+use chronicle_trial::model::Chronicle;
+use chronicle_trial::pack::{pack, Campaign, Date, Tag};
+use chronicle_trial::rows::{Change, Kind, Nation, Run};
+use chronicle_trial::{demand, model, recount, trial};
 use eu4save::query::{NationEvents, ProvinceOwners};
 
 use crate::ledgers::Ledgers;
@@ -34,7 +34,7 @@ const MOST_PAIRS: usize = 3_000;
 /// what differs.
 ///
 /// ```
-/// use chronicle_host::sample;
+/// use chronicle_trial::sample;
 /// use chronicle_oracle::{compare::compare, seen::Seen};
 ///
 /// let mut seen = Seen::default();
@@ -142,9 +142,7 @@ impl Asked<'_> {
         }
         self.seen.wars(self.campaign, nations, &ours);
         trial::bookings(&self.record, nations, &ours)?;
-        if cfg!(feature = "war_participants") {
-            self.seen.add("library: booking", ours.len());
-        }
+        self.seen.add("library: booking", ours.len());
         Ok(())
     }
 
@@ -153,9 +151,7 @@ impl Asked<'_> {
         let Asked { campaign, record, random, .. } = self;
         let mut met = Met::default();
         demand::tried(record, campaign, MOST_PAIRS, random, &mut met)?;
-        if demand::TRIED {
-            self.seen.demand(&met);
-        }
+        self.seen.demand(&met);
         Ok(())
     }
 

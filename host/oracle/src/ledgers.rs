@@ -2,9 +2,9 @@
 
 use std::ops::Range;
 
-use chronicle_host::pack::Campaign;
-use chronicle_host::rows::{LedgerRow, Nation};
-use chronicle_host::{model, trial};
+use chronicle_trial::pack::Campaign;
+use chronicle_trial::rows::{LedgerRow, Nation};
+use chronicle_trial::{model, trial};
 use eu4save::query::NationEvents;
 
 use crate::compare::rows_equal;
@@ -26,11 +26,10 @@ const LIBRARY: [&str; 3] = [
 /// ```
 /// use chronicle_oracle::ledgers::looked_for;
 ///
-/// # #[cfg(feature = "nation_ledger")]
 /// assert!(looked_for().any(|what| what == "library: ledger row of all nations"));
 /// ```
 pub fn looked_for() -> impl Iterator<Item = &'static str> {
-    LIBRARY.into_iter().filter(|_| cfg!(feature = "nation_ledger"))
+    LIBRARY.into_iter()
 }
 
 /// Whose ledgers are compared, and where the Rust and the library have them from.
@@ -49,7 +48,7 @@ impl Ledgers<'_> {
     /// by one call, and of those with these numbers each by calls of its own.
     ///
     /// ```
-    /// use chronicle_host::{model, pack::pack, sample};
+    /// use chronicle_trial::{model, pack::pack, sample};
     /// use chronicle_oracle::ledgers::Ledgers;
     /// use chronicle_oracle::rust::{nation_events, Rust};
     /// use chronicle_oracle::seen::Seen;

@@ -1,21 +1,20 @@
 //! The page: in plain Rust over the Rust's own answers, by the model, and by the library.
 
 mod limits;
-#[cfg(feature = "page_program")]
 mod program;
 
 pub use limits::near_limits;
-#[cfg(feature = "page_program")]
 pub use program::Printed;
 
 use std::collections::HashMap;
 use std::fmt::Write;
 
-use chronicle_host::adversary::selections::{draw, selection, spoiled};
-use chronicle_host::generate::Random;
-use chronicle_host::pack::Tag;
-use chronicle_host::rows::Nation;
-use chronicle_host::{model, trial, Refusal};
+use chronicle::Refusal;
+use chronicle_trial::adversary::selections::{draw, selection, spoiled};
+use chronicle_trial::generate::Random;
+use chronicle_trial::pack::Tag;
+use chronicle_trial::rows::Nation;
+use chronicle_trial::{model, trial};
 use eu4save::query::{NationEventKind, NationEvents};
 use eu4save::CountryTag;
 
@@ -31,21 +30,19 @@ const DRAWN: usize = 2;
 /// ```
 /// use chronicle_oracle::paging::looked_for;
 ///
-/// # #[cfg(feature = "page")]
 /// assert!(looked_for().any(|what| what == "library: page"));
 /// ```
 pub fn looked_for() -> impl Iterator<Item = &'static str> {
     let library = ["library: page", "library: no page"].into_iter();
     let program = ["program: page", "program: refused"].into_iter();
-    let library = library.filter(|_| cfg!(feature = "page"));
-    library.chain(program.filter(|_| cfg!(feature = "page_program")))
+    library.chain(program)
 }
 
 /// A page in plain Rust: by the Rust's own changes and nations, and its own tags. The record is the one
 /// of the campaign that is loaded; only its length counts.
 ///
 /// ```
-/// use chronicle_host::sample;
+/// use chronicle_trial::sample;
 /// use chronicle_oracle::{paging::page, rust::Rust};
 ///
 /// let rust = Rust::of(&sample::worked());
@@ -54,14 +51,14 @@ pub fn looked_for() -> impl Iterator<Item = &'static str> {
 /// ```
 pub fn page(rust: &Rust, record: &[u8], selection: &[u8]) -> Result<Vec<u8>, Refusal> {
     if record.len().max(selection.len()) > 65_536 {
-        return Err(Refusal::NoRoom);
+        return Err(Refusal::NoRoom(None));
     }
     let tags = tags(selection).ok_or(Refusal::BadQuestion)?;
     let owners = rust.owners();
     let nations = rust.nation_events(&owners);
     let entries: usize = nations.iter().map(|nation| nation.events.len()).sum();
     if owners.changes.len() > 4_000 || entries > 5_000 {
-        return Err(Refusal::NoRoom);
+        return Err(Refusal::NoRoom(None));
     }
     Ok(text(&nations, &tags).into_bytes())
 }
@@ -114,7 +111,7 @@ impl Paged<'_> {
     /// these nations and other tags, and for bytes that are none.
     ///
     /// ```
-    /// use chronicle_host::{generate::Random, model, sample};
+    /// use chronicle_trial::{generate::Random, model, sample};
     /// use chronicle_oracle::{paging::Paged, rust::Rust, seen::Seen};
     ///
     /// let rust = Rust::of(&sample::worked());
@@ -143,7 +140,7 @@ impl Paged<'_> {
     /// As [`Paged::drawn`], for one selection.
     ///
     /// ```
-    /// use chronicle_host::sample;
+    /// use chronicle_trial::sample;
     /// use chronicle_oracle::{paging::Paged, rust::Rust, seen::Seen};
     ///
     /// let rust = Rust::of(&sample::worked());
@@ -153,9 +150,7 @@ impl Paged<'_> {
     pub fn compare(self, selection: &[u8], seen: &mut Seen) -> Result<(), String> {
         let page = self.agreed(selection)?;
         trial::page(self.record, selection, &page)?;
-        if cfg!(feature = "page") {
-            seen.add(if page.is_ok() { "library: page" } else { "library: no page" }, 1);
-        }
+        seen.add(if page.is_ok() { "library: page" } else { "library: no page" }, 1);
         seen.paged(&page);
         Ok(())
     }

@@ -4,17 +4,15 @@
 //! Names are compared as text. What is not UTF-8 is replaced on both sides: it is neither `Player` nor
 //! a tag, and neither is what replaces it.
 
-use chronicle_host::generate::Random;
-use chronicle_host::lists::altered_histories;
-use chronicle_host::pack::{Campaign, Tag};
-#[cfg(feature = "player_histories")]
-use chronicle_host::rows::{entry_words, nation_words};
-use chronicle_host::rows::{history_words, History, Nation, Player};
-#[cfg(feature = "players")]
-use chronicle_host::Name;
-use chronicle_host::{model, trial};
-#[cfg(feature = "player_histories")]
-use chronicle_host::{Chronicle, NamedHistory};
+use chronicle::raw::Chronicle;
+use chronicle_trial::generate::Random;
+use chronicle_trial::lists::altered_histories;
+use chronicle_trial::pack::{Campaign, Tag};
+use chronicle_trial::rows::{entry_words, nation_words};
+use chronicle_trial::rows::{history_words, History, Nation, Player};
+use chronicle_trial::told::NamedHistory;
+use chronicle_trial::told::{Name, Told};
+use chronicle_trial::{model, trial};
 use eu4save::query::{NationEvents, PlayerHistory};
 
 use crate::compare::{equal, rows_equal};
@@ -29,14 +27,12 @@ const ALTERED: usize = 2;
 /// ```
 /// use chronicle_oracle::playing::looked_for;
 ///
-/// # #[cfg(feature = "players")]
 /// assert!(looked_for().any(|what| what == "library: player"));
 /// ```
 pub fn looked_for() -> impl Iterator<Item = &'static str> {
     let players = ["library: player", "library: starting country", "library: no starting country"];
     let histories = ["library: history", "library: name of a history"];
-    let players = players.into_iter().filter(|_| cfg!(feature = "players"));
-    players.chain(histories.into_iter().filter(|_| cfg!(feature = "player_histories")))
+    players.into_iter().chain(histories)
 }
 
 /// A campaign, its record, and the Rust with it loaded.
@@ -52,7 +48,7 @@ impl Played<'_> {
     /// Holds the players of the Rust against the model's, and then the library's.
     ///
     /// ```
-    /// use chronicle_host::sample;
+    /// use chronicle_trial::sample;
     /// use chronicle_oracle::{playing::Played, rust::Rust, seen::Seen};
     ///
     /// let campaign = sample::worked();
@@ -63,12 +59,9 @@ impl Played<'_> {
     pub fn players(self, seen: &mut Seen) -> Result<(), String> {
         let players = self.agreed_players()?;
         trial::players(self.record, &players)?;
-        #[cfg(feature = "players")]
         players_by_name(self.record, &self.rust.players())?;
         seen.add("row: player", players.len());
-        if cfg!(feature = "players") {
-            seen.add("library: player", players.len());
-        }
+        seen.add("library: player", players.len());
         seen.players(self.campaign, &players);
         Ok(())
     }
@@ -77,7 +70,7 @@ impl Played<'_> {
     /// of the starting country by these histories and by altered ones.
     ///
     /// ```
-    /// use chronicle_host::{generate::Random, sample};
+    /// use chronicle_trial::{generate::Random, sample};
     /// use chronicle_oracle::{playing::Played, rust::Rust, seen::Seen};
     ///
     /// let campaign = sample::worked();
@@ -97,14 +90,11 @@ impl Played<'_> {
     ) -> Result<(), String> {
         let (histories, played) = self.agreed_histories(nations, theirs)?;
         trial::histories(self.record, nations, &histories)?;
-        #[cfg(feature = "player_histories")]
         histories_by_name(self.record, nations, &played)?;
         seen.add("row: history", histories.len());
-        if cfg!(feature = "player_histories") {
-            seen.add("library: history", histories.len());
-            let names = histories.iter().map(|history| history.names.len()).sum();
-            seen.add("library: name of a history", names);
-        }
+        seen.add("library: history", histories.len());
+        let names = histories.iter().map(|history| history.names.len()).sum();
+        seen.add("library: name of a history", names);
         seen.histories(self.campaign, nations, &histories);
         self.starting(nations, &histories, &played, &history_words(&histories), seen)?;
         for _ in 0..ALTERED {
@@ -155,11 +145,9 @@ impl Played<'_> {
         equal(what, &self.rust.starting_country(theirs), &start)?;
         trial::starting(nations, words, start)?;
         seen.add("answer: starting country, not none", usize::from(start.is_some()));
-        if cfg!(feature = "players") {
-            let found = start.is_some();
-            seen.add("library: starting country", usize::from(found));
-            seen.add("library: no starting country", usize::from(!found));
-        }
+        let found = start.is_some();
+        seen.add("library: starting country", usize::from(found));
+        seen.add("library: no starting country", usize::from(!found));
         seen.starting(nations, histories);
         Ok(())
     }
@@ -169,7 +157,7 @@ impl Played<'_> {
     }
 
     /// A history as the Rust tells it, with its entries and names in place of their numbers.
-    fn told(self, history: &History, nations: &[Nation]) -> Told {
+    fn told(self, history: &History, nations: &[Nation]) -> ByName {
         let entries = history.nation.map_or(&[][..], |number| &nations[number].entries);
         let nation = Nation {
             initial: history.initial,
@@ -181,22 +169,21 @@ impl Played<'_> {
     }
 }
 
-type Told = (Nation, bool, Vec<String>);
+type ByName = (Nation, bool, Vec<String>);
 
-fn told_by_rust(history: &PlayerHistory) -> Told {
+fn told_by_rust(history: &PlayerHistory) -> ByName {
     (rust::nation(&history.history), history.is_human, history.player_names.clone())
 }
 
 /// The wrapper's players are those that the Rust tells.
-#[cfg(feature = "players")]
 fn players_by_name(record: &[u8], theirs: &[Named]) -> Result<(), String> {
-    let found = chronicle_host::named_players(record).map_err(|refusal| refusal.to_string())?;
+    let found =
+        chronicle_trial::told::named_players(record).map_err(|refusal| refusal.to_string())?;
     let found: Vec<Named> = found.iter().map(|player| (text(player.name), player.tag)).collect();
     rows_equal("players, of the library", theirs, &found)
 }
 
 /// The wrapper's histories are those that the Rust tells.
-#[cfg(feature = "player_histories")]
 fn histories_by_name(
     record: &[u8],
     nations: &[Nation],
@@ -205,18 +192,17 @@ fn histories_by_name(
     let words = [nation_words(nations), entry_words(nations)];
     let rows = Chronicle { nations: &words[0], entries: &words[1] };
     let found = rows.named_histories(record).map_err(|refusal| refusal.to_string())?;
-    let told = |history: NamedHistory<'_>| -> Told {
+    let told = |history: NamedHistory<'_>| -> ByName {
         let NamedHistory { initial, latest, stored, nation, human, names } = history;
         let entries = nation.map_or(vec![], |number| nations[number].entries.clone());
         let names = names.into_iter().map(text).collect();
         (Nation { initial, latest, stored, entries }, human, names)
     };
-    let found: Vec<Told> = found.into_iter().map(told).collect();
-    let theirs: Vec<Told> = theirs.iter().map(told_by_rust).collect();
+    let found: Vec<ByName> = found.into_iter().map(told).collect();
+    let theirs: Vec<ByName> = theirs.iter().map(told_by_rust).collect();
     rows_equal("histories, of the library", &theirs, &found)
 }
 
-#[cfg(feature = "players")]
 fn text(name: Name<'_>) -> String {
     name.text().map_or_else(|| String::from_utf8_lossy(name.bytes).into_owned(), str::to_string)
 }

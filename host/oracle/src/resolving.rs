@@ -1,7 +1,7 @@
 //! The resolver, asked about one list of nations: the Rust, the model and the library.
 
-use chronicle_host::rows::{tag_of_word, Nation, Question, Resolved};
-use chronicle_host::{model, trial};
+use chronicle_trial::rows::{tag_of_word, Nation, Question, Resolved};
+use chronicle_trial::{model, trial};
 
 use crate::compare::equal;
 use crate::rust::Resolver;
@@ -24,24 +24,22 @@ const EACH: usize = 4;
 /// ```
 /// use chronicle_oracle::resolving::looked_for;
 ///
-/// # #[cfg(feature = "resolver")]
 /// assert!(looked_for().any(|what| what == "library: initial_at, none"));
 /// ```
 pub fn looked_for() -> impl Iterator<Item = &'static str> {
-    LIBRARY.into_iter().flatten().filter(|_| cfg!(feature = "resolver"))
+    LIBRARY.into_iter().flatten()
 }
 
 /// Holds the Rust's answer to each question against the model's, and then the library's. Without
 /// the Rust's resolver, which some lists are too large for, the model stands alone for it.
 ///
 /// ```
-/// use chronicle_host::rows::{tag_word, Question};
+/// use chronicle_trial::rows::{tag_word, Question};
 /// use chronicle_oracle::{resolving::compare, rust::Resolver, seen::Seen};
 ///
 /// let mut seen = Seen::default();
 /// let question = Question::Initial { tag: tag_word(*b"ENG") };
 /// assert_eq!(compare(&[], Some(&Resolver::of(&[])), &[question], &mut seen), Ok(()));
-/// # #[cfg(feature = "resolver")]
 /// assert_eq!(seen.times("library: initial, none"), 1);
 /// ```
 pub fn compare(
@@ -60,9 +58,7 @@ pub fn compare(
         seen.add("answer: resolver, not none", found);
     }
     trial::resolver(nations, &asked)?;
-    if cfg!(feature = "resolver") {
-        count(&asked, seen);
-    }
+    count(&asked, seen);
     Ok(())
 }
 

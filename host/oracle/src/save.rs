@@ -7,7 +7,7 @@
 
 use std::collections::HashMap;
 
-use chronicle_host::pack::{
+use chronicle_trial::pack::{
     self, Campaign, Date, LedgerName, Tag, HAS_SWITCHED_NATION, HUMAN, IRONMAN, MULTIPLAYER, NONE,
     WAS_PLAYER,
 };
@@ -34,7 +34,7 @@ pub fn date(date: Date) -> Eu4Date {
 /// Strings are texts in a save: what is not UTF-8 is replaced, as names are before they are compared.
 ///
 /// ```
-/// use chronicle_host::sample;
+/// use chronicle_trial::sample;
 /// use chronicle_oracle::save::save;
 ///
 /// let save = save(&sample::worked());

@@ -10,11 +10,11 @@
 //! - the holder of each slot and the slots held by each country, a word each: from the model,
 //!   since the Rust does not give them.
 
-use chronicle_host::adversary::{days_of, draw, draw_bare};
-use chronicle_host::generate::Random;
-use chronicle_host::pack::{pack, Campaign, Date};
-use chronicle_host::rows::{change_words, entry_words, nation_words, tag_word};
-use chronicle_host::{model, sample};
+use chronicle_trial::adversary::{days_of, draw, draw_bare};
+use chronicle_trial::generate::Random;
+use chronicle_trial::pack::{pack, Campaign, Date};
+use chronicle_trial::rows::{change_words, entry_words, nation_words, tag_word};
+use chronicle_trial::{model, sample};
 
 use crate::rust::{self, Rust};
 
@@ -33,7 +33,7 @@ const DAYS: usize = 4;
 /// record's, then seeded ones.
 ///
 /// ```
-/// use chronicle_host::sample;
+/// use chronicle_trial::sample;
 /// use chronicle_oracle::vectors;
 ///
 /// let list = vectors::list();

@@ -8,17 +8,17 @@ fn the_rust_is_missing() {
 
 #[cfg(found)]
 mod found {
-    use chronicle_host::adversary::{draw, ledgers, players};
-    use chronicle_host::generate::Random;
-    use chronicle_host::pack::{
-        pack, Campaign, Country, Date, LedgerName, OwnerEvent, Point, Province, Tag,
-    };
-    use chronicle_host::rows::{Entry, Kind, Nation, Resolved};
-    use chronicle_host::{model, sample, wars};
     use chronicle_oracle::compare::compare;
     use chronicle_oracle::rust::{nation_events, Resolver, Rust};
     use chronicle_oracle::seen::{Seen, LEDGER_CASES};
     use chronicle_oracle::vectors;
+    use chronicle_trial::adversary::{draw, ledgers, players};
+    use chronicle_trial::generate::Random;
+    use chronicle_trial::pack::{
+        pack, Campaign, Country, Date, LedgerName, OwnerEvent, Point, Province, Tag,
+    };
+    use chronicle_trial::rows::{Entry, Kind, Nation, Resolved};
+    use chronicle_trial::{model, sample, wars};
 
     fn nations(campaign: &Campaign) -> Vec<Nation> {
         let rust = Rust::of(campaign);

@@ -2,9 +2,9 @@
 //! ledgers, each refusal, and falsified answers, so that the replay has something to notice.
 #![cfg(found)]
 
-use chronicle_host::rows::Question;
-use chronicle_host::Refusal;
+use chronicle::Refusal;
 use chronicle_oracle::lent_vectors::{list, Kind, Vector};
+use chronicle_trial::rows::Question;
 
 fn form(question: Question) -> usize {
     match question {
@@ -45,7 +45,7 @@ fn many_questions_have_every_outcome() {
         of(Kind::Resolver, |v| v.answers.as_ref().is_ok_and(|words| !words.contains(&0))),
         of(Kind::Resolver, |v| v.answers == Err(Refusal::NotWellShaped)),
         of(Kind::Resolver, |v| v.answers == Err(Refusal::BadQuestion)),
-        of(Kind::Resolver, |v| v.answers == Err(Refusal::NoRoom)),
+        of(Kind::Resolver, |v| v.answers == Err(Refusal::NoRoom(None))),
         of(Kind::Resolver, |v| v.falsified),
         of(Kind::Resolver, |v| v.room > v.many.len()),
     ];
@@ -66,7 +66,7 @@ fn bookings_have_every_outcome() {
         rows(|[_, tag, stored]| tag != stored),
         of(Kind::Bookings, |v| v.answers.as_ref().is_err_and(|refusal| refusal.is_of_record())),
         of(Kind::Bookings, |v| v.answers == Err(Refusal::NotWellShaped)),
-        of(Kind::Bookings, |v| v.answers == Err(Refusal::NoRoom)),
+        of(Kind::Bookings, |v| v.answers == Err(Refusal::NoRoom(None))),
         of(Kind::Bookings, |v| v.falsified),
         of(Kind::Bookings, |v| v.answers.as_ref().is_ok_and(|rows| v.room > rows.len())),
     ];
@@ -86,7 +86,7 @@ fn ledgers_have_every_outcome() {
             of(kind, |v| has_row(v, |[_, _, value]| *value > 1 << 31)),
             of(kind, |v| v.answers.as_ref().is_err_and(|refusal| refusal.is_of_record())),
             of(kind, |v| v.answers == Err(Refusal::NotWellShaped)),
-            of(kind, |v| v.answers == Err(Refusal::NoRoom)),
+            of(kind, |v| v.answers == Err(Refusal::NoRoom(None))),
             of(kind, |v| v.falsified),
             of(kind, |v| v.answers.as_ref().is_ok_and(|rows| v.room > rows.len())),
             of(kind, |v| v.nations.len() > 5),
@@ -111,11 +111,10 @@ fn vectors_are_short() {
 }
 
 /// What is stored about ledgers is what the library answers, and what is falsified is not.
-#[cfg(feature = "nation_ledger")]
 #[test]
 fn ledgers_are_as_stored() {
-    use chronicle_host::trial::{ledger_told, ledgers_told, rows_told};
-    use chronicle_host::Chronicle;
+    use chronicle::raw::Chronicle;
+    use chronicle_trial::trial::{ledger_told, ledgers_told, rows_told};
 
     for v in list() {
         let rows = Chronicle { nations: &v.nations, entries: &v.entries };

@@ -2,9 +2,9 @@
 //! falsified answers; and that all but these are the library's.
 #![cfg(found)]
 
-use chronicle_host::rows::tag_of_word;
-use chronicle_host::Refusal;
+use chronicle::Refusal;
 use chronicle_oracle::lent_vectors::{list, Kind, Vector};
+use chronicle_trial::rows::tag_of_word;
 
 /// How many vectors of a kind are so.
 fn of(kind: Kind, has: impl Fn(&Vector) -> bool) -> usize {
@@ -31,7 +31,7 @@ fn players_have_every_outcome() {
         answered(Kind::Players, |_, words| words.first() > Some(&0)),
         answered(Kind::Players, |v, words| v.room > words.len()),
         by_the_record(Kind::Players),
-        refused(Kind::Players, Refusal::NoRoom),
+        refused(Kind::Players, Refusal::NoRoom(None)),
         of(Kind::Players, |v| v.falsified),
     ];
     assert!(times.into_iter().all(|times| times >= 10), "{times:?}");
@@ -55,7 +55,7 @@ fn histories_have_every_outcome() {
         answered(Kind::Histories, |v, _| v.many[0] as usize >= v.many.len()),
         by_the_record(Kind::Histories),
         refused(Kind::Histories, Refusal::NotWellShaped),
-        refused(Kind::Histories, Refusal::NoRoom),
+        refused(Kind::Histories, Refusal::NoRoom(None)),
         of(Kind::Histories, |v| v.falsified),
     ];
     assert!(times.into_iter().all(|times| times >= 10), "{times:?}");
@@ -75,11 +75,10 @@ fn starting_countries_have_every_outcome() {
 }
 
 /// What is stored is what the library answers, and what is falsified is not.
-#[cfg(feature = "player_histories")]
 #[test]
 fn players_are_as_stored() {
-    use chronicle_host::trial::{begun, played, recalled};
-    use chronicle_host::Chronicle;
+    use chronicle::raw::Chronicle;
+    use chronicle_trial::trial::{begun, played, recalled};
 
     for v in list() {
         let rows = Chronicle { nations: &v.nations, entries: &v.entries };

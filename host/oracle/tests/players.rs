@@ -2,14 +2,14 @@
 //! difference is noticed.
 #![cfg(found)]
 
-use chronicle_host::adversary::players;
-use chronicle_host::generate::Random;
-use chronicle_host::model;
-use chronicle_host::pack::{pack, Campaign, Country, HUMAN, IRONMAN, WAS_PLAYER};
 use chronicle_oracle::compare::compare;
 use chronicle_oracle::playing::Played;
 use chronicle_oracle::rust::{nation_events, Rust};
 use chronicle_oracle::seen::Seen;
+use chronicle_trial::adversary::players;
+use chronicle_trial::generate::Random;
+use chronicle_trial::model;
+use chronicle_trial::pack::{pack, Campaign, Country, HUMAN, IRONMAN, WAS_PLAYER};
 
 /// What the counts of players, histories and starting countries begin with.
 const KINDS: [&str; 3] = ["player: ", "history: ", "start: "];

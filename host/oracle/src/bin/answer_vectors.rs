@@ -12,7 +12,7 @@ fn main() -> ExitCode {
 
 #[cfg(found)]
 fn main() -> ExitCode {
-    chronicle_host::vectors::run("answer_vectors", write, check)
+    chronicle_trial::vectors::run("answer_vectors", write, check)
 }
 
 #[cfg(found)]

@@ -21,18 +21,18 @@ mod run {
     use std::env;
     use std::process::ExitCode;
 
-    use chronicle_host::adversary::players;
-    use chronicle_host::cases::Cases;
-    use chronicle_host::demand::{self, Met};
-    use chronicle_host::extremes;
-    use chronicle_host::generate::Random;
-    use chronicle_host::pack::{pack, Campaign};
-    use chronicle_host::shrink::shrink;
-    use chronicle_host::trial;
-    use chronicle_host::unpack::unpack;
     use chronicle_oracle::compare::compare;
     use chronicle_oracle::seen::Seen;
     use chronicle_oracle::{ledgers, paging, playing, resolving};
+    use chronicle_trial::adversary::players;
+    use chronicle_trial::cases::Cases;
+    use chronicle_trial::demand::Met;
+    use chronicle_trial::extremes;
+    use chronicle_trial::generate::Random;
+    use chronicle_trial::pack::{pack, Campaign};
+    use chronicle_trial::shrink::shrink;
+    use chronicle_trial::trial;
+    use chronicle_trial::unpack::unpack;
 
     const DIFFERENCE: &str = "difference.atl";
 
@@ -43,7 +43,6 @@ mod run {
     const ENOUGH: u64 = 10_000;
 
     /// The program page is run for one of so many small campaigns.
-    #[cfg(feature = "page_program")]
     const PRINTED: u64 = 50;
 
     pub fn main() -> ExitCode {
@@ -104,12 +103,8 @@ mod run {
         for what in LOOKED_FOR.into_iter().chain(of_the_library) {
             seen.add(what, 0);
         }
-        if cfg!(feature = "war_participants") {
-            seen.add("library: booking", 0);
-        }
-        if demand::TRIED {
-            seen.demand(&Met::default());
-        }
+        seen.add("library: booking", 0);
+        seen.demand(&Met::default());
         small(campaigns, seed, &mut seen)?;
         damaged(campaigns / 4, seed, &mut seen)?;
         near_limits_of_pages(seed, &mut seen)?;
@@ -186,11 +181,9 @@ mod run {
 
     fn small(campaigns: u64, seed: u64, seen: &mut Seen) -> Result<(), String> {
         let mut random = Random::new(seed);
-        #[cfg(feature = "page_program")]
         let mut program = paging::Printed::new(seed);
         for number in 0..campaigns {
             let campaign = players::campaign(&mut random);
-            #[cfg(feature = "page_program")]
             if number % PRINTED == 0 {
                 program
                     .compare(&campaign, seen)
@@ -204,10 +197,8 @@ mod run {
     }
 
     fn near_limits_of_pages(seed: u64, seen: &mut Seen) -> Result<(), String> {
-        #[cfg(feature = "page_program")]
         let program = paging::Printed::new(seed);
         let pages = paging::near_limits(seen, |_paged, _selection, _seen| {
-            #[cfg(feature = "page_program")]
             program.selected(_paged, _selection, _seen)?;
             Ok(())
         })?;

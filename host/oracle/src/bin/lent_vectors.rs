@@ -13,7 +13,7 @@ fn main() -> ExitCode {
 
 #[cfg(found)]
 fn main() -> ExitCode {
-    chronicle_host::vectors::run("lent_vectors", write, check)
+    chronicle_trial::vectors::run("lent_vectors", write, check)
 }
 
 #[cfg(found)]

@@ -1,9 +1,9 @@
 //! War bookings.
 
-use chronicle_host::generate::Random;
-use chronicle_host::pack::{pack, Campaign};
-use chronicle_host::rows::{booking_words, entry_words, nation_words, tag_word, Nation};
-use chronicle_host::Refusal;
+use chronicle::Refusal;
+use chronicle_trial::generate::Random;
+use chronicle_trial::pack::{pack, Campaign};
+use chronicle_trial::rows::{booking_words, entry_words, nation_words, tag_word, Nation};
 
 use super::{bad_record, ill_shaped, without_room, Kind, Other, Vector, NOBODY};
 use crate::rust::{nation_events, Rust};

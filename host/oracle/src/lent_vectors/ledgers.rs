@@ -1,10 +1,10 @@
 //! Ledgers: of one nation with the number of its rows, and of all nations.
 
-use chronicle_host::adversary::ledgers;
-use chronicle_host::generate::Random;
-use chronicle_host::pack::{pack, Campaign};
-use chronicle_host::rows::{entry_words, ledger_words, nation_words, tag_word, LedgerRow, Nation};
-use chronicle_host::Refusal;
+use chronicle::Refusal;
+use chronicle_trial::adversary::ledgers;
+use chronicle_trial::generate::Random;
+use chronicle_trial::pack::{pack, Campaign};
+use chronicle_trial::rows::{entry_words, ledger_words, nation_words, tag_word, LedgerRow, Nation};
 
 use super::{bad_record, count, ill_shaped, lent, without_room, Kind, Other, Vector, NOBODY};
 use crate::rust::{nation_events, Rust};
@@ -116,7 +116,7 @@ impl Told {
 /// refused of all nations has no counts.
 fn settled(mut vector: Vector) -> Vector {
     match (vector.kind, &vector.answers) {
-        (Kind::Ledger, Err(refusal)) if !vector.falsified && *refusal != Refusal::NoRoom => {
+        (Kind::Ledger, Err(refusal)) if !vector.falsified && *refusal != Refusal::NoRoom(None) => {
             vector.many[REFUSED] = u32::from(refusal.number());
             vector.many[ROWS] = 0;
         }
@@ -174,7 +174,7 @@ fn no_such_nation(random: &mut Random, vector: &Vector) -> Vector {
 
 /// A cell too few for the numbers of rows, or none at all.
 fn without_counts(random: &mut Random, vector: &Vector) -> Vector {
-    let mut vector = Vector { answers: Err(Refusal::NoRoom), ..vector.clone() };
+    let mut vector = Vector { answers: Err(Refusal::NoRoom(None)), ..vector.clone() };
     let nations = count(vector.nations.len() / 5);
     vector.many[0] = random.pick(&[0, nations - 1]);
     vector

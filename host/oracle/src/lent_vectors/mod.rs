@@ -30,14 +30,14 @@ mod ledgers;
 mod players;
 mod resolver;
 
-use chronicle_host::adversary::{draw, tags_of};
-use chronicle_host::generate::Random;
-use chronicle_host::lists::altered;
-use chronicle_host::model::nations_told;
-use chronicle_host::pack::{Campaign, Tag};
-use chronicle_host::rows::{Nation, Question, Resolved};
-use chronicle_host::unpack::unpack;
-use chronicle_host::Refusal;
+use chronicle::Refusal;
+use chronicle_trial::adversary::{draw, tags_of};
+use chronicle_trial::generate::Random;
+use chronicle_trial::lists::altered;
+use chronicle_trial::model::nations_told;
+use chronicle_trial::pack::{Campaign, Tag};
+use chronicle_trial::rows::{Nation, Question, Resolved};
+use chronicle_trial::unpack::unpack;
 
 use crate::rust::Rust;
 use crate::vectors;
@@ -210,7 +210,7 @@ fn bad_record(random: &mut Random, vector: &Vector) -> Vector {
 fn without_room(random: &mut Random, vector: &Vector) -> Vector {
     let needed = vector.answers.as_ref().map_or(0, Vec::len);
     let room = random.pick(&[0, needed - 1]);
-    Vector { room, answers: Err(Refusal::NoRoom), ..vector.clone() }
+    Vector { room, answers: Err(Refusal::NoRoom(None)), ..vector.clone() }
 }
 
 impl Vector {

@@ -1,14 +1,15 @@
 //! Players, histories and starting countries.
 
-use chronicle_host::adversary::{draw_bare, players, tags_of};
-use chronicle_host::generate::Random;
-use chronicle_host::lists::altered_histories;
-use chronicle_host::model::histories_told;
-use chronicle_host::pack::{pack, Campaign};
-use chronicle_host::rows::{
+use chronicle::Refusal;
+use chronicle_trial::adversary::{draw_bare, players, tags_of};
+use chronicle_trial::generate::Random;
+use chronicle_trial::lists::altered_histories;
+use chronicle_trial::model;
+use chronicle_trial::model::histories_told;
+use chronicle_trial::pack::{pack, Campaign};
+use chronicle_trial::rows::{
     entry_words, history_words, name_words, nation_words, player_words, tag_word, Nation,
 };
-use chronicle_host::{model, Refusal};
 
 use super::{bad_record, count, ill_shaped, lent, without_room, Kind, Other, Vector, NOBODY};
 use crate::playing::Played;
@@ -135,7 +136,7 @@ fn falsified_players(random: &mut Random, vector: &Vector) -> Vector {
         0 => rows[row] += 1,
         1 => rows[row + 1] = tag_word(NOBODY),
         2 => rows.truncate(rows.len() - 2),
-        _ => vector.answers = Err(Refusal::NoRoom),
+        _ => vector.answers = Err(Refusal::NoRoom(None)),
     }
     vector
 }
@@ -179,7 +180,7 @@ fn without_names(random: &mut Random, vector: &Vector) -> Vector {
     match vector.many.len() - 1 {
         0 => without_room(random, vector),
         names => {
-            let mut vector = Vector { answers: Err(Refusal::NoRoom), ..vector.clone() };
+            let mut vector = Vector { answers: Err(Refusal::NoRoom(None)), ..vector.clone() };
             vector.many[0] = random.pick(&[0, count(names - 1)]);
             vector
         }

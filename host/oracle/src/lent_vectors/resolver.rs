@@ -1,11 +1,11 @@
 //! Questions to the resolver.
 
-use chronicle_host::adversary::{days_of, tags_of};
-use chronicle_host::generate::Random;
-use chronicle_host::lists::questions;
-use chronicle_host::pack::{Campaign, Date};
-use chronicle_host::rows::{entry_words, nation_words, Nation, Question, Resolved};
-use chronicle_host::Refusal;
+use chronicle::Refusal;
+use chronicle_trial::adversary::{days_of, tags_of};
+use chronicle_trial::generate::Random;
+use chronicle_trial::lists::questions;
+use chronicle_trial::pack::{Campaign, Date};
+use chronicle_trial::rows::{entry_words, nation_words, Nation, Question, Resolved};
 
 use super::{spoil, without_room, Kind, Other, Vector, NOBODY};
 use crate::resolving::answer;
@@ -63,7 +63,7 @@ fn falsified(random: &mut Random, vector: &Vector) -> Vector {
             Ok(Some(found)) => found.stored = NOBODY,
             none => *none = Ok(Some(Resolved { current: NOBODY, stored: NOBODY })),
         },
-        2 => vector.answers = Err(Refusal::NoRoom),
+        2 => vector.answers = Err(Refusal::NoRoom(None)),
         _ => {
             let words = vector.answers.as_mut().expect("the Rust refuses nothing");
             *words.last_mut().expect("many were asked") ^= 1;

@@ -1,9 +1,9 @@
 //! Pages near each limit.
 
-use chronicle_host::adversary::selections::selection;
-use chronicle_host::extremes::pages::{one_slot, padded, switched, to_and_fro, whole_page};
-use chronicle_host::pack::{pack, Campaign, Tag};
-use chronicle_host::sample::worked;
+use chronicle_trial::adversary::selections::selection;
+use chronicle_trial::extremes::pages::{one_slot, padded, switched, to_and_fro, whole_page};
+use chronicle_trial::pack::{pack, Campaign, Tag};
+use chronicle_trial::sample::worked;
 
 use super::Paged;
 use crate::rust::Rust;

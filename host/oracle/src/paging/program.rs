@@ -1,10 +1,10 @@
 //! What the program prints.
 
-use chronicle_host::adversary::selections::{draw, selection, spoiled};
-use chronicle_host::generate::Random;
-use chronicle_host::model;
-use chronicle_host::pack::{pack, Campaign};
-use chronicle_host::program::{printed, Folder};
+use chronicle_trial::adversary::selections::{draw, selection, spoiled};
+use chronicle_trial::generate::Random;
+use chronicle_trial::model;
+use chronicle_trial::pack::{pack, Campaign};
+use chronicle_trial::program::{printed, Folder};
 
 use super::Paged;
 use crate::rust::Rust;

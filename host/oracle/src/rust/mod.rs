@@ -6,8 +6,8 @@ mod resolver;
 pub use players::{player_history, Named};
 pub use resolver::Resolver;
 
-use chronicle_host::pack::{Campaign, Date, Tag};
-use chronicle_host::rows::{Booking, Change, Entry, Kind, LedgerRow, Nation, Run};
+use chronicle_trial::pack::{Campaign, Date, Tag};
+use chronicle_trial::rows::{Booking, Change, Entry, Kind, LedgerRow, Nation, Run};
 use eu4save::query::{
     LedgerPoint, NationEvent, NationEventKind, NationEvents, ProvinceOwnerChange, ProvinceOwners,
     Query, ResolvedWarParticipant, ResolvedWarParticipants,
@@ -26,7 +26,7 @@ impl Rust {
     /// Loads a campaign.
     ///
     /// ```
-    /// use chronicle_host::sample;
+    /// use chronicle_trial::sample;
     /// use chronicle_oracle::rust::Rust;
     ///
     /// let rust = Rust::of(&sample::worked());
@@ -39,7 +39,7 @@ impl Rust {
     /// The Rust's own answer, for what is asked of it next and for its time.
     ///
     /// ```
-    /// use chronicle_host::sample;
+    /// use chronicle_trial::sample;
     /// use chronicle_oracle::rust::Rust;
     ///
     /// assert_eq!(Rust::of(&sample::worked()).owners().changes.len(), 2);
@@ -51,7 +51,7 @@ impl Rust {
     /// The Rust's own answer, in whatever order its hash map had.
     ///
     /// ```
-    /// use chronicle_host::sample;
+    /// use chronicle_trial::sample;
     /// use chronicle_oracle::rust::Rust;
     ///
     /// let rust = Rust::of(&sample::worked());
@@ -64,7 +64,7 @@ impl Rust {
     /// The nations by the bytes of their initial, which no two share.
     ///
     /// ```
-    /// use chronicle_host::{model, sample};
+    /// use chronicle_trial::{model, sample};
     /// use chronicle_oracle::rust::Rust;
     ///
     /// let rust = Rust::of(&sample::worked());
@@ -81,7 +81,7 @@ impl Rust {
     /// of its time.
     ///
     /// ```
-    /// use chronicle_host::sample;
+    /// use chronicle_trial::sample;
     /// use chronicle_oracle::rust::Rust;
     ///
     /// assert!(Rust::of(&sample::worked()).war_participants(&[]).1.is_empty());
@@ -98,7 +98,7 @@ impl Rust {
     /// The rows of all wars, numbered from 0.
     ///
     /// ```
-    /// use chronicle_host::sample;
+    /// use chronicle_trial::sample;
     /// use chronicle_oracle::rust::Rust;
     ///
     /// assert!(Rust::of(&sample::worked()).bookings(&[]).is_empty());
@@ -120,7 +120,7 @@ impl Rust {
     /// The Rust's own answer: the ledger whose values it leaves unaltered.
     ///
     /// ```
-    /// use chronicle_host::sample;
+    /// use chronicle_trial::sample;
     /// use chronicle_oracle::rust::Rust;
     ///
     /// let rust = Rust::of(&sample::worked());
@@ -134,7 +134,7 @@ impl Rust {
     /// The same as rows.
     ///
     /// ```
-    /// use chronicle_host::sample;
+    /// use chronicle_trial::sample;
     /// use chronicle_oracle::rust::Rust;
     ///
     /// let rust = Rust::of(&sample::worked());
@@ -150,7 +150,7 @@ impl Rust {
 /// The Rust's changes as rows.
 ///
 /// ```
-/// use chronicle_host::{model, sample};
+/// use chronicle_trial::{model, sample};
 /// use chronicle_oracle::rust::{changes, Rust};
 ///
 /// let owners = Rust::of(&sample::worked()).owners();
@@ -170,7 +170,7 @@ pub fn changes(owners: &ProvinceOwners) -> Vec<Change> {
 /// also if it is empty.
 ///
 /// ```
-/// use chronicle_host::{rows::Run, sample};
+/// use chronicle_trial::{rows::Run, sample};
 /// use chronicle_oracle::rust::{events_on, Rust};
 ///
 /// let owners = Rust::of(&sample::worked()).owners();
@@ -186,7 +186,7 @@ pub fn events_on(owners: &ProvinceOwners, date: Date) -> Run {
 /// A nation as the Rust has it, for what is asked about any list of nations.
 ///
 /// ```
-/// use chronicle_host::{model, sample};
+/// use chronicle_trial::{model, sample};
 /// use chronicle_oracle::rust::{nation, nation_events};
 ///
 /// let expected = &model::chronicle(&sample::worked()).nations[0];
@@ -212,7 +212,7 @@ pub fn nation_events(nation: &Nation) -> NationEvents {
 /// A nation of the Rust as rows.
 ///
 /// ```
-/// use chronicle_host::sample;
+/// use chronicle_trial::sample;
 /// use chronicle_oracle::rust::{nation, Rust};
 ///
 /// let rust = Rust::of(&sample::worked());

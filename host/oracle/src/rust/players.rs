@@ -1,7 +1,7 @@
 //! Players, the countries they played and the one they began with.
 
-use chronicle_host::pack::Tag;
-use chronicle_host::rows::History;
+use chronicle_trial::pack::Tag;
+use chronicle_trial::rows::History;
 use eu4save::query::{NationEvents, PlayerHistory};
 
 use super::{bytes, Rust};
@@ -14,7 +14,7 @@ impl Rust {
     /// The Rust's own answer, for its time.
     ///
     /// ```
-    /// use chronicle_host::sample;
+    /// use chronicle_trial::sample;
     /// use chronicle_oracle::rust::Rust;
     ///
     /// assert!(Rust::of(&sample::worked()).player_list().is_empty());
@@ -26,7 +26,7 @@ impl Rust {
     /// The players by name.
     ///
     /// ```
-    /// use chronicle_host::sample;
+    /// use chronicle_trial::sample;
     /// use chronicle_oracle::rust::Rust;
     ///
     /// assert!(Rust::of(&sample::worked()).players().is_empty());
@@ -38,7 +38,7 @@ impl Rust {
     /// The Rust's own answer.
     ///
     /// ```
-    /// use chronicle_host::sample;
+    /// use chronicle_trial::sample;
     /// use chronicle_oracle::rust::Rust;
     ///
     /// assert!(Rust::of(&sample::worked()).histories(&[]).is_empty());
@@ -50,7 +50,7 @@ impl Rust {
     /// The country that play began with.
     ///
     /// ```
-    /// use chronicle_host::sample;
+    /// use chronicle_trial::sample;
     /// use chronicle_oracle::rust::Rust;
     ///
     /// assert_eq!(Rust::of(&sample::worked()).starting_country(&[]), None);
@@ -63,7 +63,7 @@ impl Rust {
 /// A history as the Rust has it, for what is asked about any histories; nobody's name is told.
 ///
 /// ```
-/// use chronicle_host::rows::History;
+/// use chronicle_trial::rows::History;
 /// use chronicle_oracle::rust::{bytes, player_history};
 ///
 /// let [initial, latest, stored] = [*b"ENG", *b"GBR", *b"GBR"];

@@ -1,7 +1,7 @@
 //! The Rust's resolver.
 
-use chronicle_host::pack::{Date, Tag};
-use chronicle_host::rows::Resolved;
+use chronicle_trial::pack::{Date, Tag};
+use chronicle_trial::rows::Resolved;
 use eu4save::query::NationEvents;
 use eu4save::{TagData, TagResolver};
 

@@ -1,8 +1,8 @@
 //! What is hard about ledgers: spans, and the points that they read.
 
-use chronicle_host::model::{spans, Span};
-use chronicle_host::pack::{Campaign, Date, LedgerName, Point};
-use chronicle_host::rows::{Entry, Kind, LedgerRow, Nation};
+use chronicle_trial::model::{spans, Span};
+use chronicle_trial::pack::{Campaign, Date, LedgerName, Point};
+use chronicle_trial::rows::{Entry, Kind, LedgerRow, Nation};
 
 use super::Seen;
 
@@ -46,8 +46,8 @@ impl Seen {
     /// Notes the hard cases of the ledgers that a list of nations has with a campaign.
     ///
     /// ```
-    /// use chronicle_host::pack::{LedgerName, Point};
-    /// use chronicle_host::{model, sample};
+    /// use chronicle_trial::pack::{LedgerName, Point};
+    /// use chronicle_trial::{model, sample};
     /// use chronicle_oracle::seen::Seen;
     ///
     /// let mut campaign = sample::worked();

@@ -11,10 +11,10 @@ pub use ledgers::LEDGER_CASES;
 use std::collections::{BTreeMap, BTreeSet};
 use std::fmt;
 
-use chronicle_host::demand::Met;
-use chronicle_host::model::Chronicle;
-use chronicle_host::pack::{Campaign, Country, Province, Tag, NONE};
-use chronicle_host::rows::{Change, Entry, Kind, Nation};
+use chronicle_trial::demand::Met;
+use chronicle_trial::model::Chronicle;
+use chronicle_trial::pack::{Campaign, Country, Province, Tag, NONE};
+use chronicle_trial::rows::{Change, Entry, Kind, Nation};
 
 /// How often each thing was met.
 #[derive(Clone, Debug, Default)]
@@ -63,7 +63,7 @@ impl Seen {
     /// Adds what demand 3 met.
     ///
     /// ```
-    /// use chronicle_host::demand::{Met, Premise};
+    /// use chronicle_trial::demand::{Met, Premise};
     /// use chronicle_oracle::seen::Seen;
     ///
     /// let (mut seen, mut met) = (Seen::default(), Met::default());
@@ -78,7 +78,7 @@ impl Seen {
     /// Notes the hard cases of a campaign.
     ///
     /// ```
-    /// use chronicle_host::{model, sample};
+    /// use chronicle_trial::{model, sample};
     /// use chronicle_oracle::seen::Seen;
     ///
     /// let mut seen = Seen::default();
@@ -99,7 +99,7 @@ impl Seen {
     /// Notes what is hard for a resolver about a list of nations.
     ///
     /// ```
-    /// use chronicle_host::{model, sample};
+    /// use chronicle_trial::{model, sample};
     /// use chronicle_oracle::seen::Seen;
     ///
     /// let mut seen = Seen::default();

@@ -2,9 +2,9 @@
 
 use std::collections::BTreeSet;
 
-use chronicle_host::pack::Tag;
-use chronicle_host::rows::{Kind, Nation};
-use chronicle_host::Refusal;
+use chronicle::Refusal;
+use chronicle_trial::pack::Tag;
+use chronicle_trial::rows::{Kind, Nation};
 
 use super::{is_switch, Seen};
 
@@ -12,7 +12,7 @@ impl Seen {
     /// Notes the hard cases of a selection; the others are tags that occur in the campaign.
     ///
     /// ```
-    /// use chronicle_host::{model, sample};
+    /// use chronicle_trial::{model, sample};
     /// use chronicle_oracle::seen::Seen;
     ///
     /// let nations = model::chronicle(&sample::worked()).nations;
@@ -67,7 +67,7 @@ impl Seen {
     /// Notes how a page came out.
     ///
     /// ```
-    /// use chronicle_host::Refusal;
+    /// use chronicle::Refusal;
     /// use chronicle_oracle::seen::Seen;
     ///
     /// let mut seen = Seen::default();

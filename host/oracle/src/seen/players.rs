@@ -2,11 +2,11 @@
 
 use std::collections::BTreeSet;
 
-use chronicle_host::model;
-use chronicle_host::pack::{
+use chronicle_trial::model;
+use chronicle_trial::pack::{
     Campaign, Country, Tag, HAS_SWITCHED_NATION, HUMAN, IRONMAN, MULTIPLAYER, WAS_PLAYER,
 };
-use chronicle_host::rows::{History, Kind, Nation, Player};
+use chronicle_trial::rows::{History, Kind, Nation, Player};
 
 use super::Seen;
 
@@ -26,7 +26,7 @@ impl Seen {
     /// Notes the hard cases of a campaign's strings.
     ///
     /// ```
-    /// use chronicle_host::{model, sample};
+    /// use chronicle_trial::{model, sample};
     /// use chronicle_oracle::seen::Seen;
     ///
     /// let mut campaign = sample::worked();
@@ -67,7 +67,7 @@ impl Seen {
     /// Notes the hard cases of a campaign's histories by a list of nations.
     ///
     /// ```
-    /// use chronicle_host::{model, pack::WAS_PLAYER, sample};
+    /// use chronicle_trial::{model, pack::WAS_PLAYER, sample};
     /// use chronicle_oracle::seen::Seen;
     ///
     /// let mut campaign = sample::worked();

@@ -1,8 +1,8 @@
 //! What the changes of a campaign do to who holds what.
 
-use chronicle_host::pack::{Campaign, Date, Tag};
-use chronicle_host::recount::{settled, start_holder};
-use chronicle_host::rows::Change;
+use chronicle_trial::pack::{Campaign, Date, Tag};
+use chronicle_trial::recount::{settled, start_holder};
+use chronicle_trial::rows::Change;
 
 use super::Seen;
 

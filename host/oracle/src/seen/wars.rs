@@ -2,9 +2,9 @@
 
 use std::collections::BTreeSet;
 
-use chronicle_host::calendar::day_after;
-use chronicle_host::pack::{Campaign, War, WarEvent, NONE};
-use chronicle_host::rows::{Booking, Entry, Kind, Nation};
+use chronicle_trial::calendar::day_after;
+use chronicle_trial::pack::{Campaign, War, WarEvent, NONE};
+use chronicle_trial::rows::{Booking, Entry, Kind, Nation};
 
 use super::Seen;
 
@@ -15,8 +15,8 @@ impl Seen {
     /// Notes the hard cases of a campaign's wars with a list of nations and the bookings by it.
     ///
     /// ```
-    /// use chronicle_host::pack::{War, WarEvent};
-    /// use chronicle_host::{model, sample};
+    /// use chronicle_trial::pack::{War, WarEvent};
+    /// use chronicle_trial::{model, sample};
     /// use chronicle_oracle::seen::Seen;
     ///
     /// let mut campaign = sample::worked();

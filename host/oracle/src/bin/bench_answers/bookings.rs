@@ -3,13 +3,12 @@
 
 use std::hint::black_box;
 
-use chronicle_host::extremes::{self, at_war, nations, switching};
-use chronicle_host::generate::sized;
-use chronicle_host::layout::Counts;
-use chronicle_host::model;
-use chronicle_host::pack::{pack, Campaign};
-use chronicle_host::rows::{entry_words, nation_words, Nation};
 use chronicle_oracle::rust::{nation_events, Rust};
+use chronicle_trial::extremes::{self, at_war, nations, switching};
+use chronicle_trial::generate::{counts_of, sized};
+use chronicle_trial::model;
+use chronicle_trial::pack::{pack, Campaign};
+use chronicle_trial::rows::{entry_words, nation_words, Nation};
 use eu4save::query::NationEvents;
 
 use crate::race::{self, heading, spent, Timed};
@@ -57,11 +56,10 @@ fn behind_all(mut campaign: Campaign) -> Campaign {
 fn with(switches: usize, war_events: usize) -> Campaign {
     let nations = [('C', 2_000), ('P', 8_000), ('A', 20_000), ('B', switches), ('E', 60_000)];
     let wars = [('W', 5_000), ('V', war_events)];
-    sized(&Counts::of(&[&nations[..], &wars].concat()), 1)
+    sized(&counts_of(&[&nations[..], &wars].concat()), 1)
 }
 
 /// What both are given.
-#[cfg_attr(not(feature = "war_participants"), allow(dead_code))]
 struct Given {
     rust: Rust,
     theirs: Vec<NationEvents>,
@@ -87,8 +85,8 @@ fn race(name: &str, campaign: &Campaign, rounds: usize) {
 }
 
 fn switches(nation: &Nation) -> usize {
-    let switch = |entry: &&chronicle_host::rows::Entry| {
-        matches!(entry.kind, chronicle_host::rows::Kind::Switch(_))
+    let switch = |entry: &&chronicle_trial::rows::Entry| {
+        matches!(entry.kind, chronicle_trial::rows::Kind::Switch(_))
     };
     nation.entries.iter().filter(switch).count()
 }
@@ -100,14 +98,8 @@ fn theirs(given: &Given) -> Timed {
     (answered.1.iter().map(|war| war.participants.len()).sum(), time)
 }
 
-#[cfg(not(feature = "war_participants"))]
-fn ours(_: &Given) -> Option<Timed> {
-    None
-}
-
-#[cfg(feature = "war_participants")]
 fn ours(given: &Given) -> Option<Timed> {
-    let rows = chronicle_host::Chronicle { nations: &given.nations, entries: &given.entries };
+    let rows = chronicle::raw::Chronicle { nations: &given.nations, entries: &given.entries };
     let mut out = vec![0; 3 * given.war_events];
     let before = spent();
     let answered = black_box(rows.war_participants(black_box(&given.record), &mut out));

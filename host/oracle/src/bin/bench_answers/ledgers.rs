@@ -3,13 +3,13 @@
 
 use std::hint::black_box;
 
-use chronicle_host::extremes::{self, yearly};
-use chronicle_host::generate::{at_limits, sized};
-use chronicle_host::layout::Counts;
-use chronicle_host::model;
-use chronicle_host::pack::{pack, Campaign};
-use chronicle_host::rows::{entry_words, nation_words};
 use chronicle_oracle::rust::{nation_events, Rust};
+use chronicle_trial::extremes::{self, yearly};
+use chronicle_trial::generate::{at_limits, counts_of, sized};
+use chronicle_trial::model;
+use chronicle_trial::pack::{pack, Campaign};
+use chronicle_trial::rows::{entry_words, nation_words};
+use chronicle_trial::told::Told;
 use eu4save::query::{LedgerPoint, NationEvents};
 
 use crate::race::{self, heading, spent, Timed};
@@ -56,11 +56,10 @@ fn in_our_era(mut campaign: Campaign) -> Campaign {
 
 fn with_points(points: usize) -> Campaign {
     let counts = [('C', 2_000), ('P', 8_000), ('E', 60_000), ('G', 2_000), ('Y', points)];
-    sized(&Counts::of(&counts), 1)
+    sized(&counts_of(&counts), 1)
 }
 
 /// What both are given.
-#[cfg_attr(not(feature = "nation_ledger"), allow(dead_code))]
 struct Given {
     rust: Rust,
     theirs: Vec<NationEvents>,
@@ -96,25 +95,12 @@ fn theirs(given: &Given) -> Timed {
     (ledgers.iter().map(Vec::len).sum(), time)
 }
 
-#[cfg(not(feature = "nation_ledger"))]
-mod library {
-    use super::{Given, Timed};
-
-    pub fn each(_: &Given) -> Option<Timed> {
-        None
-    }
-
-    pub use {each as as_values, each as each_unchecked, each as together};
-
-    pub fn refusal(_: usize) {}
-}
-
-#[cfg(feature = "nation_ledger")]
 mod library {
     use super::*;
-    use chronicle_host::extremes::{overlong, OVERLONG_WORDS};
-    use chronicle_host::{check, Chronicle, Refusal};
+    use chronicle::raw::{check, Chronicle};
+    use chronicle::Refusal;
     use chronicle_oracle::timed::Times;
+    use chronicle_trial::extremes::{overlong, OVERLONG_WORDS};
     use std::time::Duration;
 
     const ROOM: &str = "there is room for every row";
@@ -188,11 +174,11 @@ mod library {
         let ways: [(&str, &dyn Fn()); 3] = [
             ("nation_ledger, three cells lent", &|| {
                 let refused = rows.nation_ledger(&record, 0, &mut [0; 3]);
-                assert_eq!(refused, Err(Refusal::NoRoom));
+                assert_eq!(refused, Err(Refusal::NoRoom(None)));
             }),
             ("nation_ledgers, three cells lent", &|| {
                 let refused = rows.nation_ledgers(&record, &mut [0; 3], &mut [0]);
-                assert_eq!(refused, Err(Refusal::NoRoom));
+                assert_eq!(refused, Err(Refusal::NoRoom(None)));
             }),
             ("nation_ledger_rows, all counted", &|| {
                 let counted = rows.nation_ledger_rows(&record, 0, usize::MAX);

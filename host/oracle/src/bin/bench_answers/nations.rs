@@ -2,11 +2,10 @@
 
 use std::hint::black_box;
 
-use chronicle_host::extremes::{late_changes, nations, rising};
-use chronicle_host::generate::sized;
-use chronicle_host::layout::Counts;
-use chronicle_host::pack::{pack, Campaign};
 use chronicle_oracle::rust::Rust;
+use chronicle_trial::extremes::{late_changes, nations, rising};
+use chronicle_trial::generate::{counts_of, sized};
+use chronicle_trial::pack::{pack, Campaign};
 
 use crate::owners::GROWTH;
 use crate::race::{self, heading, spent, Timed};
@@ -36,7 +35,7 @@ pub fn all(rounds: usize) {
 
 fn with_switches(switches: usize, events: usize) -> Campaign {
     let counts = [('C', 2_000), ('P', 8_000), ('A', 20_000), ('B', switches), ('E', events)];
-    sized(&Counts::of(&counts), 1)
+    sized(&counts_of(&counts), 1)
 }
 
 fn race(name: &str, campaign: &Campaign, rows: usize, rounds: usize) {
@@ -53,13 +52,7 @@ fn theirs(rust: &Rust) -> Timed {
     (nations.len(), time)
 }
 
-#[cfg(not(feature = "nation_events"))]
-pub fn ours(_: &[u8], _: &Campaign) -> Option<Timed> {
-    None
-}
-
 /// Each event can bring two entries, and each switch one.
-#[cfg(feature = "nation_events")]
 pub fn ours(record: &[u8], campaign: &Campaign) -> Option<Timed> {
     let events: usize = campaign.provinces.iter().map(|province| province.events.len()).sum();
     let switches: usize = campaign.countries.iter().map(|c| c.switches.len()).sum();
@@ -68,9 +61,9 @@ pub fn ours(record: &[u8], campaign: &Campaign) -> Option<Timed> {
         [5 * countries, 3 * (2 * events + switches), provinces + 1, countries, 4 * events, 5];
     let mut lent = cells.map(|length| vec![0; length]);
     let [nations, entries, holders, held, changes, counts] = lent.each_mut().map(|v| &mut v[..]);
-    let room = chronicle_host::Room { nations, entries, holders, held, changes, counts };
+    let room = chronicle::raw::Room { nations, entries, holders, held, changes, counts };
     let before = spent();
-    let answer = black_box(chronicle_host::nation_events(black_box(record), room));
+    let answer = black_box(chronicle::raw::nation_events(black_box(record), room));
     let time = spent() - before;
     answer.expect("there is room for every row");
     Some((lent[5][0] as usize, time))

@@ -2,9 +2,9 @@
 
 use std::hint::black_box;
 
-use chronicle_host::extremes::{in_order, owners, reversed, rising};
-use chronicle_host::pack::{pack, Campaign};
 use chronicle_oracle::rust::Rust;
+use chronicle_trial::extremes::{in_order, owners, reversed, rising};
+use chronicle_trial::pack::{pack, Campaign};
 
 use crate::orders::{self, game};
 use crate::race::{self, heading, spent, Timed};
@@ -64,17 +64,11 @@ fn theirs(rust: &Rust) -> Timed {
     (owners.changes.len(), time)
 }
 
-#[cfg(not(feature = "province_owners"))]
-fn ours(_: &[u8], _: &Campaign) -> Option<Timed> {
-    None
-}
-
-#[cfg(feature = "province_owners")]
 fn ours(record: &[u8], campaign: &Campaign) -> Option<Timed> {
     let events: usize = campaign.provinces.iter().map(|province| province.events.len()).sum();
     let mut out = vec![0; 4 * events];
     let before = spent();
-    let rows = black_box(chronicle_host::province_owners(black_box(record), &mut out));
+    let rows = black_box(chronicle::raw::province_owners(black_box(record), &mut out));
     let time = spent() - before;
     Some((rows.expect("there is room for every event"), time))
 }

@@ -3,12 +3,12 @@
 
 use std::hint::black_box;
 
-use chronicle_host::adversary::selections::selection;
-use chronicle_host::extremes::pages::{one_slot, to_and_fro, whole_page};
-use chronicle_host::pack::{pack, Campaign, Tag};
-use chronicle_host::sample::{isles, worked};
 use chronicle_oracle::paging::page;
 use chronicle_oracle::rust::Rust;
+use chronicle_trial::adversary::selections::selection;
+use chronicle_trial::extremes::pages::{one_slot, to_and_fro, whole_page};
+use chronicle_trial::pack::{pack, Campaign, Tag};
+use chronicle_trial::sample::{isles, worked};
 
 use crate::race::{self, heading, spent, Timed};
 
@@ -52,29 +52,15 @@ fn race(name: &str, campaign: &Campaign, count: usize, rounds: usize) {
     race::race(name, count, rounds, theirs, &mut || library::ours(&record, &tags));
 }
 
-#[cfg(not(feature = "page"))]
-mod library {
-    use super::{Campaign, Timed};
-
-    pub fn ours(_: &[u8], _: &[u8]) -> Option<Timed> {
-        None
-    }
-
-    pub fn beside(name: &str, _: &Campaign, _: usize) {
-        println!("{name:<32} not in the library yet");
-    }
-}
-
-#[cfg(feature = "page")]
 mod library {
     use super::*;
-    use chronicle_host::write_page;
+    use chronicle::raw::write_page;
     use chronicle_oracle::timed::Times;
     use std::time::Duration;
 
     /// The bytes have been written before, as those of a host that lends them again.
     pub fn ours(record: &[u8], tags: &[u8]) -> Option<Timed> {
-        let mut out = vec![1; chronicle_host::LONGEST_PAGE];
+        let mut out = vec![1; chronicle::raw::LONGEST_PAGE];
         let before = spent();
         let written = black_box(write_page(black_box(record), tags, &mut out));
         let time = spent() - before;

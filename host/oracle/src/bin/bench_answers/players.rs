@@ -4,14 +4,14 @@
 use std::hint::black_box;
 use std::time::Duration;
 
-use chronicle_host::adversary::players::at_limits;
-use chronicle_host::extremes;
-use chronicle_host::generate::sized;
-use chronicle_host::layout::Counts;
-use chronicle_host::model;
-use chronicle_host::pack::{pack, Campaign};
-use chronicle_host::rows::{entry_words, history_words, nation_words, History};
 use chronicle_oracle::rust::{nation_events, Rust};
+use chronicle_trial::adversary::players::at_limits;
+use chronicle_trial::extremes;
+use chronicle_trial::generate::{counts_of, sized};
+use chronicle_trial::model;
+use chronicle_trial::pack::{pack, Campaign};
+use chronicle_trial::rows::{entry_words, history_words, nation_words, History};
+use chronicle_trial::told::Told;
 use eu4save::query::{NationEvents, PlayerHistory};
 
 use crate::race::{self, heading, spent, Timed};
@@ -52,7 +52,7 @@ pub fn all(rounds: usize) {
 
 /// Each country is a nation: it holds a province under its own tag.
 fn alone(countries: usize) -> Campaign {
-    let mut campaign = sized(&Counts::of(&[('C', countries), ('P', countries)]), 1);
+    let mut campaign = sized(&counts_of(&[('C', countries), ('P', countries)]), 1);
     for (province, country) in campaign.provinces.iter_mut().zip(&campaign.countries) {
         province.owner = country.tag;
     }
@@ -136,29 +136,15 @@ mod theirs {
     }
 }
 
-#[cfg(not(feature = "player_histories"))]
 mod ours {
-    use super::*;
-
-    pub use {
-        players as histories, players as starting, players as all_three, players as unchecked,
-    };
-
-    pub fn players(_: &Given) -> Option<Timed> {
-        None
-    }
-}
-
-#[cfg(feature = "player_histories")]
-mod ours {
-    use chronicle_host::Chronicle;
+    use chronicle::raw::Chronicle;
 
     use super::*;
 
     pub fn players(given: &Given) -> Option<Timed> {
         let mut out = vec![0; 2 * given.counts[1]];
         let before = spent();
-        let answered = black_box(chronicle_host::players(black_box(&given.record), &mut out));
+        let answered = black_box(chronicle::raw::players(black_box(&given.record), &mut out));
         let time = spent() - before;
         Some((answered.expect("there is room for every pair"), time))
     }
@@ -176,7 +162,7 @@ mod ours {
     pub fn starting(given: &Given) -> Option<Timed> {
         let rows = Chronicle { nations: &given.nations, entries: &given.entries };
         let before = spent();
-        let answered = black_box(rows.starting_country(black_box(&given.words)));
+        let answered = black_box(rows.starting(black_box(&given.words)));
         let time = spent() - before;
         Some((usize::from(answered.expect("the words are well shaped").is_some()), time))
     }
@@ -189,7 +175,7 @@ mod ours {
     pub fn unchecked(given: &Given) -> Option<Timed> {
         let (rows, time) = all_three(given)?;
         let before = spent();
-        let checked = black_box(chronicle_host::check(black_box(&given.record)));
+        let checked = black_box(chronicle::raw::check(black_box(&given.record)));
         let check = spent() - before;
         checked.expect("the record is accepted");
         Some((rows, time.saturating_sub(2 * check)))

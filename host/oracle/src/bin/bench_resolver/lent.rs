@@ -3,15 +3,15 @@
 use std::hint::black_box;
 use std::time::Duration;
 
-use chronicle_host::generate::Random;
-use chronicle_host::lists::{questions, some_of};
-use chronicle_host::rows::{
-    entry_words, nation_words, tag_of_word, tag_word, Kind, Nation, Question,
-};
-use chronicle_host::Chronicle;
+use chronicle::raw::Chronicle;
 use chronicle_oracle::rust::{bytes, nation_events};
 use chronicle_oracle::save;
 use chronicle_oracle::timed::{race, spent};
+use chronicle_trial::generate::Random;
+use chronicle_trial::lists::{questions, some_of};
+use chronicle_trial::rows::{
+    entry_words, nation_words, tag_of_word, tag_word, Kind, Nation, Question,
+};
 use eu4save::query::NationEvents;
 use eu4save::{TagData, TagResolver};
 

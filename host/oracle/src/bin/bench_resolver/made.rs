@@ -1,8 +1,8 @@
 //! Lists of nations that no record gave: as many switches as wanted.
 
-use chronicle_host::generate::Random;
-use chronicle_host::pack::{Date, Tag};
-use chronicle_host::rows::{Entry, Kind, Nation};
+use chronicle_trial::generate::Random;
+use chronicle_trial::pack::{Date, Tag};
+use chronicle_trial::rows::{Entry, Kind, Nation};
 
 /// In each list.
 pub const NATIONS: usize = 2_000;

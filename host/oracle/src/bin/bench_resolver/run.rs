@@ -5,11 +5,11 @@ use std::process::ExitCode;
 use std::sync::Arc;
 use std::thread;
 
-use chronicle_host::extremes::{self, nations};
-use chronicle_host::model;
-use chronicle_host::pack::Campaign;
-use chronicle_host::rows::Nation;
 use chronicle_oracle::timed::heading;
+use chronicle_trial::extremes::{self, nations};
+use chronicle_trial::model;
+use chronicle_trial::pack::Campaign;
+use chronicle_trial::rows::Nation;
 
 use crate::lent::{Lent, FORMS};
 use crate::made::{made, NATIONS};
