@@ -27,7 +27,7 @@ pub struct Shortage {
     pub lacking: Lacking,
     /// How much there was.
     pub room: usize,
-    /// How much it takes.
+    /// How much it takes; of all ledgers together, how much it takes at least.
     pub needed: usize,
 }
 
@@ -51,7 +51,7 @@ impl fmt::Display for Shortage {
                 )
             }
             Lacking::LedgerRows => {
-                write!(f, "there was room for {room} ledger rows, and there are {needed}")
+                write!(f, "there was room for {room} ledger rows, and it takes at least {needed}")
             }
             Lacking::Stack => {
                 write!(f, "the system started no thread with {needed} bytes of stack")
