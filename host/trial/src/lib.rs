@@ -1,7 +1,7 @@
 //! What the campaign chronicle is tried with.
 //!
 //! A writer and a reader of packed records and an independent checker of them ([`pack`],
-//! [`mod@unpack`], [`mod@reference`]), campaigns and damage ([`generate`], [`adversary`], [`wars`],
+//! [`mod@unpack`], [`mod@reference`], [`mod@offence`]), campaigns and damage ([`generate`], [`adversary`], [`wars`],
 //! [`extremes`], [`lists`], [`edges`], [`damage`], [`cases`], [`sample`], [`shrink`],
 //! [`vectors`]), memory to lend and the program `page`, run ([`guard`], [`seal`], [`program`]),
 //! calls with every cell accounted for ([`trial`]), an independent model of the answers ([`model`])
@@ -23,7 +23,7 @@ pub mod vectors;
 
 pub use draw::{adversary, cases, damage, edges, extremes, generate, lists, sample, shrink, wars};
 pub use memory::{guard, program, seal};
-pub use packed::{calendar, pack, reference, unpack};
+pub use packed::{calendar, offence, pack, reference, unpack};
 
 use chronicle::Refusal;
 
