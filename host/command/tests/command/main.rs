@@ -2,6 +2,7 @@
 
 mod answers;
 mod objects;
+mod picture;
 mod pipes;
 mod refusals;
 mod usage;
