@@ -85,17 +85,26 @@ pub const HEAD_COUNTS: [(char, usize, usize, usize); 10] = [
 
 /// Where each section lies; the strings run from `strings` to the end of the record.
 #[derive(Clone, Debug, PartialEq, Eq)]
-#[allow(missing_docs)]
 pub struct Sections {
+    /// Rows of [`COUNTRY`] bytes.
     pub countries: Range<usize>,
+    /// Rows of [`PREVIOUS_TAG`] bytes.
     pub previous_tags: Range<usize>,
+    /// Rows of [`SWITCH`] bytes.
     pub switches: Range<usize>,
+    /// Rows of [`PROVINCE`] bytes.
     pub provinces: Range<usize>,
+    /// Rows of [`OWNER_EVENT`] bytes.
     pub owner_events: Range<usize>,
+    /// Rows of [`WAR`] bytes.
     pub wars: Range<usize>,
+    /// Rows of [`WAR_EVENT`] bytes.
     pub war_events: Range<usize>,
+    /// Rows of [`LEDGER_NAME`] bytes.
     pub ledger_names: Range<usize>,
+    /// Rows of [`POINT`] bytes.
     pub points: Range<usize>,
+    /// Where the first string begins.
     pub strings: usize,
 }
 

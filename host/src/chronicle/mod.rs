@@ -1,6 +1,7 @@
 //! The chronicle of a record, and what is asked of the two together.
 
 mod ledger;
+mod played;
 mod resolver;
 
 pub use resolver::TagResolverDated;
@@ -10,9 +11,7 @@ use std::fmt;
 use crate::deep::{deep, Depth};
 use crate::layout::Enough;
 use crate::raw;
-use crate::values::{
-    CountryTag, Entry, Nation, OwnerChange, PlayerHistory, ProvinceId, WarParticipant,
-};
+use crate::values::{CountryTag, Entry, Nation, OwnerChange, ProvinceId, WarParticipant};
 use crate::{Record, Refusal};
 
 /// The nations that lived in a campaign, what befell them, and who holds what at the end.
@@ -58,6 +57,16 @@ impl<'a> Chronicle<'a> {
     }
 
     /// The record that this is the chronicle of.
+    ///
+    /// ```
+    /// use chronicle::{Record, Refusal};
+    ///
+    /// let bytes = std::fs::read("../samples/isles.atl").unwrap();
+    /// let record = Record::open(&bytes)?;
+    /// let chronicle = record.chronicle()?;
+    /// assert_eq!(chronicle.record().bytes(), bytes);
+    /// # Ok::<(), Refusal>(())
+    /// ```
     pub fn record(&self) -> &'a Record<'a> {
         self.record
     }
@@ -96,6 +105,17 @@ impl<'a> Chronicle<'a> {
     }
 
     /// The nation with a number, from 0.
+    ///
+    /// ```
+    /// use chronicle::{Record, Refusal};
+    ///
+    /// let bytes = std::fs::read("../samples/isles.atl").unwrap();
+    /// let record = Record::open(&bytes)?;
+    /// let chronicle = record.chronicle()?;
+    /// assert_eq!(chronicle.nation(0).map(|nation| nation.initial), Some("ARA".parse()?));
+    /// assert_eq!(chronicle.nation(11), None);
+    /// # Ok::<(), Refusal>(())
+    /// ```
     pub fn nation(&self, number: usize) -> Option<Nation> {
         self.nations.as_chunks().0.get(number).map(|row| self.told(number, row))
     }
@@ -128,11 +148,31 @@ impl<'a> Chronicle<'a> {
     }
 
     /// What befell all nations, each one's behind that of the one before.
+    ///
+    /// ```
+    /// use chronicle::{Record, Refusal};
+    ///
+    /// let bytes = std::fs::read("../samples/isles.atl").unwrap();
+    /// let record = Record::open(&bytes)?;
+    /// let chronicle = record.chronicle()?;
+    /// assert_eq!(chronicle.entries().len(), 11);
+    /// # Ok::<(), Refusal>(())
+    /// ```
     pub fn entries(&self) -> impl ExactSizeIterator<Item = Entry> + '_ {
         self.entries.as_chunks().0.iter().map(Entry::written)
     }
 
     /// Every change of a province's owner, as [`Record::owner_changes`] gives them.
+    ///
+    /// ```
+    /// use chronicle::{Record, Refusal};
+    ///
+    /// let bytes = std::fs::read("../samples/isles.atl").unwrap();
+    /// let record = Record::open(&bytes)?;
+    /// let chronicle = record.chronicle()?;
+    /// assert!(chronicle.owner_changes().eq(record.owner_changes()?));
+    /// # Ok::<(), Refusal>(())
+    /// ```
     pub fn owner_changes(&self) -> impl ExactSizeIterator<Item = OwnerChange> + '_ {
         self.changes.as_chunks().0.iter().map(OwnerChange::written)
     }
@@ -193,62 +233,6 @@ impl<'a> Chronicle<'a> {
         let rows =
             deep(Depth::Changes, || self.rows().war_participants(self.record.bytes(), &mut out))?;
         Ok(out.as_chunks().0.iter().take(rows).map(WarParticipant::written).collect())
-    }
-
-    /// The countries that were played, those without a player last.
-    ///
-    /// # Errors
-    ///
-    /// As [`war_participants`](Self::war_participants).
-    ///
-    /// ```
-    /// use chronicle::{Record, Refusal};
-    ///
-    /// let bytes = std::fs::read("../samples/isles.atl").unwrap();
-    /// let record = Record::open(&bytes)?;
-    /// let histories = record.chronicle()?.histories()?;
-    /// let initials: Vec<_> = histories.iter().map(|history| history.initial.as_str()).collect();
-    /// assert_eq!(initials, ["TYR", "NED", "SCO"]);
-    /// assert_eq!(histories[0].player_names[0].text(), Some("Ann"));
-    /// # Ok::<(), Refusal>(())
-    /// ```
-    pub fn histories(&self) -> Result<Vec<PlayerHistory>, Refusal> {
-        let [histories, names] = self.history_words()?;
-        let strings = self.record.strings();
-        let told = |row| PlayerHistory::written(row, &names, &strings);
-        Ok(histories.as_chunks().0.iter().map(told).collect())
-    }
-
-    /// The tag of the country that the campaign was started as, if that can be told.
-    ///
-    /// # Errors
-    ///
-    /// As [`war_participants`](Self::war_participants).
-    ///
-    /// ```
-    /// use chronicle::{Record, Refusal};
-    ///
-    /// let bytes = std::fs::read("../samples/worked.atl").unwrap();
-    /// assert_eq!(Record::open(&bytes)?.chronicle()?.starting_country()?, None);
-    /// # Ok::<(), Refusal>(())
-    /// ```
-    pub fn starting_country(&self) -> Result<Option<CountryTag>, Refusal> {
-        let [histories, _] = self.history_words()?;
-        let mut out = [0];
-        let found = deep(Depth::Rows, || self.rows().starting_country(&histories, &mut out))?;
-        Ok((found > 0).then(|| CountryTag::written(out[0])))
-    }
-
-    /// The words of histories and of their names.
-    fn history_words(&self) -> Result<[Vec<u32>; 2], Refusal> {
-        let Enough { histories, names, .. } = self.record.counts().enough();
-        let [mut histories, mut names] = [histories, names].map(|words| vec![0; words]);
-        let bytes = self.record.bytes();
-        let counts =
-            deep(Depth::Rows, || self.rows().player_histories(bytes, &mut histories, &mut names))?;
-        histories.truncate(7 * counts.histories);
-        names.truncate(counts.names);
-        Ok([histories, names])
     }
 }
 

@@ -111,6 +111,18 @@ impl TagResolverDated<'_> {
     /// # Errors
     ///
     /// As [`Chronicle::resolve`].
+    ///
+    /// ```
+    /// use chronicle::{Record, Refusal};
+    ///
+    /// let bytes = std::fs::read("../samples/isles.atl").unwrap();
+    /// let record = Record::open(&bytes)?;
+    /// let chronicle = record.chronicle()?;
+    /// let at = chronicle.at("1461-01-01".parse()?);
+    /// let found = at.resolve("TYR".parse()?, record.start_date())?;
+    /// assert_eq!(found.map(|found| found.current), Some("ULS".parse()?));
+    /// # Ok::<(), Refusal>(())
+    /// ```
     pub fn resolve(&self, tag: CountryTag, date: Date) -> Result<Option<TagData>, Refusal> {
         let found = self.rows.resolve_at(self.day.word(), tag.word(), date.word())?;
         Ok(found.map(TagData::written))
@@ -121,6 +133,18 @@ impl TagResolverDated<'_> {
     /// # Errors
     ///
     /// As [`Chronicle::resolve`].
+    ///
+    /// ```
+    /// use chronicle::{Record, Refusal};
+    ///
+    /// let bytes = std::fs::read("../samples/isles.atl").unwrap();
+    /// let record = Record::open(&bytes)?;
+    /// let chronicle = record.chronicle()?;
+    /// let found = chronicle.at("1461-01-01".parse()?).initial("TYR".parse()?)?;
+    /// assert_eq!(found.map(|found| found.current), Some("ULS".parse()?));
+    /// assert_eq!(chronicle.at(record.start_date()).initial("TYR".parse()?)?, None);
+    /// # Ok::<(), Refusal>(())
+    /// ```
     pub fn initial(&self, tag: CountryTag) -> Result<Option<TagData>, Refusal> {
         let found = self.rows.initial_at(self.day.word(), tag.word())?;
         Ok(found.map(TagData::written))

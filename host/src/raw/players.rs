@@ -29,9 +29,10 @@ pub fn players(record: &[u8], out: &mut [u32]) -> Result<usize, Refusal> {
 
 /// How many histories and how many names were written.
 #[derive(Clone, Copy, Debug, PartialEq, Eq)]
-#[allow(missing_docs)]
 pub struct HistoryCounts {
+    /// Rows of seven words.
     pub histories: usize,
+    /// Words of the list that they point into.
     pub names: usize,
 }
 

@@ -57,7 +57,7 @@ pub fn province_owners(record: &[u8], out: &mut [u32]) -> Result<usize, Refusal>
 }
 
 /// Writes where the changes of a date begin among a record's changes, and how many they are. Needs
-/// 1 MiB of stack.
+/// 128 KiB of stack.
 ///
 /// # Panics
 ///

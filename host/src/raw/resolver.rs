@@ -15,16 +15,35 @@ pub struct Chronicle<'a> {
 
 /// What a resolver is asked, tag and dates in words: anybody may ask with any.
 #[derive(Clone, Copy, Debug, PartialEq, Eq)]
-#[allow(missing_docs)]
 pub enum Question {
     /// Who went by the tag on the date?
-    Resolve { tag: u32, date: u32 },
+    Resolve {
+        /// The tag,
+        tag: u32,
+        /// and the date.
+        date: u32,
+    },
     /// Who began as the tag?
-    Initial { tag: u32 },
+    Initial {
+        /// The tag.
+        tag: u32,
+    },
     /// As `Resolve`; the answer has the tag worn on the day.
-    ResolveAt { day: u32, tag: u32, date: u32 },
+    ResolveAt {
+        /// The day,
+        day: u32,
+        /// the tag,
+        tag: u32,
+        /// and the date.
+        date: u32,
+    },
     /// As `Initial`; the answer has the tag worn on the day.
-    InitialAt { day: u32, tag: u32 },
+    InitialAt {
+        /// The day,
+        day: u32,
+        /// and the tag.
+        tag: u32,
+    },
 }
 
 /// A tag's word, and the word of the tag it is stored under.
@@ -62,6 +81,14 @@ impl Chronicle<'_> {
     /// # Panics
     ///
     /// As [`Chronicle::resolve`].
+    ///
+    /// ```
+    /// use chronicle::raw::Chronicle;
+    ///
+    /// let (eng, gbr) = (0x45_4e_47, 0x47_42_52);
+    /// let rows = Chronicle { nations: &[eng, gbr, gbr, 0, 1], entries: &[14480601, 0, gbr] };
+    /// assert_eq!(rows.initial(eng), Ok(Some([gbr, gbr])));
+    /// ```
     pub fn initial(self, tag: u32) -> Result<Option<TagData>, Refusal> {
         self.data(Question::Initial { tag })
     }
@@ -71,6 +98,14 @@ impl Chronicle<'_> {
     /// # Panics
     ///
     /// As [`Chronicle::resolve`].
+    ///
+    /// ```
+    /// use chronicle::raw::Chronicle;
+    ///
+    /// let (eng, gbr) = (0x45_4e_47, 0x47_42_52);
+    /// let rows = Chronicle { nations: &[eng, gbr, gbr, 0, 1], entries: &[14480601, 0, gbr] };
+    /// assert_eq!(rows.resolve_at(14480531, eng, 14480531), Ok(Some([eng, gbr])));
+    /// ```
     pub fn resolve_at(self, day: u32, tag: u32, date: u32) -> Result<Option<TagData>, Refusal> {
         self.data(Question::ResolveAt { day, tag, date })
     }
@@ -80,6 +115,14 @@ impl Chronicle<'_> {
     /// # Panics
     ///
     /// As [`Chronicle::resolve`].
+    ///
+    /// ```
+    /// use chronicle::raw::Chronicle;
+    ///
+    /// let (eng, gbr) = (0x45_4e_47, 0x47_42_52);
+    /// let rows = Chronicle { nations: &[eng, gbr, gbr, 0, 1], entries: &[14480601, 0, gbr] };
+    /// assert_eq!(rows.initial_at(14480531, eng), Ok(None));
+    /// ```
     pub fn initial_at(self, day: u32, tag: u32) -> Result<Option<TagData>, Refusal> {
         self.data(Question::InitialAt { day, tag })
     }

@@ -58,21 +58,37 @@ impl Date {
     }
 
     /// Its word in a row: year×10000 + month×100 + day. Words are ordered as days are.
+    ///
+    /// ```
+    /// assert_eq!(chronicle::Date::new(1444, 11, 11).map(|date| date.word()), Some(14441111));
+    /// ```
     pub fn word(self) -> u32 {
         self.0
     }
 
     /// 1 to 9999.
+    ///
+    /// ```
+    /// assert_eq!(chronicle::Date::new(1444, 11, 12).map(|date| date.year()), Some(1444));
+    /// ```
     pub fn year(self) -> u16 {
         (self.0 / 10_000) as u16
     }
 
     /// 1 to 12.
+    ///
+    /// ```
+    /// assert_eq!(chronicle::Date::new(1444, 11, 12).map(|date| date.month()), Some(11));
+    /// ```
     pub fn month(self) -> u8 {
         (self.0 / 100 % 100) as u8
     }
 
     /// 1 to 31.
+    ///
+    /// ```
+    /// assert_eq!(chronicle::Date::new(1444, 11, 12).map(|date| date.day()), Some(12));
+    /// ```
     pub fn day(self) -> u8 {
         (self.0 % 100) as u8
     }

@@ -54,17 +54,29 @@ impl CountryTag {
     }
 
     /// Its word in a row: a×65536 + b×256 + c of its bytes.
+    ///
+    /// ```
+    /// assert_eq!(chronicle::CountryTag::NONE.word(), 2960685);
+    /// ```
     pub fn word(self) -> u32 {
         let [a, b, c] = self.0;
         u32::from_be_bytes([0, a, b, c])
     }
 
     /// Its three bytes.
+    ///
+    /// ```
+    /// assert_eq!(chronicle::CountryTag::NONE.bytes(), *b"---");
+    /// ```
     pub fn bytes(self) -> [u8; 3] {
         self.0
     }
 
     /// Its three letters.
+    ///
+    /// ```
+    /// assert_eq!(chronicle::CountryTag::NONE.as_str(), "---");
+    /// ```
     pub fn as_str(&self) -> &str {
         std::str::from_utf8(&self.0).unwrap_or("???")
     }

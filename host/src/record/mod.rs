@@ -1,28 +1,21 @@
 //! An accepted record, and what is asked of it alone.
 
+mod page;
+
 use std::borrow::Cow;
+use std::fmt;
 use std::ops::Range;
 
 use crate::deep::{deep, Depth};
 use crate::layout::{Counts, COUNTRY, CURRENT_AT, FLAGS_AT, START_AT};
-use crate::refusal::{Lacking, Shortage};
 use crate::values::Name;
 use crate::{raw, Chronicle, CountryTag, Date, OwnerChange, Player, Refusal};
-
-/// A page holds as many bytes of a record, and as many of a selection.
-const PAGE_BYTES: usize = 65_536;
-
-/// A page holds as many owner changes.
-const PAGE_CHANGES: usize = 4_000;
-
-/// A page holds as many entries.
-const PAGE_ENTRIES: usize = 5_000;
 
 /// A packed record that the chronicle accepts.
 ///
 /// Its calls lend what its head says is enough. They can be made from any thread: where its stack is too
 /// small for a call, that runs on another.
-#[derive(Clone, Debug)]
+#[derive(Clone)]
 pub struct Record<'a> {
     bytes: Cow<'a, [u8]>,
     counts: Counts,
@@ -63,6 +56,15 @@ impl<'a> Record<'a> {
     }
 
     /// The bytes, as they were given.
+    ///
+    /// ```
+    /// use chronicle::{Record, Refusal};
+    ///
+    /// let bytes = std::fs::read("../samples/isles.atl").unwrap();
+    /// let record = Record::open(&bytes)?;
+    /// assert_eq!(record.bytes(), bytes);
+    /// # Ok::<(), Refusal>(())
+    /// ```
     pub fn bytes(&self) -> &[u8] {
         &self.bytes
     }
@@ -82,21 +84,57 @@ impl<'a> Record<'a> {
     }
 
     /// The day on which the campaign starts.
+    ///
+    /// ```
+    /// use chronicle::{Record, Refusal};
+    ///
+    /// let bytes = std::fs::read("../samples/isles.atl").unwrap();
+    /// let record = Record::open(&bytes)?;
+    /// assert_eq!(record.start_date(), "1444-11-11".parse()?);
+    /// # Ok::<(), Refusal>(())
+    /// ```
     pub fn start_date(&self) -> Date {
         self.start
     }
 
     /// The day to which it has come.
+    ///
+    /// ```
+    /// use chronicle::{Record, Refusal};
+    ///
+    /// let bytes = std::fs::read("../samples/isles.atl").unwrap();
+    /// let record = Record::open(&bytes)?;
+    /// assert_eq!(record.current_date(), "1550-01-01".parse()?);
+    /// # Ok::<(), Refusal>(())
+    /// ```
     pub fn current_date(&self) -> Date {
         self.current
     }
 
     /// Whether the campaign is an ironman's.
+    ///
+    /// ```
+    /// use chronicle::{Record, Refusal};
+    ///
+    /// let bytes = std::fs::read("../samples/isles.atl").unwrap();
+    /// let record = Record::open(&bytes)?;
+    /// assert!(!record.is_ironman());
+    /// # Ok::<(), Refusal>(())
+    /// ```
     pub fn is_ironman(&self) -> bool {
         self.flag(0)
     }
 
     /// Whether the campaign is played by several.
+    ///
+    /// ```
+    /// use chronicle::{Record, Refusal};
+    ///
+    /// let bytes = std::fs::read("../samples/isles.atl").unwrap();
+    /// let record = Record::open(&bytes)?;
+    /// assert!(!record.is_multiplayer());
+    /// # Ok::<(), Refusal>(())
+    /// ```
     pub fn is_multiplayer(&self) -> bool {
         self.flag(1)
     }
@@ -168,7 +206,7 @@ impl<'a> Record<'a> {
     /// ```
     pub fn events_on(&self, date: Date) -> Result<Range<usize>, Refusal> {
         let mut out = [0; 2];
-        deep(Depth::Changes, || raw::events_on(&self.bytes, date.word(), &mut out))?;
+        deep(Depth::Check, || raw::events_on(&self.bytes, date.word(), &mut out))?;
         let [first, count] = out.map(|word| word as usize);
         Ok(first..first + count)
     }
@@ -209,7 +247,7 @@ impl<'a> Record<'a> {
     /// ```
     pub fn players(&self) -> Result<Vec<Player>, Refusal> {
         let mut out = vec![0; self.counts.enough().players];
-        let rows = deep(Depth::Rows, || raw::players(&self.bytes, &mut out))?;
+        let rows = deep(Depth::Check, || raw::players(&self.bytes, &mut out))?;
         let strings = self.strings();
         let player = |&[name, tag]: &[u32; 2]| Player {
             name: Name::numbered(&strings, name),
@@ -229,54 +267,16 @@ impl<'a> Record<'a> {
         }
         strings
     }
+}
 
-    /// The page: how many tags are selected, then a line for each. No tag gives `selected 0` alone, and
-    /// never all nations.
-    ///
-    /// # Errors
-    ///
-    /// [`Refusal::NoRoom`] for more than a page holds, 65,536 bytes of record, 16,384 tags, 4,000 owner
-    /// changes or 5,000 entries; it says which.
-    ///
-    /// ```
-    /// use chronicle::{Record, Refusal};
-    ///
-    /// let bytes = std::fs::read("../samples/worked.atl").unwrap();
-    /// let record = Record::open(&bytes)?;
-    /// let page = record.page(&["GBR".parse()?, "SCO".parse()?])?;
-    /// assert_eq!(page, "selected 2\nGBR ENG GBR 3 living\nSCO absent\n");
-    /// assert_eq!(record.page(&[])?, "selected 0\n");
-    /// # Ok::<(), Refusal>(())
-    /// ```
-    pub fn page(&self, selection: &[CountryTag]) -> Result<String, Refusal> {
-        let line = |tag: &CountryTag| tag.bytes().into_iter().chain([b'\n']);
-        let selection: Vec<u8> = selection.iter().flat_map(line).collect();
-        let mut out = vec![0; raw::page_room(selection.len())];
-        let written = deep(Depth::Page, || raw::write_page(&self.bytes, &selection, &mut out));
-        match written {
-            Ok(bytes) => {
-                out.truncate(bytes);
-                Ok(String::from_utf8_lossy(&out).into_owned())
-            }
-            Err(Refusal::NoRoom(None)) => Err(self.page_shortage(selection.len())),
-            Err(refusal) => Err(refusal),
-        }
-    }
-
-    /// What a page of this record does not hold.
-    fn page_shortage(&self, selection: usize) -> Refusal {
-        let chronicle = match self.chronicle() {
-            Ok(chronicle) => chronicle,
-            Err(refusal) => return refusal,
-        };
-        let [changes, entries] = [chronicle.owner_changes().len(), chronicle.entries().len()];
-        let parts = [
-            (Lacking::PageRecord, PAGE_BYTES, self.bytes.len()),
-            (Lacking::PageSelection, PAGE_BYTES, selection),
-            (Lacking::PageChanges, PAGE_CHANGES, changes),
-            (Lacking::PageEntries, PAGE_ENTRIES, entries),
-        ];
-        let short = parts.into_iter().find(|(_, room, needed)| needed > room);
-        Refusal::NoRoom(short.map(|(lacking, room, needed)| Shortage { lacking, room, needed }))
+/// Without the bytes, which are many.
+impl fmt::Debug for Record<'_> {
+    fn fmt(&self, f: &mut fmt::Formatter<'_>) -> fmt::Result {
+        f.debug_struct("Record")
+            .field("bytes", &self.bytes.len())
+            .field("start", &self.start)
+            .field("current", &self.current)
+            .field("counts", &self.counts)
+            .finish()
     }
 }
