@@ -50,18 +50,27 @@ impl Record<'_> {
 
     /// What a page of this record does not hold.
     fn page_shortage(&self, selection: usize) -> Refusal {
+        let bytes = [
+            (Lacking::PageRecord, PAGE_BYTES, self.bytes.len()),
+            (Lacking::PageSelection, PAGE_BYTES, selection),
+        ];
+        if let Some(shortage) = first_short(bytes) {
+            return Refusal::NoRoom(Some(shortage));
+        }
         let chronicle = match self.chronicle() {
             Ok(chronicle) => chronicle,
             Err(refusal) => return refusal,
         };
-        let [changes, entries] = [chronicle.owner_changes().len(), chronicle.entries().len()];
-        let parts = [
-            (Lacking::PageRecord, PAGE_BYTES, self.bytes.len()),
-            (Lacking::PageSelection, PAGE_BYTES, selection),
-            (Lacking::PageChanges, PAGE_CHANGES, changes),
-            (Lacking::PageEntries, PAGE_ENTRIES, entries),
+        let rows = [
+            (Lacking::PageChanges, PAGE_CHANGES, chronicle.owner_changes().len()),
+            (Lacking::PageEntries, PAGE_ENTRIES, chronicle.entries().len()),
         ];
-        let short = parts.into_iter().find(|(_, room, needed)| needed > room);
-        Refusal::NoRoom(short.map(|(lacking, room, needed)| Shortage { lacking, room, needed }))
+        Refusal::NoRoom(first_short(rows))
     }
+}
+
+/// The first part that needs more than its room.
+fn first_short(parts: [(Lacking, usize, usize); 2]) -> Option<Shortage> {
+    let short = parts.into_iter().find(|(_, room, needed)| needed > room);
+    short.map(|(lacking, room, needed)| Shortage { lacking, room, needed })
 }

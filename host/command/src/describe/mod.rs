@@ -75,7 +75,7 @@ fn describe_head(head: &[u8; HEAD], out: &mut Output<'_>) -> Result<(), Failure>
         object
     })?;
     for ((letter, count), counted) in counts.into_iter().zip(COUNTED) {
-        out.remark(format_args!("  {letter} = {count} {counted}"))?;
+        out.remark(format_args!("  {letter}, {counted}: {count}"))?;
     }
     Ok(())
 }

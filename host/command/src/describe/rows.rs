@@ -93,7 +93,7 @@ fn country(row: &[u8]) -> Told {
     let [previous, switches] = [8, 10].map(|at| short(row, at));
     let owns = format!("{}, {}", plural(previous, "previous tag"), plural(switches, "switch"));
     (
-        format!("{tag}{flags}, {cities} cities, {owns}"),
+        format!("{tag}{flags}, cities: {cities}, {owns}"),
         vec![
             ("tag", quoted(&tag)),
             ("human", human.to_string()),

@@ -125,14 +125,14 @@ fn describe() {
         ": 103 bytes, accepted\n",
         "head: version 1, no flags, from 1444-11-11 to 1450-01-01\n",
         "country: 2 rows, 24 bytes at offset 44\n",
-        "      0  at 44       GBR, 0 cities, 0 previous tags, 1 switch\n",
+        "      0  at 44       GBR, cities: 0, 0 previous tags, 1 switch\n",
         "      0  at 68       1448-06-01 from ENG\n",
         "      1  at 96       1447-01-01 to ENG\n",
     ] {
         assert!(worked.contains(part), "{part}{worked}");
     }
     let isles = told(about("isles.atl", "describe", &[]));
-    for part in ["1453-07-17 ENG is in a battle\n", "1470: -3\n", "\"Ann\"\n", "ARA, 0 cities"] {
+    for part in ["1453-07-17 ENG is in a battle\n", "1470: -3\n", "\"Ann\"\n", "ARA, cities: 0"] {
         assert!(isles.contains(part), "{part}{isles}");
     }
 }

@@ -107,13 +107,13 @@ fn in_strings(record: &[u8], counts: &Counts) -> Option<Offence> {
         };
         let left = record.len() - at - 1;
         if left < usize::from(length) {
-            let told = format!("it has {length} bytes, and {left} are left");
+            let told = format!("it has {length} bytes, of which the record holds {left}");
             return found(Refusal::SizesDisagree, at, &row, told);
         }
         at += 1 + usize::from(length);
     }
     let left = record.len() - at;
-    let told = format!("{left} bytes are left over");
+    let told = format!("bytes left over: {left}");
     (left > 0).then(|| found(Refusal::SizesDisagree, at, "what follows the strings", told))?
 }
 
