@@ -48,8 +48,9 @@ impl Axis {
 
 #[cfg(test)]
 mod tests {
-    use super::Axis;
     use chronicle::Date;
+
+    use super::Axis;
 
     fn axis(start: u32, end: u32) -> Axis {
         let [start, end] = [start, end].map(|word| Date::from_word(word).expect("a day"));

@@ -112,13 +112,14 @@ impl Life {
 
 #[cfg(test)]
 mod tests {
-    use super::{of, spans, Span};
     use chronicle::{Date, Entry, EntryKind, Record};
     use chronicle_trial::adversary::{self, days_of};
     use chronicle_trial::demand::Holding;
     use chronicle_trial::generate::Random;
     use chronicle_trial::model::changes;
     use chronicle_trial::pack::pack;
+
+    use super::{of, spans, Span};
 
     fn day(word: u32) -> Date {
         Date::from_word(word).expect("a day")

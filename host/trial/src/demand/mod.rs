@@ -15,10 +15,11 @@ pub use holding::Holding;
 pub use met::{Met, Premise, PREMISES};
 pub use written::Written;
 
-use crate::generate::Random;
-use crate::pack::{Campaign, Date};
 use chronicle::raw::Chronicle;
 use chronicle::Refusal;
+
+use crate::generate::Random;
+use crate::pack::{Campaign, Date};
 use finished::Finished;
 
 /// The resolver set to a day, asked on that day for a tag's word.

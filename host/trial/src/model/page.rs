@@ -1,11 +1,12 @@
 //! 01, "Page".
 
+use chronicle::Refusal;
+
 use super::{chronicle, Chronicle};
 use crate::pack::Tag;
 use crate::reference::check_tag;
 use crate::rows::{Kind, Nation};
 use crate::unpack::unpack;
-use chronicle::Refusal;
 
 /// The most bytes that a page's record may have, and that its selection may have.
 pub const MOST_BYTES: usize = 65_536;

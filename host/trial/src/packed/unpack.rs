@@ -1,11 +1,12 @@
 //! The way back from a packed record to the campaign.
 
+use chronicle::layout::{self, Counts};
+use chronicle::Refusal;
+
 use crate::pack::{
     Campaign, Country, Date, LedgerName, OwnerEvent, Point, Province, Switch, Tag, War, WarEvent,
 };
 use crate::reference::inspect;
-use chronicle::layout::{self, Counts};
-use chronicle::Refusal;
 
 /// The campaign that packs to this record.
 ///

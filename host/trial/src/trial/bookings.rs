@@ -1,10 +1,11 @@
 //! `war_participants`.
 
+use chronicle::raw::Chronicle;
+use chronicle::Refusal;
+
 use super::same;
 use crate::guard::Lent;
 use crate::rows::{booking_words, entry_words, nation_words, Booking, Nation};
-use chronicle::raw::Chronicle;
-use chronicle::Refusal;
 
 /// Room longer than the answer, exactly as long, one cell short, and none; and ill-shaped words,
 /// whatever the room.

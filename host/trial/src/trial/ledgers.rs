@@ -1,10 +1,11 @@
 //! `nation_ledger`, `nation_ledger_rows` and `nation_ledgers`.
 
+use chronicle::raw::Chronicle;
+use chronicle::Refusal;
+
 use super::same;
 use crate::guard::Lent;
 use crate::rows::{entry_words, ledger_words, nation_words, LedgerRow, Nation};
-use chronicle::raw::Chronicle;
-use chronicle::Refusal;
 
 /// The ledgers of these nations each by itself, of all together, and of nations that are not in
 /// the list; and with ill-shaped words, whatever is asked for.

@@ -18,11 +18,12 @@ pub use players::recalled;
 pub use players::{begun, played};
 pub use resolver::{asked, asked_each};
 
+use chronicle::raw::check;
+use chronicle::Refusal;
+
 use crate::model::Chronicle;
 use crate::pack::{Date, Tag};
 use crate::rows::{Booking, History, LedgerRow, Nation, Player, Question, Resolved, Run};
-use chronicle::raw::check;
-use chronicle::Refusal;
 
 /// The functions that are called.
 pub const TRIED: &[&str] = &[

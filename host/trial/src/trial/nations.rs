@@ -1,11 +1,12 @@
 //! `nation_events`.
 
+use chronicle::raw::{nation_events, Room};
+use chronicle::Refusal;
+
 use super::same;
 use crate::guard::Lent;
 use crate::model::Chronicle;
 use crate::rows::{change_words, entry_words, nation_words, tag_word};
-use chronicle::raw::{nation_events, Room};
-use chronicle::Refusal;
 
 /// What is written into each of the six slices.
 type Words = [Vec<u32>; 6];

@@ -1,11 +1,12 @@
 //! `province_owners` and `events_on`.
 
+use chronicle::raw::{events_on, province_owners};
+use chronicle::Refusal;
+
 use super::same;
 use crate::guard::Lent;
 use crate::pack::Date;
 use crate::rows::{change_words, Change, Run};
-use chronicle::raw::{events_on, province_owners};
-use chronicle::Refusal;
 
 /// No calendar has these: 0, the last day of February in a leap year, month 13, year 10000.
 const NO_DATES: [Date; 4] = [0, 14440229, 14441301, 100000101];

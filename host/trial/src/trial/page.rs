@@ -1,10 +1,11 @@
 //! `page`.
 
+use chronicle::raw::write_page;
+use chronicle::Refusal;
+
 use super::same;
 use crate::guard::Lent;
 use crate::told::page;
-use chronicle::raw::write_page;
-use chronicle::Refusal;
 
 /// Room longer than the page, exactly as long, one byte short, and none; and the wrapper's own room.
 pub fn answered(

@@ -1,13 +1,14 @@
 //! `players`, `player_histories` and `starting_country`.
 
+use chronicle::raw::Chronicle;
+use chronicle::raw::HistoryCounts;
+use chronicle::Refusal;
+
 use super::{same, torn};
 use crate::guard::Lent;
 use crate::pack::Tag;
 use crate::rows::{entry_words, nation_words, player_words, tag_word, Nation, Player};
 use crate::rows::{history_words, name_words, History};
-use chronicle::raw::Chronicle;
-use chronicle::raw::HistoryCounts;
-use chronicle::Refusal;
 
 /// Room longer than the answer, exactly as long, one cell short, and none.
 pub fn accepted(record: &[u8], players: &[Player]) -> Result<(), String> {

@@ -1,10 +1,11 @@
 //! The resolver, by four calls for a question and one for many.
 
+use chronicle::raw::Chronicle;
+use chronicle::Refusal;
+
 use super::same;
 use crate::guard::Lent;
 use crate::rows::{entry_words, nation_words, Nation, Question, Resolved};
-use chronicle::raw::Chronicle;
-use chronicle::Refusal;
 
 pub fn answered(nations: &[Nation], asked: &[(Question, Option<Resolved>)]) -> Result<(), String> {
     let [nations, entries] = [nation_words(nations), entry_words(nations)];

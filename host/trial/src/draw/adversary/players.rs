@@ -1,12 +1,13 @@
 //! Players that are hard to agree about: of countries that nobody was said to play, under texts that
 //! are nearly tags, and of countries that were released and played, or nearly.
 
+use chronicle::layout::LIMITS;
+
 use super::ledgers;
 use crate::generate::{repeat, Random};
 use crate::pack::{
     Campaign, Country, Tag, HAS_SWITCHED_NATION, HUMAN, IRONMAN, MULTIPLAYER, WAS_PLAYER,
 };
-use chronicle::layout::LIMITS;
 
 /// Some are nearly `Player`, and one is not UTF-8.
 const NAMES: [&[u8]; 7] =

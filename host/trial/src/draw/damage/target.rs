@@ -1,8 +1,9 @@
 //! A record with the damage that can be done to it.
 
-use crate::generate::Random;
 use chronicle::layout::Counts;
 use chronicle::Refusal;
+
+use crate::generate::Random;
 
 use super::Damage;
 

@@ -1,9 +1,10 @@
 //! The opening, the counts and sums, strings, and the limits of counts.
 
+use chronicle::layout::{Counts, HEAD_COUNTS};
+
 use crate::generate::{counts_of, sized};
 use crate::pack::{pack, Campaign};
 use crate::sample;
-use chronicle::layout::{Counts, HEAD_COUNTS};
 
 use super::{changed, written, Edges};
 

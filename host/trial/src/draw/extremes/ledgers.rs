@@ -1,10 +1,11 @@
 //! Ledgers at the limits.
 
+use chronicle::layout::LIMITS;
+
 use crate::adversary::ledgers::{worn, years};
 use crate::generate::{repeat, shuffle, Random};
 use crate::pack::{Campaign, LedgerName, Point};
 use crate::rows::{Entry, Kind, Nation};
-use chronicle::layout::LIMITS;
 
 /// Points of each name.
 const EACH: usize = LIMITS.points / LIMITS.ledger_names;

@@ -6,10 +6,11 @@ mod tags;
 
 pub use ledgers::{in_ledgers, overlong, yearly, OVERLONG_WORDS};
 
+use chronicle::layout::LIMITS;
+
 use crate::generate::{at_limits, counts_of, sized, Random};
 use crate::pack::{Campaign, Date, OwnerEvent, Switch, Tag, NONE};
 use crate::wars;
-use chronicle::layout::LIMITS;
 use tags::own_tags;
 
 /// The day everything happens on, where it is one day; it lies after every start drawn here.
@@ -255,10 +256,11 @@ fn redraw(campaign: &mut Campaign, tags: &[Tag], dates: &[Date]) {
 
 #[cfg(test)]
 mod tests {
+    use chronicle::layout::Counts;
+
     use super::*;
     use crate::pack::pack;
     use crate::reference::refusal_number;
-    use chronicle::layout::Counts;
 
     #[test]
     fn all_are_accepted_and_at_the_limits() {

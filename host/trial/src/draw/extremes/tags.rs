@@ -2,10 +2,11 @@
 
 use std::collections::BTreeSet;
 
+use chronicle::layout::LIMITS;
+
 use super::at_war;
 use crate::generate::{sized, Random, TAG_BYTES};
 use crate::pack::{Campaign, Tag, NONE};
-use chronicle::layout::LIMITS;
 
 /// No two countries ever have the same tag, so that whoever wears one wears it alone.
 pub fn own_tags() -> Campaign {

@@ -8,12 +8,13 @@ mod random;
 
 use std::collections::BTreeSet;
 
+use chronicle::layout::{Counts, LIMITS};
+
 use crate::calendar::DAYS;
 use crate::pack::{
     Campaign, Country, Date, LedgerName, OwnerEvent, Point, Province, Switch, Tag, War, WarEvent,
     NONE,
 };
-use chronicle::layout::{Counts, LIMITS};
 
 pub use counts::counts_of;
 pub use knobs::Knobs;
