@@ -32,8 +32,16 @@ pub const COMMANDS: [Command; 14] = [
     Command {
         name: "describe",
         about: "prints head and rows of the record; of a refused one also where it offends",
-        keys: "section, row, offset and the fields of the row; of a refused record one object more, with\n  \
-               refused, words, advice, offset, row, found",
+        keys: "section, row, offset, and by section\n  \
+               head: version, ironman, multiplayer, start, current, countries, provinces,\n    \
+               previous_tags, switches, owner_events, strings, wars, war_events, ledger_names,\n    \
+               ledger_points\n  \
+               country: tag, human, was_player, has_switched_nation, num_of_cities,\n    \
+               previous_tags, switches\n  \
+               previous tag: tag; switch: date, from; province: id, owner, events\n  \
+               owner event: date, tag; war: events; war event: date, kind, tag\n  \
+               ledger name: tag, points; ledger point: year, value; string: text\n  \
+               and of a refused record at last refused, words, advice, offset, row, found",
         ..PLAIN
     },
     Command {

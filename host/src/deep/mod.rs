@@ -8,15 +8,15 @@ use std::thread;
 use crate::refusal::{Lacking, Shortage};
 use crate::Refusal;
 
-/// Bytes of stack that a call must find left: what a thread was measured to need for it, the same for
-/// every record, and a good deal more.
+/// Bytes of stack that a call must find left: more than include/chronicle.h names for it, and than a
+/// thread was measured to need, which is the same for every record.
 #[derive(Clone, Copy, Debug)]
 pub(crate) enum Depth {
-    /// `check`, `events_on` and `players`, for which 68 KiB were enough.
+    /// `check`, for which 68 KiB were enough.
     Check = 192 << 10,
-    /// Ledgers, of 100 KiB, and histories, of 160.
-    Rows = 512 << 10,
-    /// Owner changes, of 1,004 KiB, bookings, of 676, and many questions, of 616.
+    /// Players, of 68 KiB, ledgers, of 100, and histories, of 160.
+    Rows = 576 << 10,
+    /// Owner changes, of 1,004 KiB, those of a day, bookings, of 676, and many questions, of 616.
     Changes = 1_152 << 10,
     /// The chronicle, of 1,512 KiB.
     Nations = 1_664 << 10,

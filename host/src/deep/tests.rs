@@ -70,8 +70,8 @@ fn each_depth_is_enough() {
         entries: &[14660101, 2, 0],
     };
     has_enough(Depth::Check, || raw::check(&record()));
-    has_enough(Depth::Check, || raw::events_on(&record(), 14441111, &mut [0; 2]));
-    has_enough(Depth::Check, || raw::players(&record(), &mut [0; 9]).map(drop));
+    has_enough(Depth::Changes, || raw::events_on(&record(), 14441111, &mut [0; 2]));
+    has_enough(Depth::Rows, || raw::players(&record(), &mut [0; 9]).map(drop));
     has_enough(Depth::Changes, || raw::province_owners(&record(), &mut [0; 99]).map(drop));
     has_enough(Depth::Changes, || ROWS.war_participants(&record(), &mut [0; 99]).map(drop));
     has_enough(Depth::Changes, || {

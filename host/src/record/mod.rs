@@ -206,7 +206,7 @@ impl<'a> Record<'a> {
     /// ```
     pub fn events_on(&self, date: Date) -> Result<Range<usize>, Refusal> {
         let mut out = [0; 2];
-        deep(Depth::Check, || raw::events_on(&self.bytes, date.word(), &mut out))?;
+        deep(Depth::Changes, || raw::events_on(&self.bytes, date.word(), &mut out))?;
         let [first, count] = out.map(|word| word as usize);
         Ok(first..first + count)
     }
@@ -247,7 +247,7 @@ impl<'a> Record<'a> {
     /// ```
     pub fn players(&self) -> Result<Vec<Player>, Refusal> {
         let mut out = vec![0; self.counts.enough().players];
-        let rows = deep(Depth::Check, || raw::players(&self.bytes, &mut out))?;
+        let rows = deep(Depth::Rows, || raw::players(&self.bytes, &mut out))?;
         let strings = self.strings();
         let player = |&[name, tag]: &[u32; 2]| Player {
             name: Name::numbered(&strings, name),

@@ -1,6 +1,9 @@
 //! Each command's objects for programs.
 
-use super::{about, told};
+use chronicle_trial::pack::pack;
+use chronicle_trial::sample::isles;
+
+use super::{about, run, told, written};
 
 /// The lines that a command about a sample prints for programs.
 fn lines(sample: &str, command: &str, rest: &[&str]) -> Vec<String> {
@@ -62,6 +65,56 @@ fn of_a_description() {
     assert_eq!((lines.len(), lines[0].as_str()), (8, head));
     let switch = r#"{"section":"switch","row":0,"offset":68,"date":"1448-06-01","from":"ENG"}"#;
     assert_eq!(lines[3], switch);
+}
+
+/// Every key that a command prints is named by its help.
+#[test]
+fn keys_are_documented() {
+    let asked: [(&str, &[&str]); 14] = [
+        ("check", &[]),
+        ("describe", &[]),
+        ("owners", &[]),
+        ("on", &["1450-06-01"]),
+        ("nations", &[]),
+        ("resolve", &["TYR", "1444-11-11"]),
+        ("initial", &["TYR"]),
+        ("wars", &[]),
+        ("ledger", &["IRE"]),
+        ("players", &[]),
+        ("histories", &[]),
+        ("start", &[]),
+        ("page", &["IRE", "TYR"]),
+        ("ledger", &["XXX"]),
+    ];
+    for (command, rest) in asked {
+        let help = told(run(&[command, "--help"]));
+        let ran = about("isles.atl", command, &[rest, &["--json"]].concat());
+        for line in ran.out.lines() {
+            for part in line.split(['{', ',']).filter(|part| part.contains("\":")) {
+                let key = part.trim_start_matches('"').split('"').next().unwrap_or_default();
+                assert!(help.contains(key), "{command}: {key} in {line}");
+            }
+        }
+    }
+}
+
+/// Names may be any bytes.
+#[test]
+fn of_names_that_are_no_text() {
+    let mut campaign = isles();
+    campaign.strings[0] = b"A\"\xff\n".to_vec();
+    let file = written("names.atl", &pack(&campaign));
+    let first = |rest: &[&str]| {
+        let arguments = [&["players", file.text()], rest].concat();
+        told(run(&arguments)).lines().next().unwrap_or_default().to_string()
+    };
+    let object = concat!(
+        r#"{"name":"A\""#,
+        "\u{fffd}",
+        r#"\n","tag":"IRE","string":0,"name_bytes":"4122ff0a"}"#
+    );
+    assert_eq!(first(&["--json"]), object);
+    assert_eq!(first(&[]), "A\"\u{fffd}\u{fffd} plays IRE");
 }
 
 /// Where there is nothing to tell, there is no object.
