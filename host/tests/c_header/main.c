@@ -1,0 +1,39 @@
+/* Every function of chronicle.h on the two samples: `cases WORKED ISLES`. Says what differs, and ends with 1 if anything does. */
+#include "expect.h"
+
+#include <stdio.h>
+#include <string.h>
+
+/* The page of 01's worked record, and the numbers of one that does not fit and of a selection that is none. */
+static void printed(const struct record *worked) {
+    static const char SELECTION[] = "GBR\nFRA\n";
+    static const char PAGE[] = "selected 2\nGBR ENG GBR 3 living\nFRA FRA FRA 0 living\n.";
+    const size_t length = sizeof PAGE - 2;
+    const uint8_t *selection = (const uint8_t *)SELECTION;
+    uint8_t out[sizeof PAGE - 1];
+    memset(out, '.', sizeof out);
+    equal("page without room", page(worked->bytes, worked->length, selection, 8, out, length - 1), -CHRONICLE_REFUSED_NO_ROOM);
+    equal("page of half a tag", page(worked->bytes, worked->length, selection, 7, out, length), -CHRONICLE_REFUSED_BAD_QUESTION);
+    equal("first byte after a refusal", out[0], '.');
+    equal("page", page(worked->bytes, worked->length, selection, 8, out, sizeof out), (int64_t)length);
+    equal("its text", memcmp(out, PAGE, sizeof out), 0);
+}
+
+int main(int argc, char **argv) {
+    struct record worked, sample;
+    if (argc != 3) {
+        printf("usage: cases WORKED ISLES\n");
+        return 2;
+    }
+    read_record(argv[1], &worked);
+    read_record(argv[2], &sample);
+    refusals(&worked);
+    owners(&worked);
+    nations_of(&worked);
+    resolver(&worked);
+    ledgers(&worked);
+    printed(&worked);
+    isles(&sample);
+    printf("%d differences\n", differences());
+    return differences() == 0 ? 0 : 1;
+}
