@@ -3,6 +3,7 @@
 //! Every campaign made here is one whose record 01 accepts.
 
 mod counts;
+mod game;
 mod knobs;
 mod random;
 
@@ -16,9 +17,7 @@ use crate::pack::{
     NONE,
 };
 
-pub use counts::counts_of;
-pub use knobs::Knobs;
-pub use random::Random;
+pub use {counts::counts_of, game::game, knobs::Knobs, random::Random};
 
 /// The bytes a tag may have.
 pub const TAG_BYTES: &[u8; 63] = b"-0123456789ABCDEFGHIJKLMNOPQRSTUVWXYZabcdefghijklmnopqrstuvwxyz";

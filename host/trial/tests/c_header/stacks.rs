@@ -4,9 +4,9 @@ use std::fs;
 use std::path::PathBuf;
 use std::process::Command;
 
-use chronicle_host::adversary::players;
-use chronicle_host::extremes::{self, pages::whole_page};
-use chronicle_host::pack::pack;
+use chronicle_trial::adversary::players;
+use chronicle_trial::extremes::{self, pages::whole_page};
+use chronicle_trial::pack::pack;
 
 use crate::compilers::{built, c99, run};
 

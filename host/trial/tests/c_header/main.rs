@@ -12,15 +12,15 @@ use std::process::Command;
 
 use compilers::{c99, cpp, run, told, Compiler};
 
-const HEADER: &str = include_str!("../../../include/chronicle.h");
+const HEADER: &str = include_str!("../../../../include/chronicle.h");
 
 /// The sources of the program that runs the cases.
 const CASES: [&str; 5] = ["main.c", "expect.c", "record.c", "lent.c", "isles.c"];
 
 /// The two samples, as the program takes them.
 const SAMPLES: [&str; 2] = [
-    concat!(env!("CARGO_MANIFEST_DIR"), "/../samples/worked.atl"),
-    concat!(env!("CARGO_MANIFEST_DIR"), "/../samples/isles.atl"),
+    concat!(env!("CARGO_MANIFEST_DIR"), "/../../samples/worked.atl"),
+    concat!(env!("CARGO_MANIFEST_DIR"), "/../../samples/isles.atl"),
 ];
 
 /// The functions that the header declares.

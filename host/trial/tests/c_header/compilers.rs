@@ -70,7 +70,7 @@ impl Compiler {
 
     fn compile(&self, sources: &[&str]) -> Command {
         let mut command = Command::new(&self.command);
-        command.args(self.language).args(WARNINGS).arg("-I").arg(at("../include"));
+        command.args(self.language).args(WARNINGS).arg("-I").arg(at("../../include"));
         command.args(sources.iter().map(|source| at("tests/c_header").join(source)));
         command
     }
@@ -87,7 +87,7 @@ pub fn built(name: &str) -> PathBuf {
 
 /// The folder of libpage.a, as the package's build finds it.
 fn library() -> PathBuf {
-    env::var_os("CHRONICLE_LIB_DIR").map_or_else(|| at("../target/staticlib"), PathBuf::from)
+    env::var_os("CHRONICLE_LIB_DIR").map_or_else(|| at("../../target/staticlib"), PathBuf::from)
 }
 
 /// The archive with the functions.
