@@ -62,11 +62,11 @@ fn tag(number: usize) -> Tag {
 }
 
 fn country(random: &mut Random, row: usize) -> Country {
-    let switched = row % SWITCHED == 0;
+    let switched = row.is_multiple_of(SWITCHED);
     let from = tag(ROWS.countries + row);
     Country {
         tag: tag(row),
-        flags: if row % PLAYED == 0 { WAS_PLAYER | HUMAN } else { 0 },
+        flags: if row.is_multiple_of(PLAYED) { WAS_PLAYER | HUMAN } else { 0 },
         num_of_cities: random.below(40) as i32,
         previous_tags: if switched { vec![from] } else { vec![] },
         switches: if switched { vec![Switch { date: date(random), from }] } else { vec![] },
@@ -92,7 +92,7 @@ fn worn(country: &Country, date: Date) -> Tag {
 
 fn province(random: &mut Random, countries: &[Country], id: usize) -> Province {
     let each = ROWS.owner_events / (ROWS.provinces * 3 / 4);
-    let mut dates = if id % 4 == 0 { vec![] } else { repeat(each, || date(random)) };
+    let mut dates = if id.is_multiple_of(4) { vec![] } else { repeat(each, || date(random)) };
     dates.sort_unstable();
     let owner = worn(draw(random, countries), START);
     let events =

@@ -1,0 +1,63 @@
+//! Times every call beside the Rust, in one process and by turns, on four records, and prints the table
+//! that docs/BENCHMARKS.md keeps.
+//!
+//! `bench_calls [ROUNDS]`: the best of so many rounds (default 21; a slow pair takes fewer), the thread's own
+//! time. What is lent is lent again in each round; what the Rust answers is freed outside its time, and the
+//! memory kept for the next.
+
+use std::process::ExitCode;
+
+#[cfg(not(found))]
+fn main() -> ExitCode {
+    chronicle_oracle::not_found()
+}
+
+#[cfg(found)]
+mod calls;
+#[cfg(found)]
+mod given;
+#[cfg(found)]
+mod race;
+#[cfg(found)]
+mod records;
+
+#[cfg(found)]
+fn main() -> ExitCode {
+    let texts: Vec<String> = std::env::args().skip(1).collect();
+    let rounds = texts.first().map_or(Ok(21), |text| text.parse());
+    let (Ok(rounds), true) = (rounds, texts.len() <= 1) else {
+        eprintln!("usage: bench_calls [ROUNDS]");
+        return ExitCode::from(2);
+    };
+    race::keep_what_is_freed();
+    print::all(rounds);
+    ExitCode::SUCCESS
+}
+
+#[cfg(found)]
+mod print {
+    use crate::calls::{CALLS, LEGEND};
+    use crate::given::Given;
+    use crate::race::Best;
+    use crate::records::RECORDS;
+
+    /// A row of the table for each call, and a line for each record that says what it is.
+    pub fn all(rounds: usize) {
+        let mut cells = vec![Vec::new(); CALLS.len()];
+        for record in &RECORDS {
+            let given = Given::of(record);
+            println!("- {}: {}", record.name, given.told());
+            for ((name, call), cells) in CALLS.iter().zip(&mut cells) {
+                eprintln!("{}: {name}", record.name);
+                cells.push(call(&given, rounds).as_ref().map_or("".to_string(), Best::told));
+            }
+        }
+        println!("\nMicroseconds, the Rust / ours, and their ratio; best of {rounds} rounds.\n");
+        let names: Vec<&str> = RECORDS.iter().map(|record| record.name).collect();
+        println!("| call | {} |\n|---|{}", names.join(" | "), "---|".repeat(names.len()));
+        for ((name, _), cells) in CALLS.iter().zip(cells) {
+            println!("| `{name}` | {} |", cells.join(" | "));
+        }
+        println!("\n{LEGEND}");
+    }
+}
