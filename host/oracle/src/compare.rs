@@ -41,12 +41,33 @@ const MOST_PAIRS: usize = 3_000;
 /// assert_eq!(compare(&sample::worked(), 1, usize::MAX, &mut seen), Ok(()));
 /// ```
 pub fn compare(campaign: &Campaign, seed: u64, most: usize, seen: &mut Seen) -> Result<(), String> {
+    compare_with(Rust::of(campaign), campaign, seed, most, seen)
+}
+
+/// As [`compare`], with the Rust that the campaign is loaded into.
+///
+/// ```
+/// use chronicle_oracle::rust::{Falsified, Rust};
+/// use chronicle_oracle::{compare::compare_with, seen::Seen};
+/// use chronicle_trial::sample;
+///
+/// let campaign = sample::worked();
+/// let rust = Rust::with(&campaign, Some(Falsified::Changes));
+/// let difference = compare_with(rust, &campaign, 1, usize::MAX, &mut Seen::default());
+/// assert!(difference.unwrap_err().starts_with("changes, row 1"));
+/// ```
+pub fn compare_with(
+    rust: Rust,
+    campaign: &Campaign,
+    seed: u64,
+    most: usize,
+    seen: &mut Seen,
+) -> Result<(), String> {
     let mut random = Random::new(seed);
     let days = days_of(&mut random, campaign);
     let days = some_of(&mut random, days, most);
     let tags = some_of(&mut random, tags_of(campaign), most);
 
-    let rust = Rust::of(campaign);
     let owners = rust.owners();
     let chronicle = model::chronicle(campaign);
     rows_equal("changes", &rust::changes(&owners), &chronicle.changes)?;
@@ -117,7 +138,7 @@ impl Asked<'_> {
         if !small {
             self.seen.add("list: too large for the Rust's resolver", 1);
         }
-        self.resolver(nations, small.then(|| Resolver::of(&theirs)).as_ref())?;
+        self.resolver(nations, small.then(|| self.rust.resolver(&theirs)).as_ref())?;
         self.bookings(nations, small.then_some(&theirs))?;
         self.ledgers(nations, &theirs)?;
         let Asked { campaign, record, rust, random, tags, seen, .. } = self;
@@ -177,7 +198,7 @@ pub(crate) fn equal<T: PartialEq + Debug>(
     if theirs == ours {
         return Ok(());
     }
-    Err(format!("{}: the Rust gives {theirs:?}, the model {ours:?}", what()))
+    Err(format!("{}\n  the Rust:  {theirs:?}\n  the model: {ours:?}", what()))
 }
 
 /// Says which row differs first.

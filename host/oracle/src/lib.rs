@@ -25,6 +25,8 @@ pub mod rust;
 pub mod save;
 #[cfg(found)]
 pub mod seen;
+#[cfg(found)]
+pub mod side_by_side;
 pub mod timed;
 #[cfg(found)]
 pub mod vectors;

@@ -60,7 +60,7 @@ pub fn page(rust: &Rust, record: &[u8], selection: &[u8]) -> Result<Vec<u8>, Ref
     if owners.changes.len() > 4_000 || entries > 5_000 {
         return Err(Refusal::NoRoom(None));
     }
-    Ok(text(&nations, &tags).into_bytes())
+    Ok(rust.page(text(&nations, &tags)).into_bytes())
 }
 
 fn tags(selection: &[u8]) -> Option<Vec<CountryTag>> {
@@ -165,6 +165,6 @@ impl Paged<'_> {
         let text = |page: Result<Vec<u8>, Refusal>| {
             page.map(|bytes| String::from_utf8_lossy(&bytes).into_owned())
         };
-        Err(format!("page: by the Rust {:?}, by the model {:?}", text(theirs), text(ours)))
+        Err(format!("page\n  the Rust:  {:?}\n  the model: {:?}", text(theirs), text(ours)))
     }
 }

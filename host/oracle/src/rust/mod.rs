@@ -1,8 +1,10 @@
 //! The Rust's answers, as the rows of 01.
 
+mod falsified;
 mod players;
 mod resolver;
 
+pub use falsified::Falsified;
 pub use players::{player_history, Named};
 pub use resolver::Resolver;
 
@@ -20,6 +22,7 @@ use crate::save::{self, save};
 #[derive(Debug)]
 pub struct Rust {
     query: Query,
+    falsified: Option<Falsified>,
 }
 
 impl Rust {
@@ -33,7 +36,41 @@ impl Rust {
     /// assert_eq!(rust.nations(&rust.owners())[1].stored, *b"FRA");
     /// ```
     pub fn of(campaign: &Campaign) -> Rust {
-        Rust { query: Query::from_save(save(campaign)) }
+        Rust::with(campaign, None)
+    }
+
+    /// Loads a campaign, for answers of which one may be made wrong.
+    ///
+    /// ```
+    /// use chronicle_oracle::rust::{Falsified, Rust};
+    /// use chronicle_trial::sample;
+    ///
+    /// let rust = Rust::with(&sample::worked(), Some(Falsified::Changes));
+    /// assert_eq!(rust.owners().changes.len(), 1);
+    /// ```
+    pub fn with(campaign: &Campaign, falsified: Option<Falsified>) -> Rust {
+        Rust { query: Query::from_save(save(campaign)), falsified }
+    }
+
+    /// The Rust's resolver over a list of nations.
+    ///
+    /// ```
+    /// use chronicle_oracle::rust::Rust;
+    /// use chronicle_trial::sample;
+    ///
+    /// let resolver = Rust::of(&sample::worked()).resolver(&[]);
+    /// assert_eq!(resolver.resolve(*b"ENG", 14441111), None);
+    /// ```
+    pub fn resolver(&self, nations: &[NationEvents]) -> Resolver {
+        Resolver::with(nations, self.falsified)
+    }
+
+    /// Text as it stands, or wrong.
+    pub(crate) fn page(&self, page: String) -> String {
+        match self.falsified {
+            Some(falsified) => falsified.page(page),
+            None => page,
+        }
     }
 
     /// The Rust's own answer, for what is asked of it next and for its time.
@@ -45,7 +82,9 @@ impl Rust {
     /// assert_eq!(Rust::of(&sample::worked()).owners().changes.len(), 2);
     /// ```
     pub fn owners(&self) -> ProvinceOwners {
-        self.query.province_owners()
+        let mut owners = self.query.province_owners();
+        self.falsified.inspect(|falsified| falsified.changes(&mut owners));
+        owners
     }
 
     /// The Rust's own answer, in whatever order its hash map had.
@@ -58,7 +97,9 @@ impl Rust {
     /// assert_eq!(rust.nation_events(&rust.owners()).len(), 2);
     /// ```
     pub fn nation_events(&self, owners: &ProvinceOwners) -> Vec<NationEvents> {
-        self.query.nation_events(owners)
+        let mut nations = self.query.nation_events(owners);
+        self.falsified.inspect(|falsified| falsified.nations(&mut nations));
+        nations
     }
 
     /// The nations by the bytes of their initial, which no two share.
@@ -114,6 +155,7 @@ impl Rust {
             };
             bookings.extend(participants.iter().map(row));
         }
+        self.falsified.inspect(|falsified| falsified.bookings(&mut bookings));
         bookings
     }
 
@@ -143,7 +185,9 @@ impl Rust {
     /// ```
     pub fn ledger(&self, nation: &NationEvents) -> Vec<LedgerRow> {
         let row = |p: &LedgerPoint| LedgerRow { tag: bytes(p.tag), year: p.year, value: p.value };
-        self.ledger_points(nation).iter().map(row).collect()
+        let mut rows = self.ledger_points(nation).iter().map(row).collect();
+        self.falsified.inspect(|falsified| falsified.ledger(&mut rows));
+        rows
     }
 }
 

@@ -4,7 +4,7 @@ use chronicle_trial::pack::Tag;
 use chronicle_trial::rows::History;
 use eu4save::query::{NationEvents, PlayerHistory};
 
-use super::{bytes, Rust};
+use super::{bytes, Falsified, Rust};
 use crate::save::tag;
 
 /// A player, by the text of the name: the Rust does not number them.
@@ -32,7 +32,10 @@ impl Rust {
     /// assert!(Rust::of(&sample::worked()).players().is_empty());
     /// ```
     pub fn players(&self) -> Vec<Named> {
-        self.player_list().into_iter().map(|player| (player.name, bytes(player.tag))).collect()
+        let named = |player: eu4save::query::Player| (player.name, bytes(player.tag));
+        let mut players = self.player_list().into_iter().map(named).collect();
+        self.falsified.inspect(|falsified| falsified.players(&mut players));
+        players
     }
 
     /// The Rust's own answer.
@@ -44,7 +47,9 @@ impl Rust {
     /// assert!(Rust::of(&sample::worked()).histories(&[]).is_empty());
     /// ```
     pub fn histories(&self, nations: &[NationEvents]) -> Vec<PlayerHistory> {
-        self.query.player_histories(nations)
+        let mut histories = self.query.player_histories(nations);
+        self.falsified.inspect(|falsified| falsified.histories(&mut histories));
+        histories
     }
 
     /// The country that play began with.
@@ -56,7 +61,8 @@ impl Rust {
     /// assert_eq!(Rust::of(&sample::worked()).starting_country(&[]), None);
     /// ```
     pub fn starting_country(&self, histories: &[PlayerHistory]) -> Option<Tag> {
-        self.query.starting_country(histories).map(bytes)
+        let start = self.query.starting_country(histories).map(bytes);
+        start.filter(|_| self.falsified != Some(Falsified::Start))
     }
 }
 

@@ -251,10 +251,18 @@ fn comes_back(country: &Country) -> bool {
     froms.iter().collect::<BTreeSet<_>>().len() < froms.len()
 }
 
+/// What was compared is told before the cases that were met.
+const COMPARED: [&str; 5] = ["answer", "library", "program", "record", "row"];
+
 impl fmt::Display for Seen {
     fn fmt(&self, f: &mut fmt::Formatter<'_>) -> fmt::Result {
-        for (what, times) in &self.0 {
-            writeln!(f, "{times:>12}  {what}")?;
+        let compared =
+            |what: &str| what.split_once(": ").is_some_and(|(of, _)| COMPARED.contains(&of));
+        for (heading, wanted) in [("compared", true), ("hard cases met", false)] {
+            writeln!(f, "{:>12}  {heading}", "times")?;
+            for (what, times) in self.0.iter().filter(|(what, _)| compared(what) == wanted) {
+                writeln!(f, "{times:>12}  {what}")?;
+            }
         }
         Ok(())
     }
