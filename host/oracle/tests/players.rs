@@ -23,19 +23,12 @@ fn players_are_drawn() {
         let campaign = players::campaign(&mut random);
         assert_eq!(compare(&campaign, number, 3, &mut seen), Ok(()));
     }
-    let told = seen.to_string();
-    let counts: Vec<(usize, &str)> = told.lines().map(counted).collect();
     for kind in KINDS {
-        let of_kind = counts.iter().filter(|(_, what)| what.starts_with(kind));
-        assert!(of_kind.clone().count() >= 7, "{kind}: {told}");
-        let rare: Vec<_> = of_kind.filter(|(times, _)| *times < 10).collect();
+        let of_kind: Vec<_> = seen.all().filter(|(what, _)| what.starts_with(kind)).collect();
+        assert!(of_kind.len() >= 7, "{kind}: {seen}");
+        let rare: Vec<_> = of_kind.iter().filter(|(_, times)| *times < 10).collect();
         assert!(rare.is_empty(), "{rare:?}");
     }
-}
-
-fn counted(line: &str) -> (usize, &str) {
-    let (times, what) = line.trim_start().split_once("  ").expect("a number and what it counts");
-    (times.parse().expect("a number"), what)
 }
 
 /// The Rust of one campaign and the model of another, which has a name, a tag, a flag or a country

@@ -60,6 +60,19 @@ impl Seen {
         self.0.get(what).copied().unwrap_or(0)
     }
 
+    /// Everything that is looked for, and how often it was met.
+    ///
+    /// ```
+    /// use chronicle_oracle::seen::Seen;
+    ///
+    /// let mut seen = Seen::default();
+    /// seen.add("changes", 2);
+    /// assert!(seen.all().eq([("changes", 2)]));
+    /// ```
+    pub fn all(&self) -> impl Iterator<Item = (&'static str, usize)> + '_ {
+        self.0.iter().map(|(&what, &times)| (what, times))
+    }
+
     /// Adds what demand 3 met.
     ///
     /// ```
