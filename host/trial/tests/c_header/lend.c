@@ -27,8 +27,11 @@ static struct words words(size_t length) {
 static struct bytes read_file(const char *path) {
     struct bytes read;
     FILE *file = fopen(path, "rb");
-    long length;
-    if (file == NULL || fseek(file, 0, SEEK_END) != 0 || (length = ftell(file)) < 0) {
+    long length = -1;
+    if (file != NULL && fseek(file, 0, SEEK_END) == 0) {
+        length = ftell(file);
+    }
+    if (length < 0) {
         fail(path);
     }
     rewind(file);

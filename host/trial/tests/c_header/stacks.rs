@@ -35,15 +35,45 @@ fn at_limits(number: usize) -> Vec<u8> {
     pack(&players::at_limits((extremes::ALL[number].1)(), number))
 }
 
+/// The C program with a page and a selection as large as may be, and one of the records. The name keeps tests
+/// apart that run beside each other.
+fn program(name: &str, number: usize) -> Command {
+    let program = c99().program(name, &SOURCES, &["-O1", "-pthread"]);
+    let mut command = Command::new(program);
+    command.arg(stored(&format!("{name}.atl"), &at_limits(number)));
+    command.arg(stored(&format!("{name}_page.atl"), &pack(&whole_page(600))));
+    command.arg(stored(&format!("{name}_selection"), "QQQ\n".repeat(16_384).as_bytes()));
+    command
+}
+
 #[test]
 fn every_call_in_a_c_thread_of_the_size_that_the_header_names() {
-    let program = c99().program("stacks", &SOURCES, &["-O1", "-pthread"]);
-    let page = stored("page.atl", &pack(&whole_page(600)));
-    let selection = stored("selection", "QQQ\n".repeat(16_384).as_bytes());
     for number in TRIED {
-        let record = stored("limits.atl", &at_limits(number));
-        let said = run(Command::new(&program).arg(record).args([&page, &selection]));
+        let said = run(&mut program("stacks", number));
         assert_eq!(said.lines().count(), declared().len(), "{}:\n{said}", extremes::ALL[number].0);
+    }
+}
+
+/// `cargo test --release -p chronicle_trial --test c_header -- --ignored --nocapture` prints what to name.
+#[test]
+#[ignore = "finds the least stack of each call, in steps of 4 KiB, and prints it"]
+fn least_stacks() {
+    let program = program("least", 0);
+    for call in declared() {
+        let survives = |kib: usize| {
+            let mut command = Command::new(program.get_program());
+            command.args(program.get_args()).arg(&call).arg(kib.to_string());
+            command.output().is_ok_and(|output| output.status.success())
+        };
+        let (mut short, mut enough) = (12, 4_096);
+        while short + 4 < enough {
+            let between = (short + enough) / 8 * 4;
+            match survives(between) {
+                true => enough = between,
+                false => short = between,
+            }
+        }
+        println!("{call}: {enough} KiB");
     }
 }
 
