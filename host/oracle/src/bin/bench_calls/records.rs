@@ -1,9 +1,10 @@
 //! The four records, and the pages that stand beside them: a page holds less than a record may.
 
+use chronicle::layout::{HEAD_COUNTS, LIMITS};
 use chronicle_trial::adversary::players;
 use chronicle_trial::extremes::pages::{to_and_fro, whole_page};
 use chronicle_trial::extremes::{rising, yearly};
-use chronicle_trial::generate::{at_limits, counts_of, game, sized};
+use chronicle_trial::generate::{counts_of, game, sized};
 use chronicle_trial::pack::Campaign;
 use chronicle_trial::sample::worked;
 
@@ -34,15 +35,28 @@ pub const RECORDS: [Record; 4] = [
     Record { name: "worked", campaign: worked, questions: 4, page: Some((worked, 2)) },
 ];
 
-/// Every count at its limit, from 1440 to 1939: with the years as drawn, the ledgers of all nations would
-/// not fit into memory.
+/// The first one with every count at an eighth, a quarter and a half of its limit, and at it.
+pub const GROWTH: [Record; 4] = [
+    Record { name: "1/8", campaign: || part_of_limits(8), questions: 12_500, page: None },
+    Record { name: "1/4", campaign: || part_of_limits(4), questions: 25_000, page: None },
+    Record { name: "1/2", campaign: || part_of_limits(2), questions: 50_000, page: None },
+    Record { name: "at the limits", campaign: limits, questions: 100_000, page: None },
+];
+
 fn limits() -> Campaign {
-    let mut campaign = at_limits();
+    part_of_limits(1)
+}
+
+/// Every count, from 1440 to 1939: with the years as drawn, the ledgers of all nations would not fit into
+/// memory. Every country was played.
+fn part_of_limits(part: usize) -> Campaign {
+    let counts = HEAD_COUNTS.map(|(letter, _, _, limit)| (letter, limit / part));
+    let mut campaign = sized(&counts_of(&counts), 1);
     (campaign.start, campaign.current) = (14400101, 19391231);
-    let points = campaign.ledger.iter().map(|name| name.points.len()).max().unwrap_or(0);
-    let mut campaign = yearly(campaign);
-    campaign.ledger.iter_mut().for_each(|name| name.points.truncate(points));
-    players::at_limits(campaign, 0)
+    let mut campaign = players::at_limits(yearly(campaign), 0);
+    campaign.ledger.truncate(LIMITS.ledger_names / part);
+    campaign.strings.truncate(LIMITS.strings / part);
+    campaign
 }
 
 /// 60,000 events of one province, by date, with 20 countries beside it.
