@@ -19,6 +19,30 @@ static void printed(const struct record *worked) {
     equal("its text", memcmp(out, PAGE, sizeof out), 0);
 }
 
+/* The worked record has no war, no ledger and no player: each of these answers is empty, and writes nothing. */
+static void nothing(const struct record *worked) {
+    static const uint32_t COUNTS[] = {2, 3, 3, 2, 2};
+    const uint8_t *bytes = worked->bytes;
+    const size_t length = worked->length;
+    struct chronicle rows;
+    uint32_t out[8];
+    uint64_t counts[2] = {7, 7};
+    size_t n, e;
+    chronicle_of(worked, COUNTS, &rows);
+    n = rows.nation_words;
+    e = rows.entry_words;
+    fresh(out, COUNT_OF(out));
+    equal("no booking", war_participants(bytes, length, rows.nations, n, rows.entries, e, out, COUNT_OF(out)), 0);
+    equal("no ledger row", nation_ledger(bytes, length, rows.nations, n, rows.entries, e, 1, out, COUNT_OF(out)), 0);
+    equal("no row to come", nation_ledger_rows(bytes, length, rows.nations, n, rows.entries, e, 1, 9), 0);
+    equal("no ledgers", nation_ledgers(bytes, length, rows.nations, n, rows.entries, e, out, COUNT_OF(out), counts, 2), 0);
+    equal("their counts", (int64_t)(counts[0] + counts[1]), 0);
+    equal("no player", players(bytes, length, out, COUNT_OF(out)), 0);
+    equal("no history", player_histories(bytes, length, rows.nations, n, rows.entries, e, out, 4, out + 4, 4), 0);
+    equal("no start", starting_country(NULL, 0, rows.nations, n, rows.entries, e, out, COUNT_OF(out)), 0);
+    cells("nothing", out, NULL, 0, COUNT_OF(out));
+}
+
 int main(int argc, char **argv) {
     struct record worked, sample;
     if (argc != 3) {
@@ -33,6 +57,7 @@ int main(int argc, char **argv) {
     resolver(&worked);
     ledgers(&worked);
     printed(&worked);
+    nothing(&worked);
     isles(&sample);
     printf("%d differences\n", differences());
     return differences() == 0 ? 0 : 1;
