@@ -43,6 +43,29 @@ static void nothing(const struct record *worked) {
     cells("nothing", out, NULL, 0, COUNT_OF(out));
 }
 
+/* Slices of length 0 need no memory: no record is refused by 1, and of no nation nothing is found. */
+static void empty(void) {
+    const uint32_t gbr = CHRONICLE_TAG('G', 'B', 'R'), day = 14480601;
+    const int64_t none = -CHRONICLE_REFUSED_NOT_A_RECORD;
+    equal("check", -check(NULL, 0), none);
+    equal("province_owners", province_owners(NULL, 0, NULL, 0), none);
+    equal("events_on", events_on(NULL, 0, day, NULL, 0), none);
+    equal("nation_events", nation_events(NULL, 0, NULL, 0, NULL, 0, NULL, 0, NULL, 0, NULL, 0, NULL, 0), none);
+    equal("resolver_resolve", resolver_resolve(NULL, 0, NULL, 0, gbr, day, NULL, 0), 0);
+    equal("resolver_initial", resolver_initial(NULL, 0, NULL, 0, gbr, NULL, 0), 0);
+    equal("resolver_resolve_at", resolver_resolve_at(NULL, 0, NULL, 0, day, gbr, day, NULL, 0), 0);
+    equal("resolver_initial_at", resolver_initial_at(NULL, 0, NULL, 0, day, gbr, NULL, 0), 0);
+    equal("resolver_resolve_each", resolver_resolve_each(NULL, 0, NULL, 0, NULL, 0, NULL, 0), 0);
+    equal("war_participants", war_participants(NULL, 0, NULL, 0, NULL, 0, NULL, 0), none);
+    equal("nation_ledger", nation_ledger(NULL, 0, NULL, 0, NULL, 0, 0, NULL, 0), none);
+    equal("nation_ledger_rows", nation_ledger_rows(NULL, 0, NULL, 0, NULL, 0, 0, 0), none);
+    equal("nation_ledgers", nation_ledgers(NULL, 0, NULL, 0, NULL, 0, NULL, 0, NULL, 0), none);
+    equal("players", players(NULL, 0, NULL, 0), none);
+    equal("player_histories", player_histories(NULL, 0, NULL, 0, NULL, 0, NULL, 0, NULL, 0), none);
+    equal("starting_country", starting_country(NULL, 0, NULL, 0, NULL, 0, NULL, 0), 0);
+    equal("page", page(NULL, 0, NULL, 0, NULL, 0), none);
+}
+
 int main(int argc, char **argv) {
     struct record worked, sample;
     if (argc != 3) {
@@ -58,6 +81,7 @@ int main(int argc, char **argv) {
     ledgers(&worked);
     printed(&worked);
     nothing(&worked);
+    empty();
     isles(&sample);
     printf("%d differences\n", differences());
     return differences() == 0 ? 0 : 1;
