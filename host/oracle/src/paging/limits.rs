@@ -38,18 +38,19 @@ fn selections(campaign: &Campaign) -> Vec<Vec<u8>> {
 /// Compares pages near each limit, and says how many; each goes through what `others` do as well.
 ///
 /// ```
-/// use chronicle_oracle::{paging::near_limits, seen::Seen};
+/// use chronicle_oracle::{paging::near_limits, rust::Rust, seen::Seen};
 ///
 /// let mut seen = Seen::default();
-/// assert_eq!(near_limits(&mut seen, |_, _, _| Ok(())), Ok(24 * 8));
+/// assert_eq!(near_limits(Rust::of, &mut seen, |_, _, _| Ok(())), Ok(24 * 8));
 /// ```
 pub fn near_limits(
+    load: impl Fn(&Campaign) -> Rust,
     seen: &mut Seen,
     mut others: impl FnMut(Paged<'_>, &[u8], &mut Seen) -> Result<(), String>,
 ) -> Result<usize, String> {
     let mut pages = 0;
     for (number, campaign) in campaigns().iter().enumerate() {
-        let (rust, record) = (Rust::of(campaign), pack(campaign));
+        let (rust, record) = (load(campaign), pack(campaign));
         let paged = Paged { record: &record, rust: &rust };
         for selection in selections(campaign) {
             let what = |error| format!("campaign {number} near a limit of pages: {error}");

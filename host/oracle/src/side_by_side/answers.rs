@@ -17,7 +17,7 @@ use super::record::text;
 use crate::paging;
 use crate::rust::{self, nation_events, Named, Rust};
 
-/// More ledger rows than this are not asked for: campaigns that were made smaller have fewer.
+/// Ledgers with more rows than this are left out: campaigns that were made smaller have fewer.
 const MOST_ROWS: usize = 1_000_000;
 
 /// An answer of both, a line for each row.
@@ -47,8 +47,9 @@ pub struct Section {
 /// ```
 pub fn answers(campaign: &Campaign, rust: &Rust) -> Result<Vec<Section>, Refusal> {
     let asked = Asked::of(campaign);
-    let theirs = of_rust(campaign, rust, &asked).lines(&asked);
-    let ours = of_library(campaign, &asked)?.lines(&asked);
+    let ours = of_library(campaign, &asked)?;
+    let theirs = of_rust(campaign, rust, &asked, ours.ledgers.is_some()).lines(&asked);
+    let ours = ours.lines(&asked);
     let section = |((name, theirs), (_, ours))| Section { name, theirs, ours };
     Ok(theirs.into_iter().zip(ours).map(section).collect())
 }
@@ -81,14 +82,15 @@ struct Answers {
     nations: Vec<Nation>,
     resolved: Vec<Option<Resolved>>,
     bookings: Vec<Booking>,
-    ledgers: Vec<Vec<LedgerRow>>,
+    /// None where they have too many rows.
+    ledgers: Option<Vec<Vec<LedgerRow>>>,
     players: Vec<Named>,
     histories: Vec<Played>,
     start: Option<Tag>,
     page: Result<Vec<u8>, Refusal>,
 }
 
-fn of_rust(campaign: &Campaign, rust: &Rust, asked: &Asked) -> Answers {
+fn of_rust(campaign: &Campaign, rust: &Rust, asked: &Asked, ledgers: bool) -> Answers {
     let owners = rust.owners();
     let nations = rust.nations(&owners);
     let theirs: Vec<NationEvents> = nations.iter().map(nation_events).collect();
@@ -102,7 +104,7 @@ fn of_rust(campaign: &Campaign, rust: &Rust, asked: &Asked) -> Answers {
         changes: rust::changes(&owners),
         resolved: asked.questions.iter().map(|&(tag, day)| resolver.resolve(tag, day)).collect(),
         bookings: rust.bookings(&theirs),
-        ledgers: theirs.iter().map(|nation| rust.ledger(nation)).collect(),
+        ledgers: ledgers.then(|| theirs.iter().map(|nation| rust.ledger(nation)).collect()),
         players: rust.players(),
         start: rust.starting_country(&histories),
         histories: histories.iter().map(played).collect(),
@@ -120,12 +122,16 @@ fn of_library(campaign: &Campaign, asked: &Asked) -> Result<Answers, Refusal> {
     let histories = rows.named_histories(&record)?;
     let words: Vec<History> = histories.iter().map(unnamed).collect();
     let players = told::named_players(&record)?;
+    let ledgers = match rows.ledgers(&record, MOST_ROWS) {
+        Err(Refusal::NoRoom(_)) => None,
+        ledgers => Some(ledgers?),
+    };
     Ok(Answers {
         changes: written.changes.as_chunks().0.iter().map(change).collect(),
         nations: nations(&written),
         resolved: resolved.into_iter().map(|found| found.map(resolved_to)).collect(),
         bookings: rows.bookings(&record)?,
-        ledgers: rows.ledgers(&record, MOST_ROWS)?,
+        ledgers,
         players: players.iter().map(|player| (text(player.name.bytes), player.tag)).collect(),
         start: rows.starting(&history_words(&words))?,
         histories: histories
@@ -200,7 +206,7 @@ impl Answers {
         let of = |(nation, rows): (&Nation, &Vec<LedgerRow>)| -> Vec<String> {
             rows.iter().map(|of| row(nation, of)).collect()
         };
-        self.nations.iter().zip(&self.ledgers).flat_map(of).collect()
+        self.nations.iter().zip(self.ledgers.iter().flatten()).flat_map(of).collect()
     }
 }
 

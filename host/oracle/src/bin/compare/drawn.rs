@@ -32,7 +32,7 @@ const LOOKED_FOR: [&str; 10] = [
     "row: player",
 ];
 
-/// Compares them all, says what was met, and goes on to the limits.
+/// Compares them all, and those at the limits, and says what was met; what each met at the limits is told apart.
 pub fn all(run: &mut Run, campaigns: u64, seed: u64, extremes: usize) -> Result<(), String> {
     let of_the_library = resolving::looked_for()
         .chain(ledgers::looked_for())
@@ -45,12 +45,13 @@ pub fn all(run: &mut Run, campaigns: u64, seed: u64, extremes: usize) -> Result<
     small(run, campaigns, seed)?;
     damaged(run, campaigns / 4, seed)?;
     near_limits_of_pages(run, seed)?;
+    limits::all(run, extremes, seed)?;
     println!("\n{}", run.seen);
     let never = run.seen.never();
     if campaigns >= ENOUGH && !never.is_empty() {
         return Err(format!("never met, so the run says too little: {}", never.join("; ")));
     }
-    limits::all(run, extremes, seed)
+    Ok(())
 }
 
 fn small(run: &mut Run, campaigns: u64, seed: u64) -> Result<(), String> {
@@ -91,9 +92,13 @@ fn damaged(run: &mut Run, records: u64, seed: u64) -> Result<(), String> {
 
 fn near_limits_of_pages(run: &mut Run, seed: u64) -> Result<(), String> {
     let program = paging::Printed::new(seed);
-    let pages = paging::near_limits(&mut run.seen, |paged, selection, seen| {
-        program.selected(paged, selection, seen)
-    })?;
+    let mut seen = std::mem::take(&mut run.seen);
+    let pages = paging::near_limits(
+        |campaign| run.rust(campaign),
+        &mut seen,
+        |paged, selection, seen| program.selected(paged, selection, seen),
+    )?;
+    run.seen = seen;
     println!("{pages} pages near their limits, seed {seed}: no difference");
     Ok(())
 }

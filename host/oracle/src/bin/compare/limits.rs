@@ -5,9 +5,9 @@ use chronicle_oracle::seen::Seen;
 use chronicle_oracle::{ledgers, resolving};
 use chronicle_trial::adversary::players;
 use chronicle_trial::extremes;
-use chronicle_trial::pack::{pack, Campaign};
+use chronicle_trial::pack::Campaign;
 
-use crate::run::{stored, Run, SOME};
+use crate::run::{Run, SOME};
 
 /// Met by each campaign.
 const MET: [&str; 5] = [
@@ -29,11 +29,11 @@ pub fn all(run: &Run, extremes: usize, seed: u64) -> Result<(), String> {
     Ok(())
 }
 
-/// Compares a campaign, and tells what was met. To make it smaller would take very long.
+/// Compares a campaign, and tells what was met.
 fn one(run: &Run, campaign: &Campaign, seed: u64) -> Result<String, String> {
     let mut seen = Seen::default();
     compare_with(run.rust(campaign), campaign, seed, SOME, &mut seen)
-        .map_err(|difference| stored(&pack(campaign), &difference))?;
+        .map_err(|difference| run.smallest(campaign, seed, &difference))?;
     for what in MET.into_iter().chain(ledgers::looked_for()) {
         if seen.times(what) == 0 {
             return Err(format!("never met at the limits: {what}"));

@@ -17,6 +17,9 @@ pub const SOME: usize = 12;
 /// Of records with more bytes than this, only some days and tags are asked about.
 const SMALL: usize = 20_000;
 
+/// With more bytes than this, to compare everything at each try would take very long.
+const LARGE: usize = 2_000_000;
+
 /// What is compared with, and what was met.
 pub struct Run {
     falsified: Option<Falsified>,
@@ -53,7 +56,7 @@ impl Run {
 
     /// A difference between the answers about the record itself is kept if there is one: of such, both sides
     /// can be shown.
-    fn smallest(&self, campaign: &Campaign, seed: u64, difference: &str) -> String {
+    pub fn smallest(&self, campaign: &Campaign, seed: u64, difference: &str) -> String {
         let what = difference.lines().next().unwrap_or_default();
         eprintln!("a difference: {what}\nlooking for the smallest record that shows one");
         let differs = |campaign: &Campaign| {
@@ -61,11 +64,14 @@ impl Run {
             compare_with(self.rust(campaign), campaign, seed, most, &mut Seen::default()).err()
         };
         if self.sides(campaign).is_empty() {
+            let record = pack(campaign);
+            if record.len() > LARGE {
+                return stored(&record, &format!("DIFFERENCE: {difference}"));
+            }
             let small = shrink(campaign.clone(), |campaign| differs(campaign).is_some());
             let difference = differs(&small).unwrap_or_else(|| difference.to_string());
-            let told = told(&small);
-            let message =
-                format!("DIFFERENCE: {difference}\n\nAbout the record itself both agree:\n{told}");
+            let about = "About the record itself both agree:";
+            let message = format!("DIFFERENCE: {difference}\n\n{about}\n{}", told(&small));
             return stored(&pack(&small), &message);
         }
         let small = shrink(campaign.clone(), |campaign| !self.sides(campaign).is_empty());
