@@ -18,6 +18,13 @@ fn write_out(text: &[u8]) {
     }
 }
 
+// An input that failed is told of on standard error: its tags up to there are read, and the reader should know that more may be missing.
+fn tell_input(failed: bool) {
+    if failed {
+        io::write_all(STDERR_FILENO, b"page: the input cannot be read\n");
+    }
+}
+
 // Prints what the bytes read of both come to.
 fn print(file: pages::CampaignFile, s: &[u8], selection: &[u8]) {
     let mut out = [0u8; PRINTED_BYTES];
@@ -34,6 +41,7 @@ fn main() {
     let mut selection = [0u8; MOST_READ];
     let mut s = [0u8; MOST_READ];
     let input = reading::read_bytes(STDIN_FILENO, &mut selection);
+    tell_input(input.failed);
     let campaign = reading::read_file(b"campaign.atl", &mut s);
     let n = campaign.count;
     let m = input.count;

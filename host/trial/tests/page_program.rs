@@ -113,11 +113,17 @@ fn input_from_a_file_and_from_nothing() {
     prints(&from(Stdio::null()), "selected 0\n");
 }
 
-/// `sh` closes what the program would read; a selection that cannot be read is none.
+/// `sh` closes what the program would read, or gives it a folder: a selection that cannot be read is none, and
+/// standard error says so.
 #[test]
-fn closed_input() {
-    let output = through_shell(&with(sample::WORKED), "exec \"$0\" <&-");
-    prints(&output, "selected 0\n");
+fn input_that_fails() {
+    let folder = with(sample::WORKED);
+    for command in ["exec \"$0\" <&-", "exec \"$0\" <."] {
+        let output = through_shell(&folder, command);
+        assert_eq!(String::from_utf8_lossy(&output.stdout), "selected 0\n", "{command}");
+        let said = String::from_utf8_lossy(&output.stderr);
+        assert_eq!(said, "page: the input cannot be read\n", "{command}");
+    }
 }
 
 /// Nobody can write to /dev/full, nor to a closed output: standard error says so. The status of a program is 0.
