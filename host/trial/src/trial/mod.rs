@@ -14,8 +14,7 @@ mod resolver;
 pub use bookings::booked;
 pub use ledgers::{ledger_told, ledgers_told, rows_told};
 pub use page::paged;
-pub use players::recalled;
-pub use players::{begun, played};
+pub use players::{begun, played, recalled};
 pub use resolver::{asked, asked_each};
 
 use chronicle::raw::check;
@@ -52,8 +51,7 @@ pub const TRIED: &[&str] = &[
 pub fn accepted(record: &[u8], chronicle: &Chronicle, runs: &[(Date, Run)]) -> Result<(), String> {
     same("check", &check(record), &Ok(()))?;
     owners::accepted(record, &chronicle.changes, runs)?;
-    nations::accepted(record, chronicle)?;
-    Ok(())
+    nations::accepted(record, chronicle)
 }
 
 /// Holds every function's answer on a refused record against the refusal.
@@ -71,8 +69,7 @@ pub fn refused(record: &[u8], refusal: Refusal) -> Result<(), String> {
     bookings::refused(record, refusal)?;
     ledgers::refused(record, refusal)?;
     players::refused(record, refusal)?;
-    page::refused(record, refusal)?;
-    Ok(())
+    page::refused(record, refusal)
 }
 
 /// Holds the resolver's answers about a list of nations against these, one by one, and those to
@@ -89,8 +86,7 @@ pub fn refused(record: &[u8], refusal: Refusal) -> Result<(), String> {
 /// assert_eq!(trial::resolver(&nations, &asked), Ok(()));
 /// ```
 pub fn resolver(nations: &[Nation], asked: &[(Question, Option<Resolved>)]) -> Result<(), String> {
-    resolver::answered(nations, asked)?;
-    Ok(())
+    resolver::answered(nations, asked)
 }
 
 /// Holds the bookings of an accepted record by a list of nations against these.
@@ -102,8 +98,7 @@ pub fn resolver(nations: &[Nation], asked: &[(Question, Option<Resolved>)]) -> R
 /// assert_eq!(trial::bookings(sample::WORKED, &nations, &[]), Ok(()));
 /// ```
 pub fn bookings(record: &[u8], nations: &[Nation], bookings: &[Booking]) -> Result<(), String> {
-    bookings::accepted(record, nations, bookings)?;
-    Ok(())
+    bookings::accepted(record, nations, bookings)
 }
 
 /// Holds the ledgers of an accepted record's nations against these: all by one call, and those with
@@ -122,8 +117,7 @@ pub fn ledgers(
     ledgers: &[Vec<LedgerRow>],
     each: &[usize],
 ) -> Result<(), String> {
-    ledgers::accepted(record, nations, ledgers, each)?;
-    Ok(())
+    ledgers::accepted(record, nations, ledgers, each)
 }
 
 /// Holds the players of an accepted record against these.
@@ -134,8 +128,7 @@ pub fn ledgers(
 /// assert_eq!(trial::players(sample::WORKED, &[]), Ok(()));
 /// ```
 pub fn players(record: &[u8], players: &[Player]) -> Result<(), String> {
-    players::accepted(record, players)?;
-    Ok(())
+    players::accepted(record, players)
 }
 
 /// Holds the histories of an accepted record by a list of nations against these.
@@ -147,8 +140,7 @@ pub fn players(record: &[u8], players: &[Player]) -> Result<(), String> {
 /// assert_eq!(trial::histories(sample::WORKED, &nations, &[]), Ok(()));
 /// ```
 pub fn histories(record: &[u8], nations: &[Nation], histories: &[History]) -> Result<(), String> {
-    players::histories(record, nations, histories)?;
-    Ok(())
+    players::histories(record, nations, histories)
 }
 
 /// Holds the tag that play began with, by well-shaped history words, against this one.
@@ -162,8 +154,7 @@ pub fn histories(record: &[u8], nations: &[Nation], histories: &[History]) -> Re
 /// assert_eq!(trial::starting(&nations, &words, Some(*b"ENG")), Ok(()));
 /// ```
 pub fn starting(nations: &[Nation], words: &[u32], start: Option<Tag>) -> Result<(), String> {
-    players::starting(nations, words, start)?;
-    Ok(())
+    players::starting(nations, words, start)
 }
 
 /// Holds the page of a record for a selection against this one, or against its refusal.
@@ -179,8 +170,7 @@ pub fn page(
     selection: &[u8],
     expected: &Result<Vec<u8>, Refusal>,
 ) -> Result<(), String> {
-    page::answered(record, selection, expected)?;
-    Ok(())
+    page::answered(record, selection, expected)
 }
 
 /// Less than a row of nations, and less than a row of entries, in place of the last row or of nothing.

@@ -59,7 +59,7 @@ fn report(name: &str, answered: usize, rows: usize, theirs: Option<Times>, ours:
             format!("{:>11.3} {:>6.3}", ours.best / theirs.best, ours.median / theirs.median)
         }
         (None, Some(_)) => "ours alone: too much for the Rust".to_string(),
-        _ => "not in the library yet".to_string(),
+        (_, None) => "the Rust alone".to_string(),
     };
     println!("{name:<32} {answered:>8} | {} | {} | {ratio}", cell(&theirs), cell(&ours));
 }
