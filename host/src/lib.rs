@@ -20,7 +20,7 @@
 //!
 //! Nothing here panics, whatever the bytes. Memory is lent as the record's head says is enough. Calls need
 //! up to 1.8 MiB of stack: they run on the thread that makes them if so much is left there, as it is on a
-//! thread of the default 2 MiB, and else on one of their own, which costs up to a millisecond. Who brings
+//! thread of the default 2 MiB, and else on one of their own, which can cost a millisecond or two. Who brings
 //! memory of their own calls [`raw`], which has the same functions over slices of words. [`layout`] says
 //! where things lie in a record.
 //!
