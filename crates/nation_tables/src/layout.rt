@@ -4,7 +4,7 @@
 // How many countries, switches and slots a record has at most: there is one slot more than provinces.
 pub const MOST_COUNTRIES: usize = 2000;
 
-pub const MOST_SWITCHES: usize = 20000;
+const MOST_SWITCHES: usize = 20000;
 
 pub const MOST_SLOTS: usize = 8001;
 

@@ -21,7 +21,6 @@ pub use layout::KEY_ROWS;
 pub use layout::MOST_COUNTRIES;
 pub use layout::MOST_SETTLING;
 pub use layout::MOST_SLOTS;
-pub use layout::MOST_SWITCHES;
 pub use layout::NO_CHANGE;
 pub use layout::ROW_SPAN;
 pub use layout::WORD_SPAN;
