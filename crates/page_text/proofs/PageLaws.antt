@@ -65,7 +65,7 @@ tags-tagged (a ∷ b ∷ c ∷ d ∷ rest) tags e =
 
 tag-field : (t : CountryTag) → isTag t ≡ true → tagField t ≡ tagText t ++ (32 ∷ [])
 tag-field t h =
-    let b = tag-bytes t h .first .1 in
+    let b = tag-bytes t h .first .most in
     let e : t .0 / 65536 % 256 ≡ t .0 / 65536 = mod-eq-of-lt (omega (arith, b)) in
     ap (λ (x : ℕ). x ∷ t .0 / 256 % 256 ∷ t .0 % 256 ∷ 32 ∷ []) e
 

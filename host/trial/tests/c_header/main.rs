@@ -5,6 +5,7 @@
 //! CHRONICLE_NO_CXX=1 leaves C++ out.
 
 mod compilers;
+mod readme;
 mod stacks;
 
 use std::collections::BTreeSet;

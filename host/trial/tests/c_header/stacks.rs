@@ -78,7 +78,7 @@ fn least_stacks() {
 }
 
 /// The bytes that the header names.
-fn stack(name: &str) -> usize {
+pub fn stack(name: &str) -> usize {
     let (_, rest) = HEADER.split_once(&format!("CHRONICLE_STACK_{name} = ")).expect(name);
     let (kib, _) = rest.split_once(" * 1024").expect(name);
     kib.parse::<usize>().expect(name) * 1024
