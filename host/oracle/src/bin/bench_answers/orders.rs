@@ -1,9 +1,8 @@
 //! Orders in which the changes of one province may come, each disliked by some sort.
 
-use chronicle_host::extremes::{in_order, owners, rising};
-use chronicle_host::generate::{sized, Random};
-use chronicle_host::layout::Counts;
-use chronicle_host::pack::{Campaign, Date, OwnerEvent};
+use chronicle_trial::extremes::{in_order, owners, rising};
+use chronicle_trial::generate::{counts_of, sized, Random};
+use chronicle_trial::pack::{Campaign, Date, OwnerEvent};
 
 /// A name, and so many ranks in that order.
 pub type Order = (&'static str, fn(usize) -> Vec<usize>);
@@ -75,7 +74,7 @@ pub fn one_province(ranks: &[usize]) -> Campaign {
 
 /// A record of the size that games leave, events by date within each province.
 pub fn game() -> Campaign {
-    rising(sized(&Counts::of(&[('C', 800), ('P', 4_000), ('B', 40), ('E', 15_000)]), 1))
+    rising(sized(&counts_of(&[('C', 800), ('P', 4_000), ('B', 40), ('E', 15_000)]), 1))
 }
 
 /// Days one behind the other, 28 to a month.
