@@ -254,7 +254,7 @@ int64_t starting_country(const uint32_t *histories, size_t history_words,
                          uint32_t *tag, size_t tag_words);
 
 /* Writes the page of a record for a selection of stored tags, each followed by a line feed: text without a 0 behind it. Its number of
-   bytes, at most 15 + 25 for each tag. It holds 65,536 bytes of record and as many of selection, 4,000 changes and 5,000 entries. */
+   bytes, at most 15 + 25 for each tag. More than 65,536 bytes of either, 4,000 changes or 5,000 entries are 10. */
 int64_t page(const uint8_t *record, size_t length, const uint8_t *selection, size_t selection_length,
              uint8_t *out, size_t out_length);
 

@@ -102,7 +102,7 @@ pub const COMMANDS: [Command; 14] = [
     Command {
         name: "histories",
         about: "lists the countries that were played",
-        keys: "initial, latest, stored, nation (its number or null), human, names (a list)",
+        keys: "initial, latest, stored, nation (its number or null), human, names and strings (lists: each name and its number)",
         ..PLAIN
     },
     Command {

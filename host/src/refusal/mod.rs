@@ -137,7 +137,7 @@ impl Refusal {
             Refusal::NoRoom(_) => "the answer has no room",
             Refusal::NotWellShaped => "the lent rows are no chronicle's, or no history's",
             Refusal::BadQuestion => "the question names no tag or no date",
-            Refusal::NoSuchNation => "no nation has the number that was asked for",
+            Refusal::NoSuchNation => "the chronicle lists no such nation",
         }
     }
 
@@ -170,7 +170,7 @@ impl Refusal {
             Refusal::BadQuestion => {
                 "ask with three ASCII letters, digits or `-` as a tag, and a day without leap days"
             }
-            Refusal::NoSuchNation => "ask for a number below that of the nations, from 0",
+            Refusal::NoSuchNation => "ask for one that is listed; by number, from 0 and below their count",
         }
     }
 }

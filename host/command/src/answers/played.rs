@@ -49,6 +49,7 @@ pub fn histories(asked: &Asked<'_>, out: &mut Output<'_>) -> Result<(), Failure>
                 .plain("nation", history.nation.map_or("null".to_string(), |n| n.to_string()))
                 .plain("human", history.is_human)
                 .list("names", history.player_names.iter().map(|name| quoted(&name.to_string())))
+                .list("strings", history.player_names.iter().map(|name| name.number.to_string()))
         })?;
     }
     Ok(())

@@ -23,7 +23,7 @@ fn of_every_command() {
     assert_eq!(first("wars", &[]), r#"{"war":0,"tag":"FRA","stored":"FRA"}"#);
     assert_eq!(first("ledger", &["IRE"]), r#"{"year":1445,"tag":"TYR","value":4}"#);
     assert_eq!(first("players", &[]), r#"{"name":"Ann","tag":"IRE","string":0}"#);
-    let history = r#"{"initial":"TYR","latest":"IRE","stored":"IRE","nation":10,"human":true,"names":["Ann"]}"#;
+    let history = r#"{"initial":"TYR","latest":"IRE","stored":"IRE","nation":10,"human":true,"names":["Ann"],"strings":[0]}"#;
     assert_eq!(first("histories", &[]), history);
     assert_eq!(first("start", &[]), r#"{"start":"TYR"}"#);
 }
