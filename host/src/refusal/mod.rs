@@ -170,7 +170,9 @@ impl Refusal {
             Refusal::BadQuestion => {
                 "ask with three ASCII letters, digits or `-` as a tag, and a day without leap days"
             }
-            Refusal::NoSuchNation => "ask for one that is listed; by number, from 0 and below their count",
+            Refusal::NoSuchNation => {
+                "ask for one that is listed; by number, from 0 and below their count"
+            }
         }
     }
 }
