@@ -11,13 +11,13 @@ use lib.Seq.{take-at}
 use Rattle.lists.specs.Lists.{keep, last, lastOr, numbersFrom}
 use Rattle.lists.proofs.ListLaws.{map-then}
 use Rattle.format.specs.declared.date.Eu4Date.{Eu4Date}
-use Rattle.rules.specs.Chronicle.{Kind, switch, appeared, annexed, isAppeared, isAnnexed, Entry}
-use Rattle.rules.specs.NationRows.{nationRowsIn, nationsIn, wellShaped}
+use Rattle.rules.specs.Chronicle.{Kind, switch, appeared, annexed, isAppeared, isAnnexed, Entry, Nation}
+use Rattle.rules.specs.NationRows.{NationRow, nationRowsIn, nationsIn, wellShaped}
 use Rattle.rules.specs.Page.{endsAnnexed, isLiving}
-use Rattle.chronicle_rows.specs.RowAt.{nationRowAt, entryAt, entriesAt, nationNumbered}
+use Rattle.chronicle_rows.specs.RowAt.{entryAt, entriesAt, nationNumbered}
 use Rattle.chronicle_rows.proofs.NumberedLaws.{nations-numbered}
 use Rattle.page_text.proofs.StoredLaws.{length-numbered}
-use Rattle.pages.specs.Status.{livesOn, livesAlong, livingBy, livingCells}
+use Rattle.pages.specs.Status.{livesOn, livesAlong, nationWith, livingCells}
 
 abbrev tells : Entry → Bool
 tells e = isAppeared (e .kind) || isAnnexed (e .kind)
@@ -47,8 +47,9 @@ whole : (o : Option Entry) → told true o ≡ not (endsAnnexed o)
 whole none = refl
 whole (some e) = refl
 
-pub living-along : (es : List Entry) → livesAlong true es ≡ livingBy es
-living-along es = along es true ∙ whole (last (keep tells es))
+pub living-along : (n : Nation) → livesAlong true (n .entries) ≡ isLiving n
+unfolding isLiving
+living-along n = along (n .entries) true ∙ whole (last (keep tells (n .entries)))
 
 -- ## Of the entry words from a number on
 
@@ -64,15 +65,15 @@ module _ (es : List ℕ) where
       → livesFrom b (at + 1) end ≡ livesFrom living at end
   lives-next living at end x h e k = let n : end - at ≡ suc (end - (at + 1)) = omega arith in rw (n, k, e, add-one at)
 
-  -- All entries from a number on.
-  pub living-from : (first count : ℕ) → livesFrom true first (first + count) ≡ livingBy (entriesAt es first count)
-  living-from first count = let n : first + count - first ≡ count = omega arith in rw n (living-along (entriesAt es first count))
+  -- All entries that a row points at.
+  pub living-from : (r : NationRow) → livesFrom true (r .first) (r .first + r .count) ≡ isLiving (nationWith es r)
+  living-from r = let n : r .first + r .count - r .first ≡ r .count = omega arith in rw n (living-along (nationWith es r))
 
 -- ## The cells of all nations
 
 module _ (ws es : List ℕ) where
   length-living : (n : ℕ) → length (livingCells ws es 0 n) ≡ n
-  length-living n = length-numbered (λ (i : ℕ). livingBy (entriesAt es (nationRowAt ws i .first) (nationRowAt ws i .count))) 0 n
+  length-living n = length-numbered (λ (i : ℕ). isLiving (nationNumbered ws es i)) 0 n
 
   pub living-filled : (n m : ℕ) (cells₀ cells : List Bool) → n ≡ m → cells ≡ livingCells ws es 0 n ++ drop (length (livingCells ws es 0 n)) cells₀
       → cells ≡ livingCells ws es 0 m ++ drop m cells₀
@@ -88,7 +89,6 @@ module _ (ws es : List ℕ) where
 
     -- Of a well-shaped chronicle they are its nations' by the rule.
     pub living-all : wellShaped ws es ≡ true → take rows cells ≡ map isLiving (nationsIn ws es)
-    unfolding isLiving
     living-all shaped =
         ap (take rows) w ∙ take-at (livingCells ws es 0 rows) (drop rows cells₀) rows (length-living rows)
         ∙ sym (ap (map isLiving) (nations-numbered ws es shaped) ∙ map-then (nationNumbered ws es) isLiving (numbersFrom 0 rows))

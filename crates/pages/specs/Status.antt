@@ -1,11 +1,12 @@
 -- A nation's status along its entries: inner steps, which no promise of a call of 01 cites.
-use mathlib.Core.Bool.{Bool, true, false, not, _||_}
+use mathlib.Core.Bool.{Bool, true, false}
 use mathlib.Core.List.{List, [], _∷_, map}
 use Prim.Native.Nat.{ℕ}
-use Rattle.lists.specs.Lists.{keep, last, numbersFrom}
-use Rattle.rules.specs.Chronicle.{Kind, switch, appeared, annexed, isAppeared, isAnnexed, Entry}
-use Rattle.rules.specs.Page.{endsAnnexed}
-use Rattle.chronicle_rows.specs.RowAt.{nationRowAt, entriesAt}
+use Rattle.lists.specs.Lists.{numbersFrom}
+use Rattle.rules.specs.Chronicle.{Kind, switch, appeared, annexed, Entry, Nation}
+use Rattle.rules.specs.NationRows.{NationRow}
+use Rattle.rules.specs.Page.{isLiving}
+use Rattle.chronicle_rows.specs.RowAt.{entriesAt, nationNumbered}
 
 -- Living or not behind an entry.
 abbrev pub livesOn : Bool → Kind → Bool
@@ -18,10 +19,10 @@ abbrev pub livesAlong : Bool → List Entry → Bool
 livesAlong living [] = living
 livesAlong living (e ∷ es) = livesAlong (livesOn living (e .kind)) es
 
--- The rule, of a nation's entries.
-abbrev pub livingBy : List Entry → Bool
-livingBy es = not (endsAnnexed (last (keep (λ e. isAppeared (e .kind) || isAnnexed (e .kind)) es)))
+-- The nation of a row, with the entries that the row points at.
+abbrev pub nationWith : List ℕ → NationRow → Nation
+nationWith es r = record { initial = r .initial; latest = r .latest; stored = r .stored; entries = entriesAt es (r .first) (r .count) }
 
--- Which of so many nations from a number on are living.
+-- Which of so many nations from a number on are living, by the rule.
 abbrev pub livingCells : List ℕ → List ℕ → ℕ → ℕ → List Bool
-livingCells ws es a n = map (λ i. livingBy (entriesAt es (nationRowAt ws i .first) (nationRowAt ws i .count))) (numbersFrom a n)
+livingCells ws es a n = map (λ i. isLiving (nationNumbered ws es i)) (numbersFrom a n)

@@ -9,9 +9,9 @@ ghost use mathlib.Core.List.{_++_};
 ghost use Prim.Native.Nat.{_≤_};
 ghost use lib.ListN.{length, drop};
 ghost use Rattle.rules.specs.NationRows.{nationRowsIn};
-ghost use Rattle.chronicle_rows.specs.Cases.{kindTold};
-ghost use Rattle.chronicle_rows.specs.RowAt.{entriesAt};
-ghost use Rattle.pages.specs.Status.{livesOn, livingBy, livingCells};
+ghost use Rattle.rules.specs.Page.{isLiving};
+ghost use Rattle.chronicle_rows.specs.Cases.{kindTold, nationTold};
+ghost use Rattle.pages.specs.Status.{livesOn, nationWith, livingCells};
 
 // Whether it lives on behind an entry of this kind: a switch changes nothing.
 fn lives_on(living: bool, kind: Kind) -> bool
@@ -26,7 +26,7 @@ fn lives_on(living: bool, kind: Kind) -> bool
 
 // Whether a nation is living: unless Annexed came last of what is no switch.
 fn is_living(entries: &[u32], nation: Nation) -> bool
-    ensures { λ r. ⌜ r ≡ livingBy (entriesAt (now (entries .entry)) (nation .first) (nation .count)) ⌝ }
+    ensures { λ r. ⌜ r ≡ isLiving (nationWith (now (entries .entry)) (nationTold nation)) ⌝ }
 {
     let mut at = nation.first as usize;
     let end = at + nation.count as usize;

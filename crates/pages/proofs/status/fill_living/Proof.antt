@@ -4,8 +4,8 @@ use Prim.Native.Nat.{_-_, _<_, _≤_}
 use native.Mathlib.Omega.{arith}
 use lib.ListN.{length}
 use Rattle.lists.proofs.FillLaws.{Filling, filling-room, filling-put, filling-written}
-use Rattle.chronicle_rows.specs.RowAt.{entriesAt}
-use Rattle.pages.specs.Status.{livingBy, livingCells}
+use Rattle.rules.specs.Page.{isLiving}
+use Rattle.pages.specs.Status.{nationWith, livingCells}
 use Rattle.page_text.proofs.StoredLaws.{numbered-start, numbered-next, numbered-none}
 use Rattle.pages.proofs.StatusLaws.{living-filled}
 use borrow.Author.Needs.{needs}
@@ -49,7 +49,7 @@ loop-again : tie.Need-loop-again Inv-loop μ-loop
 loop-again c =
     let l = c .before .before .before .loop in
     filling-put _ _ _ _ _ (l .inv) _ _ (numbered-next _ _ _ (c .before .before .loop-test .taken)) _
-    (c .is-living .ensures ∙ ap (λ r. livingBy (entriesAt (c .before .before .before .before .before .before .before .before .args .entries .now) (r .first) (r .count))) (c .before .nation-at .ensures))
+    (c .is-living .ensures ∙ ap (λ r. isLiving (nationWith (c .before .before .before .before .before .before .before .before .args .entries .now) r)) (c .before .nation-at .ensures))
 
 same-length : tie.Need-same-length Inv-loop μ-loop
 same-length c = search needs

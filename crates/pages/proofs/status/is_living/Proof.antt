@@ -4,7 +4,7 @@ use mathlib.Core.Bool.{true}
 use Prim.Native.Nat.{_+_, _-_}
 use native.Mathlib.Omega.{arith}
 use borrow.Author.Needs.{needs}
-use Rattle.chronicle_rows.specs.RowAt.{entriesAt}
+use Rattle.chronicle_rows.specs.Cases.{nationTold}
 use Rattle.pages.proofs.StatusLaws.{livesFrom, lives-end, lives-next, living-from}
 use Rattle.pages.proofs.status.is_living.Statement.{statement}
 use Rattle.pages.proofs.status.is_living.Tie as tie
@@ -53,7 +53,7 @@ returns c =
     let args = c .before .before .before .before .before .args in
     sym (lives-end (args .entries .now) (loop .living) (loop .at) (args .nation .first + args .nation .count) (omega arith))
     ∙ loop .inv
-    ∙ living-from (args .entries .now) (args .nation .first) (args .nation .count)
+    ∙ living-from (args .entries .now) (nationTold (args .nation))
 
 pub is-living-spec : {M : Type 1} → statement M
 is-living-spec =
