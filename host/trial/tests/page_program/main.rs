@@ -3,7 +3,8 @@
 
 use std::fs::{create_dir, write, File, OpenOptions};
 use std::io::Write;
-use std::process::{Output, Stdio};
+use std::path::{Path, PathBuf};
+use std::process::{Command, Output, Stdio};
 use std::thread::sleep;
 use std::time::Duration;
 
@@ -126,6 +127,42 @@ fn input_that_fails() {
     }
 }
 
+/// A read that fails behind some bytes: of the file, which then counts as empty, though the bytes before it were a whole
+/// record; and of the input, whose tags up to there are read.
+#[test]
+fn reads_that_fail_behind_some_bytes() {
+    let folder = with(sample::WORKED);
+    let failing = failing_read();
+    let run = |which: &str, bytes: &str| {
+        let mut program = folder.program();
+        program.env("LD_PRELOAD", &failing).env("READ_FAILS", which).env("READ_GIVES", bytes);
+        let mut child = program.spawn().expect("the program has been built");
+        child.stdin.take().expect("a pipe").write_all(b"GBR\nFRA\n").expect("a pipe has room");
+        child.wait_with_output().expect("the program ends")
+    };
+    prints(&run("file", "50"), "refused 1\n");
+    prints(&run("file", "103"), "refused 1\n");
+    for (bytes, page) in
+        [("4", "selected 1\nGBR ENG GBR 3 living\n"), ("8", TWO), ("3", "refused 12\n")]
+    {
+        let output = run("input", bytes);
+        assert_eq!(String::from_utf8_lossy(&output.stdout), page, "{bytes} bytes");
+        let said = String::from_utf8_lossy(&output.stderr);
+        assert_eq!(said, "page: the input cannot be read\n", "{bytes} bytes");
+    }
+}
+
+/// A `read` that fails when it is told to.
+fn failing_read() -> PathBuf {
+    let library = Path::new(env!("CARGO_TARGET_TMPDIR")).join("failing_read.so");
+    let source = Path::new(env!("CARGO_MANIFEST_DIR")).join("tests/page_program/failing_read.c");
+    let mut compile = Command::new(std::env::var("CC").unwrap_or_else(|_| "cc".to_string()));
+    compile.args(["-shared", "-fPIC", "-o"]).arg(&library).arg(&source).arg("-ldl");
+    let status = compile.status().expect("there is a compiler `cc`, or one named by CC");
+    assert!(status.success(), "{compile:?}");
+    library
+}
+
 /// Nobody can write to /dev/full, nor to a closed output: standard error says so. The status of a program is 0.
 #[test]
 fn output_that_fails() {
@@ -140,7 +177,7 @@ fn output_that_fails() {
 
 fn through_shell(folder: &Folder, command: &str) -> Output {
     let program = folder.program().get_program().to_os_string();
-    let mut shell = std::process::Command::new("sh");
+    let mut shell = Command::new("sh");
     shell.args(["-c", command]).arg(program).current_dir(folder.path());
     shell.stdin(Stdio::null()).output().expect("there is a shell")
 }
