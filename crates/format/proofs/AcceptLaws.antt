@@ -6,13 +6,12 @@ use Prim.Native.Nat.{ℕ, _<_, _≤_}
 use native.Mathlib.Omega.{arith}
 use borrow.Author.Tests.{eqb-true, ltb-false}
 use lib.Dec.{eqb, ltb}
-use lib.ListN.{length}
 use Rattle.lists.proofs.BoolLaws.{neither}
 use Rattle.format.specs.Head.{headOf}
 use Rattle.format.specs.Laid.{Laid}
 use Rattle.format.specs.Refusal.{refusal, opens, sizesAgree, fieldsNumber, tagTwice, idTwiceOrAbove}
 use Rattle.format.proofs.FirstLaws.{first-zero}
-use Rattle.format.proofs.SizeLaws.{opens-long, laid}
+use Rattle.format.proofs.SizeLaws.{laid}
 
 pub record Accepted (xs : List ℕ) : Type 0 where
   pub opened : opens xs ≡ true
@@ -51,9 +50,6 @@ accepted xs h =
       idsOnce = once .1;
       order = ltb-false (headOf xs .current .0) (headOf xs .start .0) (number-false (ltb (headOf xs .current .0) (headOf xs .start .0)) 8 (omega arith) (f .0));
     }
-
-pub accepted-long : (xs : List ℕ) → Accepted xs → 44 ≤ length xs
-accepted-long xs a = opens-long xs (a .opened)
 
 pub accepted-laid : (xs : List ℕ) → Accepted xs → Laid xs (headOf xs)
 accepted-laid xs a = laid xs (headOf xs) refl (a .sizes)

@@ -1,6 +1,5 @@
 pub mod Computes
 pub mod FormatCases
-pub mod FlagLaws
 pub mod RowLaws
 pub mod CampaignLaws
 pub mod FirstLaws

@@ -4,16 +4,16 @@ use mathlib.Core.List.{List, [], _∷_, map}
 use Prim.Native.Nat.{ℕ, zero, suc, _+_, _-_, _<_, _≤_}
 use native.Mathlib.Omega.{arith}
 use lib.ListN.{length}
-use borrow.Author.Tests.{leb-true, eqb-true, ne-eqb}
+use borrow.Author.Tests.{eqb-true, ne-eqb}
 use mathlib.Core.Bool.{Bool, true, false, _&&_}
-use lib.Dec.{leb, eqb}
+use lib.Dec.{eqb}
 use Rattle.lists.specs.Lists.{sumOf}
 use Rattle.lists.proofs.BoolLaws.{and-left, and-right, and-false}
 use Rattle.format.specs.declared.head.Head.{Head}
 use Rattle.format.specs.Head.{headOf, withinLimits, stringsAt}
 use Rattle.format.specs.Laid.{Laid}
 use Rattle.format.specs.Campaign.{countryRows, provinceRows, warRows, ledgerRows}
-use Rattle.format.specs.Refusal.{opens, totalsAgree, lengthAgrees, sizesAgree}
+use Rattle.format.specs.Refusal.{totalsAgree, lengthAgrees, sizesAgree}
 use Rattle.format.specs.Bytes.{byteAt}
 use Rattle.format.specs.Rows.{rowsAt, stringsEnd}
 use Rattle.format.proofs.RowLaws.{rows-none, rows-more, map-rows-same}
@@ -104,7 +104,3 @@ laid xs k e h =
       limits = ap withinLimits e ∙ and-left w t (and-left (w && t) l h);
       inside = rw e (omega (arith, same, strings-end-grows xs (stringsAt (headOf xs)) (headOf xs .strings)));
     }
-
-pub opens-long : (xs : List ℕ) → opens xs ≡ true → 44 ≤ length xs
-unfolding opens
-opens-long xs h = leb-true 44 (length xs) (and-left (leb 44 (length xs)) (eqb (byteAt xs 0) 65 && eqb (byteAt xs 1) 84 && eqb (byteAt xs 2) 76) h)

@@ -1,42 +1,18 @@
-// The packed record's types, its head and opening, and the tests of single fields: all that needs no row.
+// The packed record's types, with the rules of dates and tags. What a record is stands in specs; crate head has the tests of its head and of single fields.
 mod date;
-mod flags;
 mod head;
 mod rows;
-mod sections;
 mod tag;
 
 pub use date::Dated;
 pub use date::Eu4Date;
 pub use date::month_days;
-pub use flags::bit0;
-pub use flags::bit1;
-pub use flags::bit2;
-pub use flags::country_flags_defined;
-pub use flags::head_flags_defined;
 pub use head::Head;
-pub use head::ends_early;
-pub use head::head_number;
-pub use head::opens_record;
-pub use head::version_known;
-pub use head::within_limits;
 pub use rows::OwnerEvent;
 pub use rows::Point;
 pub use rows::ProvinceId;
 pub use rows::Switch;
 pub use rows::WarEvent;
-pub use rows::kind_defined;
-pub use rows::year_allowed;
-pub use sections::COUNTRIES_AT;
-pub use sections::events_at;
-pub use sections::ledgers_at;
-pub use sections::points_at;
-pub use sections::previous_at;
-pub use sections::provinces_at;
-pub use sections::strings_at;
-pub use sections::switches_at;
-pub use sections::war_events_at;
-pub use sections::wars_at;
 pub use tag::CountryTag;
 pub use tag::Created;
 pub use tag::tag_byte;

@@ -1,8 +1,7 @@
-// The rows that own nothing, and which numbers stand in them. A row that owns others comes with a cursor over them.
+// The rows that own nothing. A row that owns others comes with a cursor over them.
 use crate::date::Eu4Date;
 use crate::tag::CountryTag;
 ghost use mathlib.Core.Path.{_≡_};
-ghost use lib.Dec.{leb};
 
 // A province's number, from 0 to the number of provinces in an accepted record.
 pub struct ProvinceId(pub(crate) u32);
@@ -42,22 +41,8 @@ pub struct WarEvent {
     pub tag: CountryTag,
 }
 
-// War events have kinds 0 to 4.
-pub fn kind_defined(kind: u32) -> bool
-    ensures { λ r. ⌜ r ≡ leb kind 4 ⌝ }
-{
-    kind <= 4
-}
-
 // A ledger's value in a year; the value is signed, as a word in two's complement.
 pub struct Point {
     pub year: u32,
     pub value: u32,
-}
-
-// A point's year has four digits at most.
-pub fn year_allowed(year: u32) -> bool
-    ensures { λ r. ⌜ r ≡ leb year 9999 ⌝ }
-{
-    year <= 9999
 }

@@ -1,6 +1,6 @@
--- A step of each cursor whose rows own others, and the head with its cursors, as laws over plain values: a function's proof cites them with
+-- A step of each cursor whose rows own others, as laws over plain values: a function's proof cites them with
 -- what its calls promise, and nothing is rewritten in the function's own terms, which are large.
-use mathlib.Core.Path.{_≡_, refl}
+use mathlib.Core.Path.{_≡_}
 use mathlib.Core.Bool.{Bool, false, not}
 use mathlib.Core.List.{List, _∷_}
 use Prim.Native.Nat.{ℕ, _+_}
@@ -8,11 +8,8 @@ use native.Mathlib.Omega.{arith}
 use lib.IntN.{ℤ}
 use lib.ListN.{length}
 use Rattle.format.specs.declared.tag.CountryTag.{CountryTag}
-use Rattle.format.specs.declared.date.Eu4Date.{Eu4Date}
 use Rattle.format.specs.declared.rows.ProvinceId.{ProvinceId}
-use Rattle.format.specs.declared.head.Head.{Head}
-use Rattle.format.specs.Bytes.{byteAt, le16, le32, signed32, bit, tagAt, dateAt, idAt}
-use Rattle.format.specs.Head.{headOf}
+use Rattle.format.specs.Bytes.{byteAt, le16, le32, signed32, bit, tagAt, idAt}
 use Rattle.format.specs.Rows.{countryAt, switchAt, provinceAt, ownerEventAt, warEventAt, ledgerAt, pointAt}
 use Rattle.format.specs.Campaign.{groupCountries, groupProvinces, groupWars, groupLedgers}
 use Rattle.record.specs.declared.runs.Run.{Run}
@@ -91,28 +88,3 @@ module _ (xs : List ℕ) {b : Bool} where
         run-take (warEventAt xs),
         run-drop (warEventAt xs) 8 xs (c .events) (le16 xs (c .rows .at)) (omega arith),
       ))
-
--- The head of its fields.
-pub head-told : (xs : List ℕ) {v f c p a s e n w we g y : ℕ} {start current : Eu4Date}
-    → v ≡ le16 xs 3 → f ≡ byteAt xs 5 → start ≡ dateAt xs 6 → current ≡ dateAt xs 10 → c ≡ le16 xs 14 → p ≡ le16 xs 16 → a ≡ le32 xs 18
-    → s ≡ le32 xs 22 → e ≡ le32 xs 26 → n ≡ le16 xs 30 → w ≡ le16 xs 32 → we ≡ le32 xs 34 → g ≡ le16 xs 38 → y ≡ le32 xs 40
-    → _≡_ {A = Head}
-    (record {
-      version = v;
-      flags = f;
-      start = start;
-      current = current;
-      countries = c;
-      provinces = p;
-      previous = a;
-      switches = s;
-      events = e;
-      strings = n;
-      wars = w;
-      «war_events» = we;
-      ledgers = g;
-      points = y;
-    })
-    (headOf xs)
-unfolding headOf
-head-told xs ev ef es ec e1 e2 e3 e4 e5 e6 e7 e8 e9 e10 = rw (ev, ef, es, ec, e1, e2, e3, e4, e5, e6, e7, e8, e9, e10)

@@ -1,17 +1,11 @@
-// The packed record of a campaign: its check, and its rows for the layer above. Types and tests of single fields stand in crate format.
+// The packed record of a campaign: its check, and its rows for the layer above. Crates format, head, record_fields and record_check have its
+// types, its head, the numbers of its fields, and the check.
 mod bytes;
 mod cursors;
-mod fields;
-mod head;
 mod ledger;
 mod opened;
-mod refusal;
-mod repeats;
 mod runs;
-mod sizes;
-mod tables;
 mod texts;
-mod years;
 
 pub use cursors::Countries;
 pub use cursors::CountryRow;
@@ -46,7 +40,7 @@ pub use ledger::Points;
 pub use opened::Opened;
 pub use opened::Record;
 pub use opened::open_record;
-pub use refusal::check;
+pub use record_check::check;
 pub use texts::NextString;
 pub use texts::Strings;
 pub use texts::Text;

@@ -2,9 +2,7 @@
 use crate::cursors::Countries;
 use crate::cursors::Provinces;
 use crate::cursors::Wars;
-use crate::head;
 use crate::ledger::Ledgers;
-use crate::refusal;
 use crate::runs::Run;
 use crate::texts::Strings;
 use format::Eu4Date;
@@ -35,15 +33,15 @@ fn countries_from(h: Head) -> Countries
 {
     Countries {
         rows: Run {
-            at: format::COUNTRIES_AT,
+            at: head::COUNTRIES_AT,
             left: h.countries as usize,
         },
         previous: Run {
-            at: format::previous_at(h),
+            at: head::previous_at(h),
             left: h.previous as usize,
         },
         switches: Run {
-            at: format::switches_at(h),
+            at: head::switches_at(h),
             left: h.switches as usize,
         },
     }
@@ -54,11 +52,11 @@ fn provinces_from(h: Head) -> Provinces
 {
     Provinces {
         rows: Run {
-            at: format::provinces_at(h),
+            at: head::provinces_at(h),
             left: h.provinces as usize,
         },
         events: Run {
-            at: format::events_at(h),
+            at: head::events_at(h),
             left: h.events as usize,
         },
     }
@@ -69,11 +67,11 @@ fn wars_from(h: Head) -> Wars
 {
     Wars {
         rows: Run {
-            at: format::wars_at(h),
+            at: head::wars_at(h),
             left: h.wars as usize,
         },
         events: Run {
-            at: format::war_events_at(h),
+            at: head::war_events_at(h),
             left: h.war_events as usize,
         },
     }
@@ -84,11 +82,11 @@ fn ledgers_from(h: Head) -> Ledgers
 {
     Ledgers {
         rows: Run {
-            at: format::ledgers_at(h),
+            at: head::ledgers_at(h),
             left: h.ledgers as usize,
         },
         points: Run {
-            at: format::points_at(h),
+            at: head::points_at(h),
             left: h.points as usize,
         },
     }
@@ -98,7 +96,7 @@ fn strings_from(h: Head) -> Strings
     ensures { λ r. ⌜ r ≡ recordAt h .strings ⌝ }
 {
     Strings(Run {
-        at: format::strings_at(h),
+        at: head::strings_at(h),
         left: h.strings as usize,
     })
 }
@@ -107,7 +105,7 @@ fn strings_from(h: Head) -> Strings
 pub fn open_record(s: &[u8]) -> Opened
     ensures { λ r. ⌜ RightlyOpened (now (s .entry)) r ⌝ }
 {
-    let number = refusal::check(s);
+    let number = record_check::check(s);
     if number != 0 {
         return Opened::Refused(number);
     }
@@ -115,8 +113,8 @@ pub fn open_record(s: &[u8]) -> Opened
     let start = h.start;
     let current = h.current;
     Opened::Accepted(Record {
-        ironman: format::bit0(h.flags),
-        multiplayer: format::bit1(h.flags),
+        ironman: head::bit0(h.flags),
+        multiplayer: head::bit1(h.flags),
         start,
         current,
         countries: countries_from(h),

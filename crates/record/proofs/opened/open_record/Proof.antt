@@ -1,6 +1,5 @@
 -- A refused record gives its number; an accepted one has a head, whose cursors have left the campaign's rows.
 use mathlib.Core.Path.{sym, _∙_}
-use Rattle.format.proofs.AcceptLaws.{accepted, accepted-long}
 use Rattle.record.proofs.OpenedLaws.{record-told, rightly-opened}
 use borrow.Author.Needs.{needs}
 use Rattle.record.proofs.opened.open_record.Statement.{statement}
@@ -13,7 +12,7 @@ returns : tie.Need-returns
 returns c = search needs
 
 read-head-requires : tie.Need-read-head-requires
-read-head-requires c κs = accepted-long _ (accepted _ (sym (c .before .check .ensures) ∙ c .if1 .left))
+read-head-requires c κs = tt
 
 bit0-requires : tie.Need-bit0-requires
 bit0-requires c κs = tt

@@ -1,0 +1,32 @@
+// The head of a packed record: how it is read from bytes, the tests of its numbers and of single fields, and where each section begins.
+mod bytes;
+mod flags;
+mod numbers;
+mod opening;
+mod sections;
+
+pub use bytes::byte;
+pub use bytes::tag_at;
+pub use bytes::u16_at;
+pub use flags::bit0;
+pub use flags::bit1;
+pub use flags::bit2;
+pub use flags::country_flags_defined;
+pub use numbers::kind_defined;
+pub use numbers::year_allowed;
+pub use opening::ends_early;
+pub use opening::head_number;
+pub use opening::opens_record;
+pub use opening::read_head;
+pub use opening::version_known;
+pub use opening::within_limits;
+pub use sections::COUNTRIES_AT;
+pub use sections::events_at;
+pub use sections::ledgers_at;
+pub use sections::points_at;
+pub use sections::previous_at;
+pub use sections::provinces_at;
+pub use sections::strings_at;
+pub use sections::switches_at;
+pub use sections::war_events_at;
+pub use sections::wars_at;
