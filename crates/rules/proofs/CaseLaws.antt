@@ -1,20 +1,23 @@
 -- The computed cases hold of the definitions. An edit of a rule that changes one of them is refused here.
-use mathlib.Core.Path.{_≡_, refl}
+use mathlib.Core.Path.{_≡_, refl, ap}
 use mathlib.Core.List.{List}
+use mathlib.Core.Option.{some}
 use Prim.Native.Nat.{ℕ}
 use lib.ListN.{length}
 use Rattle.lists.specs.Lists.{joinOf}
+use Rattle.lists.specs.Text.{ascii}
 use Rattle.format.specs.Campaign.{Campaign, campaignOf}
 use Rattle.format.specs.Refusal.{refusal, firstOf}
+use Rattle.rules.specs.Lent.{answered}
 use Rattle.rules.specs.Changes.{changesOf}
 use Rattle.rules.specs.Nations.{nationsOf}
-use Rattle.rules.specs.Page.{selectionOf}
-use Rattle.rules.specs.PageOutcomes.{bytesNumber, selectionNumber, limitsNumber, pageNumber}
+use Rattle.rules.specs.Page.{selectionOf, digits, line}
+use Rattle.rules.specs.PageOutcomes.{bytesNumber, selectionNumber, limitsNumber, pageNumber, pageOf, printed, callProgram}
 use Rattle.rules.specs.cases.CaseForms.{Hold}
 use Rattle.rules.specs.cases.RecordCases.{changeCases, eventsOnCases, nationCases, holderCases, wornCases, dayCases, countedCases}
 use Rattle.rules.specs.cases.LentCases.{resolveCases, dayResolveCases, askedCases, shapeCases, misshapenCases, bookingCases, ledgerCases}
 use Rattle.rules.specs.cases.PlayerCases.{playerCases, releaseCases, historyCases, startingCases, startingShapeCases}
-use Rattle.rules.specs.cases.PageCases.{pageCases, pageRoomCases, bytesCases}
+use Rattle.rules.specs.cases.PageCases.{pageCases, pageRoomCases}
 use Rattle.rules.proofs.Computes.{computes}
 
 pub changes : Hold changeCases × Hold eventsOnCases
@@ -53,9 +56,9 @@ pub starting : Hold startingCases × Hold startingShapeCases
 unfolding computes startingCases startingShapeCases
 starting = ((refl, (refl, (refl, (refl, (refl, (refl, tt)))))), (refl, (refl, (refl, (refl, (refl, (refl, tt)))))))
 
-pub page : Hold pageCases × Hold pageRoomCases × Hold bytesCases
-unfolding computes pageCases pageRoomCases bytesCases
-page = ((refl, (refl, (refl, (refl, (refl, (refl, (refl, (refl, (refl, (refl, (refl, tt))))))))))), (refl, (refl, (refl, tt))), (refl, (refl, (refl, tt))))
+pub page : Hold pageCases × Hold pageRoomCases
+unfolding computes pageCases pageRoomCases
+page = ((refl, (refl, (refl, (refl, (refl, (refl, (refl, (refl, (refl, (refl, (refl, tt))))))))))), (refl, (refl, (refl, tt))))
 
 -- All of them.
 pub cases :
@@ -68,7 +71,7 @@ pub cases :
     × Hold ledgerCases
     × (Hold playerCases × Hold releaseCases × Hold historyCases)
     × (Hold startingCases × Hold startingShapeCases)
-    × (Hold pageCases × Hold pageRoomCases × Hold bytesCases)
+    × (Hold pageCases × Hold pageRoomCases)
 cases = (changes, nations, days, resolver, shapes, bookings, ledger, players, starting, page)
 
 -- Campaigns at the page's limits are too large to compute with: these hold of any campaign of that size.
@@ -87,6 +90,24 @@ module _ (c : Campaign) where
   pub entries-over : length (changesOf c) ≡ 4000 → entries ≡ 5001 → limitsNumber c ≡ 10
   unfolding limitsNumber
   entries-over h k = simp (h, k)
+
+-- Likewise bytes beyond the limit, of a record and of a selection: they are found before all else, and at the limit they are not.
+module _ (xs selection : List ℕ) where
+  pub record-over : length xs ≡ 65537 → pageNumber xs selection ≡ 10
+  unfolding pageNumber firstOf bytesNumber
+  record-over h = simp h
+
+  pub selection-over : length xs ≡ 65536 → length selection ≡ 65537 → pageNumber xs selection ≡ 10
+  unfolding pageNumber firstOf bytesNumber
+  selection-over h k = simp (h, k)
+
+  pub over-printed : pageNumber xs selection ≡ 10 → callProgram (some xs) selection ≡ ascii "refused 10\n"
+  unfolding callProgram line digits
+  over-printed h = ap (λ n. printed (answered n (pageOf xs selection))) h
+
+  pub bytes-within : length xs ≡ 65536 → length selection ≡ 65536 → bytesNumber xs selection ≡ 0
+  unfolding bytesNumber
+  bytes-within h k = simp (h, k)
 
 -- Likewise of a record of that size: a selection that is no tags is found before the record's limits.
 pub tags-before-limits : (xs selection : List ℕ) → bytesNumber xs selection ≡ 0 → refusal xs ≡ 0 → selectionNumber (selectionOf selection) ≡ 12

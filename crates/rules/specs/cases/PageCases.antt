@@ -43,11 +43,3 @@ pageRoomCases =
     ∷ case (callPage worked (ascii "FRA\n") (sevens 31)) (kept 10 31)
     ∷ case (callPage worked (ascii "FRA") (sevens 5)) (kept 12 5)
     ∷ []
-
--- Bytes beyond the limit, of a record and of a selection, are found before all else; at the limit they are not.
-unfoldable pub bytesCases : List (Case (List ℕ))
-bytesCases =
-    case (callProgram (some (replicate 65537 0)) []) (ascii "refused 10\n")
-    ∷ case (callProgram (some []) (replicate 65537 0)) (ascii "refused 10\n")
-    ∷ case (callProgram (some (replicate 65536 0)) (replicate 65536 0)) (ascii "refused 1\n")
-    ∷ []
