@@ -22,7 +22,7 @@ use Rattle.nation_tables.specs.declared.gathering.Beginning as Beginning
 use Rattle.nation_tables.specs.declared.gathering.Sizes.{Sizes}
 use Rattle.nation_tables.specs.declared.gathering.TableSizes.{TableSizes}
 use Rattle.nation_tables.specs.declared.gathering.TablesGathered as TablesGathered
-use Rattle.nation_tables.specs.Layout.{mostCountries, mostSwitches, mostSettling, mostSlots}
+use Rattle.nation_tables.specs.Layout.{mostCountries, mostSwitches, mostSettling, mostSlots, rowsWithin}
 use Rattle.nation_tables.specs.Countries.{tagWords, initialWords, rowKeys, switchKeysFrom, settlingKeysFrom, settlingKeys, Keyed}
 use Rattle.nation_tables.specs.Turning.{highHalves, lowHalves, Linked, TurnsLinked, Rowed, rowTurnsOf}
 use Rattle.nation_tables.specs.Holders.{startedOf, slotCells}
@@ -131,29 +131,29 @@ abbrev pub beginningTold : List ℕ → Beginning.Beginning → Type 0
 beginningTold xs (Beginning.the-variants.At from) = Begun xs from
 beginningTold xs (Beginning.the-variants.Refused n) = (0 < n) × (n ≡ refusal xs)
 
--- Room for the tables of any record.
-pub record TableRoom (words₀ initials₀ switches₀ keys₀ cells₀ slots₀ started₀ turns₀ firsts₀ : List ℕ) : Type 0 where
+-- Room for the tables of any record of so many bytes.
+pub record TableRoom (bytes : ℕ) (words₀ initials₀ switches₀ keys₀ cells₀ slots₀ started₀ turns₀ firsts₀ : List ℕ) : Type 0 where
   pub words : mostCountries ≤ length words₀
   pub initials : mostCountries ≤ length initials₀
-  pub switches : mostSettling ≤ length switches₀
-  pub keys : mostChanges ≤ length keys₀
-  pub cells : mostChanges ≤ length cells₀
+  pub switches : rowsWithin mostSettling bytes ≤ length switches₀
+  pub keys : rowsWithin mostChanges bytes ≤ length keys₀
+  pub cells : rowsWithin mostChanges bytes ≤ length cells₀
   pub slots : mostSlots ≤ length slots₀
   pub started : mostCountries ≤ length started₀
-  pub turns : mostChanges ≤ length turns₀
+  pub turns : rowsWithin mostChanges bytes ≤ length turns₀
   pub firsts : mostCountries ≤ length firsts₀
 
 -- The same by lengths.
-abbrev pub roomOf : ℕ → ℕ → ℕ → ℕ → ℕ → ℕ → ℕ → ℕ → ℕ → Bool
-roomOf words initials switches keys cells slots started turns firsts =
+abbrev pub roomOf : ℕ → ℕ → ℕ → ℕ → ℕ → ℕ → ℕ → ℕ → ℕ → ℕ → Bool
+roomOf bytes words initials switches keys cells slots started turns firsts =
     leb mostCountries words
     && leb mostCountries initials
-    && leb mostSettling switches
-    && leb mostChanges keys
-    && leb mostChanges cells
+    && leb (rowsWithin mostSettling bytes) switches
+    && leb (rowsWithin mostChanges bytes) keys
+    && leb (rowsWithin mostChanges bytes) cells
     && leb mostSlots slots
     && leb mostCountries started
-    && leb mostChanges turns
+    && leb (rowsWithin mostChanges bytes) turns
     && leb mostCountries firsts
 
 -- The tables of an accepted record at the fronts of their cells, the targets in front of those that served the sorts; and how many there are.
@@ -163,7 +163,7 @@ pub record Gathered (xs : List ℕ) (z : TableSizes) (provinces₀ : Provinces) 
   pub countries : z .countries ≡ length (campaignOf xs .countries)
   pub changes : z .changes ≡ length (changesOf (campaignOf xs))
   pub slotted : z .slots ≡ suc (length (campaignOf xs .provinces))
-  pub fewSwitches : z .switches ≤ mostSwitches
+  pub switches : z .switches ≡ length (switchKeysFrom 0 (campaignOf xs .countries))
   pub cells : CampaignCells (campaignOf xs) (frontsOf z words₁ initials₁ runs₁ targets₁ firsts₁ started₁ keys₁ turns₁)
   pub sorted : take (z .changes) keys₁ ≡ sortBy leb (changeKeysFrom 0 (entered xs))
   pub slots : take (z .slots) slots₁ ≡ slotCells (campaignOf xs) (holdersOf (campaignOf xs))

@@ -15,7 +15,7 @@ use Rattle.rules.specs.Chronicle.{Change}
 use Rattle.rules.specs.Lent.{written}
 use Rattle.rules.specs.Changes.{changesOf}
 use Rattle.rules.specs.Nations.{matches, startHolders, allSwitches, settles, holdersOf}
-use Rattle.owner_changes.specs.ChangeSteps.{entered, mostChanges, perId, changeKeysFrom}
+use Rattle.owner_changes.specs.ChangeSteps.{entered, perId, changeKeysFrom}
 use Rattle.nation_tables.specs.Layout.{mostSlots, wordSpan, half, cellRows, nobodyCell}
 use Rattle.nation_tables.specs.Countries.{tagWords, initialWords, rowKeys, settlingKeys, Keyed, OwnLast}
 use Rattle.nation_tables.specs.Turning.{highHalves, lowHalves, keyDate, rowAmong, RowTurn, rowTurnsOf, Rowed}
@@ -103,12 +103,12 @@ pub record Passed (keys cells slots₀ slots₁ turns₁ : List ℕ) : Type 0 wh
 -- ## All of it
 
 -- Room for every change, a cell for each slot, and one for each country.
-pub record HoldingRoom (c : Campaign) (keys₀ cells₀ slots₀ started₀ turns₀ : List ℕ) : Type 0 where
-  pub keys : mostChanges ≤ length keys₀
-  pub cells : mostChanges ≤ length cells₀
-  pub turns : mostChanges ≤ length turns₀
-  pub slots : length slots₀ ≡ suc (length (c .provinces))
-  pub started : length started₀ ≡ length (c .countries)
+pub record HoldingRoom (xs keys₀ cells₀ slots₀ started₀ turns₀ : List ℕ) : Type 0 where
+  pub keys : length (entered xs) ≤ length keys₀
+  pub cells : length (entered xs) ≤ length cells₀
+  pub turns : length (entered xs) ≤ length turns₀
+  pub slots : length slots₀ ≡ suc (length (campaignOf xs .provinces))
+  pub started : length started₀ ≡ length (campaignOf xs .countries)
 
 -- The slots that each country holds at the start.
 abbrev pub startedOf : Campaign → List ℕ

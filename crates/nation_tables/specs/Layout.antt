@@ -1,7 +1,7 @@
 -- How numbers share keys and cells, and how many of each a record has at most. No public promise cites these: they are how the nations are
 -- computed. A key of 64 bits has room for a row of 11 bits, a date of 27 and the number of a switch of 15, or for a tag of 24, a date and a
 -- row; a cell of 32 bits for two numbers of 16.
-use Prim.Native.Nat.{ℕ}
+use Prim.Native.Nat.{ℕ, _/_, min}
 
 -- ## At most so many of a record
 
@@ -18,6 +18,14 @@ mostSlots = 8001
 -- Changes settle by a key of each switch and one of each country.
 abbrev pub mostSettling : ℕ
 mostSettling = 22000
+
+-- A row of an owner event or of a switch takes so many bytes of a record, and one of a country more.
+abbrev pub rowBytes : ℕ
+rowBytes = 7
+
+-- So a record of so many bytes has at most so many of them, and never more than the most that any record has.
+abbrev pub rowsWithin : ℕ → ℕ → ℕ
+rowsWithin most bytes = min most (bytes / rowBytes)
 
 -- ## Keys
 

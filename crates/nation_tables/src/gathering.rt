@@ -6,6 +6,7 @@ use crate::layout::MOST_COUNTRIES;
 use crate::layout::MOST_SETTLING;
 use crate::layout::MOST_SLOTS;
 use crate::layout::NO_FIRSTS;
+use crate::layout::rows_within;
 use crate::switches;
 use owner_changes::MOST_CHANGES;
 use record::Countries;
@@ -117,8 +118,9 @@ pub enum TablesGathered {
     Refused(u32),
 }
 
-// Whether cells of these lengths suffice for any record.
+// Whether cells of these lengths suffice for any record of so many bytes.
 fn has_cells(
+    bytes: usize,
     words: usize,
     initials: usize,
     switches: usize,
@@ -129,16 +131,17 @@ fn has_cells(
     turns: usize,
     firsts: usize,
 ) -> bool
-    ensures { λ r. ⌜ r ≡ roomOf words initials switches keys cells slots started turns firsts ⌝ }
+    ensures { λ r. ⌜ r ≡ roomOf bytes words initials switches keys cells slots started turns firsts ⌝ }
 {
+    let changes = rows_within(MOST_CHANGES, bytes);
     (MOST_COUNTRIES <= words)
         & (MOST_COUNTRIES <= initials)
-        & (MOST_SETTLING <= switches)
-        & (MOST_CHANGES <= keys)
-        & (MOST_CHANGES <= cells)
+        & (rows_within(MOST_SETTLING, bytes) <= switches)
+        & (changes <= keys)
+        & (changes <= cells)
         & (MOST_SLOTS <= slots)
         & (MOST_COUNTRIES <= started)
-        & (MOST_CHANGES <= turns)
+        & (changes <= turns)
         & (MOST_COUNTRIES <= firsts)
 }
 
@@ -157,7 +160,7 @@ fn fill_all(
     firsts: &mut [u32],
 ) -> TableSizes
     requires { ⌜ Begun (now s) from ⌝ }
-    requires { ⌜ TableRoom (now «tag_words») (now «initial_keys») (now «switch_keys») (now keys) (now cells) (now slots) (now started) (now turns) (now firsts) ⌝ }
+    requires { ⌜ TableRoom (length (now s)) (now «tag_words») (now «initial_keys») (now «switch_keys») (now keys) (now cells) (now slots) (now started) (now turns) (now firsts) ⌝ }
     ensures { λ r. ⌜ Gathered (now (s .entry)) r (from .provinces) (now («tag_words» .exit)) (now («initial_keys» .exit)) (now («switch_keys» .exit)) (now (keys .exit)) (now (cells .exit)) (now (slots .exit)) (now (started .exit)) (now (turns .exit)) (now (firsts .exit)) ⌝ }
 {
     let start = from.start;
@@ -191,7 +194,7 @@ fn fill_all(
 }
 
 // Fills the tables of a record, each at the front of its slice, whatever stood there. A bad record is refused by its number.
-// Promised of slices that are long enough for the largest record.
+// Promised of slices that are long enough for any record of as many bytes.
 pub fn gather_tables(
     s: &[u8],
     tag_words: &mut [u32],
@@ -204,9 +207,10 @@ pub fn gather_tables(
     turns: &mut [u32],
     firsts: &mut [u32],
 ) -> TablesGathered
-    ensures { λ r. ⌜ (TableRoom (now («tag_words» .entry)) (now («initial_keys» .entry)) (now («switch_keys» .entry)) (now (keys .entry)) (now (cells .entry)) (now (slots .entry)) (now (started .entry)) (now (turns .entry)) (now (firsts .entry)) → gatheredTold (now (s .entry)) r (now («tag_words» .exit)) (now («initial_keys» .exit)) (now («switch_keys» .exit)) (now (keys .exit)) (now (cells .exit)) (now (slots .exit)) (now (started .exit)) (now (turns .exit)) (now (firsts .exit))) ⌝ }
+    ensures { λ r. ⌜ (TableRoom (length (now (s .entry))) (now («tag_words» .entry)) (now («initial_keys» .entry)) (now («switch_keys» .entry)) (now (keys .entry)) (now (cells .entry)) (now (slots .entry)) (now (started .entry)) (now (turns .entry)) (now (firsts .entry)) → gatheredTold (now (s .entry)) r (now («tag_words» .exit)) (now («initial_keys» .exit)) (now («switch_keys» .exit)) (now (keys .exit)) (now (cells .exit)) (now (slots .exit)) (now (started .exit)) (now (turns .exit)) (now (firsts .exit))) ⌝ }
 {
     if !has_cells(
+        s.len(),
         tag_words.len(),
         initial_keys.len(),
         switch_keys.len(),

@@ -17,7 +17,7 @@ ghost use mathlib.Core.List.{map};
 ghost use Prim.Native.Nat.{suc, _+_, _*_, _≤_};
 ghost use lib.ListN.{length, getD, take};
 ghost use Rattle.format.specs.Campaign.{campaignOf};
-ghost use Rattle.owner_changes.specs.ChangeSteps.{entered, mostChanges, AtFirstProvince};
+ghost use Rattle.owner_changes.specs.ChangeSteps.{entered, AtFirstProvince};
 ghost use Rattle.nation_tables.specs.Layout.{half, cellRows};
 ghost use Rattle.nation_tables.specs.Countries.{tagWords, initialWords, rowKeys};
 ghost use Rattle.nation_tables.specs.Turning.{lowHalves};
@@ -129,8 +129,7 @@ fn settle_changes(
     ensures { λ _. ⌜ take n (now (cells .exit)) ≡ map (holderCell (campaignOf (now (s .entry)) .countries)) (entered (now (s .entry))) ⌝ }
 {
     let mut starts = [0u16; STARTS];
-    settling::note_ends(settling_keys, &mut starts);
-    settling::raise_starts(&mut starts);
+    settling::note_starts(settling_keys, &mut starts);
     fill_holders(
         s,
         provinces,
@@ -209,7 +208,7 @@ fn sort_steps(
 ) -> usize
     requires { ⌜ AtFirstProvince (now s) provinces ⌝ }
     requires { ⌜ Settler (campaignOf (now s) .countries) (now «tag_words») (now «settling_keys») ⌝ }
-    requires { ⌜ (mostChanges ≤ length (now keys)) × (mostChanges ≤ length (now cells)) ⌝ }
+    requires { ⌜ (length (entered (now s)) ≤ length (now keys)) × (length (entered (now s)) ≤ length (now cells)) ⌝ }
     ensures { λ r. ⌜ Stepped (now (s .entry)) r (now (keys .exit)) (now (cells .exit)) ⌝ }
 {
     let n = owner_changes::fill_keys(s, provinces, keys);
@@ -234,7 +233,7 @@ pub(crate) fn hold_slots(
 ) -> usize
     requires { ⌜ AtFirstProvince (now s) provinces ⌝ }
     requires { ⌜ Tables (campaignOf (now s) .countries) (now «tag_words») (now «initial_keys») (now «settling_keys») ⌝ }
-    requires { ⌜ HoldingRoom (campaignOf (now s)) (now keys) (now cells) (now slots) (now started) (now turns) ⌝ }
+    requires { ⌜ HoldingRoom (now s) (now keys) (now cells) (now slots) (now started) (now turns) ⌝ }
     ensures { λ r. ⌜ Held (now (s .entry)) r (now (keys .exit)) (now (slots .exit)) (now (started .exit)) (now (turns .exit)) ⌝ }
 {
     start_slots(s, provinces, tag_words, initial_keys, slots, started);

@@ -1,5 +1,7 @@
 // How numbers share keys and cells, and how many of each a record has at most. A key is made of parts from high to low, and keys compare part
 // by part: a row of countries takes 11 bits of it, a date 27 and the number of a switch 15, a tag 24. So the keys fit 64 bits.
+ghost use mathlib.Core.Path.{_≡_};
+ghost use Rattle.nation_tables.specs.Layout.{rowsWithin};
 
 // How many countries, switches and slots a record has at most: there is one slot more than provinces.
 pub const MOST_COUNTRIES: usize = 2000;
@@ -10,6 +12,17 @@ pub const MOST_SLOTS: usize = 8001;
 
 // Changes settle by a key of each switch and one of each country.
 pub const MOST_SETTLING: usize = MOST_SWITCHES + MOST_COUNTRIES;
+
+// A row of an owner event or of a switch takes so many bytes of a record, and one of a country more.
+const ROW_BYTES: usize = 7;
+
+// So many of them a record of so many bytes has at most, where no record has more than `most`.
+pub(crate) fn rows_within(most: usize, bytes: usize) -> usize
+    ensures { λ r. ⌜ r ≡ rowsWithin most bytes ⌝ }
+{
+    let rows = bytes / ROW_BYTES;
+    if most < rows { most } else { rows }
+}
 
 // Rows of countries, words of dates and numbers of switches are below these.
 pub const KEY_ROWS: u64 = 2048;

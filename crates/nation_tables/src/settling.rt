@@ -17,6 +17,9 @@ const SECOND_BYTES: u64 = 78;
 // How many cells of 16 bits such a table has: one for each cell of tags, and one behind the last.
 pub(crate) const STARTS: usize = 6086;
 
+// Fewer keys are searched without hints.
+const FEW_KEYS: usize = 64;
+
 // The cell of `--`, the first tag, comes to 0 where this is added.
 const FIRST_CELL: u64 = 61981;
 
@@ -28,7 +31,7 @@ fn start_cell(word: u64) -> usize
 }
 
 // Notes behind each cell where the keys of its tags end. Of what the table holds nothing is promised: it is hints.
-pub(crate) fn note_ends(keys: &[u64], starts: &mut [u16]) {
+fn note_ends(keys: &[u64], starts: &mut [u16]) {
     let mut i = 0;
     while i < keys.len() {
         let next = start_cell(keys[i] / TAG_SPAN) + 1;
@@ -45,7 +48,7 @@ fn larger(a: u16, b: u16) -> u16 {
 }
 
 // Has a cell without keys begin where the cell before it ends.
-pub(crate) fn raise_starts(starts: &mut [u16]) {
+fn raise_starts(starts: &mut [u16]) {
     let mut most = 0;
     let mut i = 0;
     while i < starts.len() {
@@ -53,6 +56,15 @@ pub(crate) fn raise_starts(starts: &mut [u16]) {
         starts[i] = most;
         i += 1;
     }
+}
+
+// Makes the hints, but for few keys: among those a search takes less time than the table.
+pub(crate) fn note_starts(keys: &[u64], starts: &mut [u16]) {
+    if keys.len() < FEW_KEYS {
+        return;
+    }
+    note_ends(keys, starts);
+    raise_starts(starts);
 }
 
 // The hint in a cell, 0 where there is no such cell.

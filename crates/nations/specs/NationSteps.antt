@@ -2,23 +2,43 @@
 use mathlib.Core.Path.{_≡_}
 use mathlib.Core.Bool.{Bool, true, false, _&&_}
 use mathlib.Core.List.{List}
-use Prim.Native.Nat.{ℕ, _*_, _≤_, _<_}
+use Prim.Native.Nat.{ℕ, suc, _*_, _≤_, _<_}
 use lib.Dec.{leb}
 use lib.ListN.{length, take}
 use Rattle.sorting.specs.Sort.{sortBy}
 use Rattle.format.specs.Campaign.{campaignOf}
 use Rattle.record.specs.declared.cursors.Provinces.{Provinces}
 use Rattle.rules.specs.Chronicle.{Nation}
-use Rattle.rules.specs.Lent.{written}
+use Rattle.rules.specs.Lent.{written, refused}
 use Rattle.rules.specs.Changes.{changeWidth, changesOf, changeRows}
+use Rattle.rules.specs.Nations.{nationsOf, holdersOf}
 use Rattle.rules.specs.NationRows.{nationWidth, entryWidth}
-use Rattle.owner_changes.specs.ChangeSteps.{AtFirstProvince, entered, changeKeysFrom}
+use Rattle.rules.specs.Outcomes.{callNationEvents}
+use Rattle.owner_changes.specs.ChangeSteps.{AtFirstProvince, entered, mostChanges, changeKeysFrom}
 use Rattle.nation_tables.specs.declared.gathering.TableSizes.{TableSizes}
-use Rattle.nation_tables.specs.Layout.{wordSpan}
-use Rattle.nation_tables.specs.Holders.{SlotsPut}
+use Rattle.nation_tables.specs.Layout.{mostSettling, rowsWithin, wordSpan}
+use Rattle.nation_tables.specs.Holders.{slotCells, SlotsPut}
 use Rattle.nations.specs.declared.listing.Listed.{Listed}
 use Rattle.nations.specs.declared.writing.Placed as Placed
+use Rattle.nations.specs.declared.telling.NationsTold as NationsTold
+use Rattle.nations.specs.Cases.{nationCells}
 use Rattle.nations.specs.Listing.{listedOf, NationsWritten}
+
+-- ## Cells for the tables
+
+-- A record of no more bytes is small, and has at most so many changes, and keys that changes settle by.
+abbrev pub smallRecord : ℕ
+smallRecord = 16384
+
+abbrev pub fewRows : ℕ
+fewRows = 2341
+
+-- Room for the tables of changes and switches of any record of so many bytes.
+pub record RowsRoom (bytes : ℕ) (runs₀ keys₀ cells₀ turns₀ : List ℕ) : Type 0 where
+  pub runs : rowsWithin mostSettling bytes ≤ length runs₀
+  pub keys : rowsWithin mostChanges bytes ≤ length keys₀
+  pub cells : rowsWithin mostChanges bytes ≤ length cells₀
+  pub turns : rowsWithin mostChanges bytes ≤ length turns₀
 
 -- ## Room
 
@@ -76,3 +96,27 @@ pub record RestReady (xs : List ℕ) (provinces₀ : Provinces) (z : TableSizes)
 pub record RestWritten (xs : List ℕ) (z : TableSizes) (slots₀ holders₀ holders₁ held₀ held₁ changes₀ changes₁ : List ℕ) : Type 0 where
   pub slots : SlotsPut (take (z .slots) slots₀) (z .countries) holders₀ holders₁ held₀ held₁
   pub changes : changes₁ ≡ written (changeRows (changesOf (campaignOf xs))) changes₀
+
+-- ## All but the rest
+
+-- The nations of an accepted record are written, slices of three lengths have room for the rest, and the tables for it are there.
+pub record NationsPlaced (xs : List ℕ) (holders held changes : ℕ) (z : TableSizes) (provinces₀ : Provinces) (r : Listed) (slots₁ keys₁ cells₁ rows₀ rows₁ entries₀ entries₁ : List ℕ) : Type 0 where
+  pub countries : z .countries ≡ length (campaignOf xs .countries)
+  pub counted : z .changes ≡ length (changesOf (campaignOf xs))
+  pub slotted : z .slots ≡ suc (length (campaignOf xs .provinces))
+  pub slots : take (z .slots) slots₁ ≡ slotCells (campaignOf xs) (holdersOf (campaignOf xs))
+  pub ready : RestReady xs provinces₀ z slots₁ keys₁ cells₁
+  pub rest : restFor z holders held changes ≡ true
+  pub placed : PlacedRows (nationsOf (campaignOf xs)) r rows₀ rows₁ entries₀ entries₁
+
+-- With slices of these lengths for the rest, the call refuses by the number and leaves all as it was.
+pub record RefusedBy (xs : List ℕ) (holders held changes n : ℕ) (rows₀ rows₁ entries₀ entries₁ : List ℕ) : Type 0 where
+  pub refuses : (holders₀ held₀ changes₀ : List ℕ) → length holders₀ ≡ holders → length held₀ ≡ held → length changes₀ ≡ changes
+      → record { answer = refused n; memory = nationCells rows₁ entries₁ holders₀ held₀ changes₀ }
+      ≡ callNationEvents xs (nationCells rows₀ entries₀ holders₀ held₀ changes₀)
+
+abbrev pub nationsTold : List ℕ → ℕ → ℕ → ℕ → NationsTold.NationsTold → List ℕ → List ℕ → List ℕ → List ℕ → List ℕ → List ℕ → List ℕ → Type 0
+nationsTold xs holders held changes (NationsTold.the-variants.Rows z p r) slots keys cells rows₀ rows₁ entries₀ entries₁ =
+    NationsPlaced xs holders held changes z p r slots keys cells rows₀ rows₁ entries₀ entries₁
+nationsTold xs holders held changes (NationsTold.the-variants.Refused n) slots keys cells rows₀ rows₁ entries₀ entries₁ =
+    RefusedBy xs holders held changes n rows₀ rows₁ entries₀ entries₁

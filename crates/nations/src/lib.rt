@@ -3,6 +3,7 @@ mod entries;
 mod listing;
 mod lives;
 mod nations;
+mod telling;
 mod writing;
 
 pub use nations::NationCounts;

@@ -1,14 +1,22 @@
 // Nations: who lived, under which tags.
+use crate::telling;
+use crate::telling::NationsTold;
 use crate::writing;
-use crate::writing::Placed;
-use nation_tables::MOST_COUNTRIES;
 use nation_tables::MOST_SETTLING;
 use nation_tables::MOST_SLOTS;
-use nation_tables::TablesGathered;
 use owner_changes::MOST_CHANGES;
 ghost use mathlib.Core.Path.{_≡_};
+ghost use Prim.Native.Nat.{_≤_};
+ghost use lib.ListN.{length};
 ghost use Rattle.rules.specs.Outcomes.{callNationEvents};
 ghost use Rattle.nations.specs.Cases.{nationCells, nationsOutcome};
+ghost use Rattle.nations.specs.NationSteps.{smallRecord, RowsRoom};
+
+// A record of no more bytes is small: its tables take less time to clear.
+const SMALL_RECORD: usize = 16384;
+
+// So many changes, and keys that changes settle by, a small record has at most: each takes seven bytes of it.
+const FEW_ROWS: usize = 2341;
 
 // How many rows of each kind there are.
 pub struct NationCounts {
@@ -25,6 +33,120 @@ pub enum NationEvents {
     Refused(u32),
 }
 
+// The answer, worked out in cells for changes and switches that are lent with room for any record of as many bytes.
+fn answer_in(
+    s: &[u8],
+    runs: &mut [u64],
+    keys: &mut [u64],
+    cells: &mut [u64],
+    turns: &mut [u32],
+    nations: &mut [u32],
+    entries: &mut [u32],
+    holders: &mut [u32],
+    held: &mut [u32],
+    changes: &mut [u32],
+) -> NationEvents
+    requires { ⌜ RowsRoom (length (now s)) (now runs) (now keys) (now cells) (now turns) ⌝ }
+    ensures { λ r. ⌜ nationsOutcome r (now (nations .exit)) (now (entries .exit)) (now (holders .exit)) (now (held .exit)) (now (changes .exit)) ≡ callNationEvents (now (s .entry)) (nationCells (now (nations .entry)) (now (entries .entry)) (now (holders .entry)) (now (held .entry)) (now (changes .entry))) ⌝ }
+{
+    let mut slots = [0u64; MOST_SLOTS];
+    match telling::tell_nations(
+        s,
+        runs,
+        keys,
+        cells,
+        turns,
+        &mut slots,
+        nations,
+        entries,
+        holders.len(),
+        held.len(),
+        changes.len(),
+    ) {
+        NationsTold::Rows(sizes, provinces, listed) => {
+            writing::write_rest(
+                s,
+                provinces,
+                sizes,
+                &slots,
+                keys,
+                cells,
+                holders,
+                held,
+                changes,
+            );
+            let counts = NationCounts {
+                nations: listed.nations,
+                entries: listed.entries,
+                slots: sizes.slots,
+                countries: sizes.countries,
+                changes: sizes.changes,
+            };
+            NationEvents::Rows(counts)
+        }
+        NationsTold::Refused(number) => NationEvents::Refused(number),
+    }
+}
+
+// The answer of a small record, in small tables.
+fn answer_small(
+    s: &[u8],
+    nations: &mut [u32],
+    entries: &mut [u32],
+    holders: &mut [u32],
+    held: &mut [u32],
+    changes: &mut [u32],
+) -> NationEvents
+    requires { ⌜ length (now s) ≤ smallRecord ⌝ }
+    ensures { λ r. ⌜ nationsOutcome r (now (nations .exit)) (now (entries .exit)) (now (holders .exit)) (now (held .exit)) (now (changes .exit)) ≡ callNationEvents (now (s .entry)) (nationCells (now (nations .entry)) (now (entries .entry)) (now (holders .entry)) (now (held .entry)) (now (changes .entry))) ⌝ }
+{
+    let mut runs = [0u64; FEW_ROWS];
+    let mut keys = [0u64; FEW_ROWS];
+    let mut cells = [0u64; FEW_ROWS];
+    let mut turns = [0u32; FEW_ROWS];
+    answer_in(
+        s,
+        &mut runs,
+        &mut keys,
+        &mut cells,
+        &mut turns,
+        nations,
+        entries,
+        holders,
+        held,
+        changes,
+    )
+}
+
+// The answer of any record, in tables for the largest.
+fn answer_large(
+    s: &[u8],
+    nations: &mut [u32],
+    entries: &mut [u32],
+    holders: &mut [u32],
+    held: &mut [u32],
+    changes: &mut [u32],
+) -> NationEvents
+    ensures { λ r. ⌜ nationsOutcome r (now (nations .exit)) (now (entries .exit)) (now (holders .exit)) (now (held .exit)) (now (changes .exit)) ≡ callNationEvents (now (s .entry)) (nationCells (now (nations .entry)) (now (entries .entry)) (now (holders .entry)) (now (held .entry)) (now (changes .entry))) ⌝ }
+{
+    let mut runs = [0u64; MOST_SETTLING];
+    let mut keys = [0u64; MOST_CHANGES];
+    let mut cells = [0u64; MOST_CHANGES];
+    let mut turns = [0u32; MOST_CHANGES];
+    answer_in(
+        s,
+        &mut runs,
+        &mut keys,
+        &mut cells,
+        &mut turns,
+        nations,
+        entries,
+        holders,
+        held,
+        changes,
+    )
+}
+
 // The listed nations with their entries, the holder of each slot and the slots held by each country after the last change, and the owner
 // changes. Refused are a bad record, by its number, and by 10 a slice that is too short.
 pub fn nation_events(
@@ -37,68 +159,8 @@ pub fn nation_events(
 ) -> NationEvents
     ensures { λ r. ⌜ nationsOutcome r (now (nations .exit)) (now (entries .exit)) (now (holders .exit)) (now (held .exit)) (now (changes .exit)) ≡ callNationEvents (now (s .entry)) (nationCells (now (nations .entry)) (now (entries .entry)) (now (holders .entry)) (now (held .entry)) (now (changes .entry))) ⌝ }
 {
-    let mut tag_words = [0u32; MOST_COUNTRIES];
-    let mut initial_keys = [0u64; MOST_COUNTRIES];
-    let mut runs = [0u64; MOST_SETTLING];
-    let mut keys = [0u64; MOST_CHANGES];
-    let mut cells = [0u64; MOST_CHANGES];
-    let mut slots = [0u64; MOST_SLOTS];
-    let mut started = [0u32; MOST_COUNTRIES];
-    let mut turns = [0u32; MOST_CHANGES];
-    let mut firsts = [0u32; MOST_COUNTRIES];
-    match nation_tables::gather_tables(
-        s,
-        &mut tag_words,
-        &mut initial_keys,
-        &mut runs,
-        &mut keys,
-        &mut cells,
-        &mut slots,
-        &mut started,
-        &mut turns,
-        &mut firsts,
-    ) {
-        TablesGathered::Tables(sizes, provinces) => {
-            if !writing::rest_fits(sizes, holders.len(), held.len(), changes.len()) {
-                return NationEvents::Refused(10);
-            }
-            match writing::place_nations(
-                sizes,
-                &tag_words,
-                &initial_keys,
-                &runs,
-                &cells,
-                &firsts,
-                &started,
-                &keys,
-                &turns,
-                nations,
-                entries,
-            ) {
-                Placed::Rows(listed) => {
-                    writing::write_rest(
-                        s,
-                        provinces,
-                        sizes,
-                        &slots,
-                        &keys,
-                        &mut cells,
-                        holders,
-                        held,
-                        changes,
-                    );
-                    let counts = NationCounts {
-                        nations: listed.nations,
-                        entries: listed.entries,
-                        slots: sizes.slots,
-                        countries: sizes.countries,
-                        changes: sizes.changes,
-                    };
-                    NationEvents::Rows(counts)
-                }
-                Placed::Short => NationEvents::Refused(10),
-            }
-        }
-        TablesGathered::Refused(number) => NationEvents::Refused(number),
+    if s.len() <= SMALL_RECORD {
+        return answer_small(s, nations, entries, holders, held, changes);
     }
+    answer_large(s, nations, entries, holders, held, changes)
 }

@@ -2,12 +2,12 @@
 use mathlib.Core.Path.{_≡_, refl, ap}
 use mathlib.Core.Bool.{true, false}
 use mathlib.Core.List.{List, [], _∷_}
-use Prim.Native.Nat.{ℕ, _+_, _≤_, _<_}
+use Prim.Native.Nat.{ℕ, _+_, _*_, _≤_, _<_}
 use native.Mathlib.Omega.{arith}
 use lib.ListN.{length, length-append}
 use Rattle.lists.specs.Lists.{joinOf, sumOf}
 use Rattle.lists.proofs.BoolLaws.{cases}
-use Rattle.lists.proofs.ListLaws.{all-map, all-join}
+use Rattle.lists.proofs.ListLaws.{all-map, all-join, length-joined}
 use Rattle.lists.specs.Lists.{All}
 use Rattle.sorting.proofs.SortLaws.{length-sort}
 use Rattle.format.specs.declared.tag.CountryTag.{CountryTag}
@@ -19,10 +19,14 @@ use Rattle.record.specs.declared.cursors.NextProvince as NextProvince
 use Rattle.record.specs.declared.cursors.OwnerEvents.{OwnerEvents}
 use Rattle.record.specs.declared.cursors.NextOwnerEvent as NextOwnerEvent
 use Rattle.format.specs.Tags.{sameTag}
-use Rattle.format.specs.Campaign.{Province, campaignOf}
+use Rattle.format.specs.Head.{headOf, eventsAt}
+use Rattle.format.specs.Rows.{ownerEventAt}
+use Rattle.format.specs.Campaign.{Province, provinceRows, ownerEvents, campaignOf}
 use Rattle.record.specs.Cursors.{ownerEventsLeft, ownerEventTold, provincesLeft, provinceTold}
 use Rattle.format.specs.Refusal.{refusal}
-use Rattle.format.proofs.CampaignLaws.{told-row, told-end}
+use Rattle.format.proofs.AcceptLaws.{accepted, accepted-laid}
+use Rattle.format.proofs.RowLaws.{rows-counted}
+use Rattle.format.proofs.CampaignLaws.{told-row, told-end, events-owned}
 use Rattle.format.proofs.BoundLaws.{small-provinces, few-events}
 use Rattle.rules.specs.Changes.{changesFrom, provinceChanges, byDateAndId, changesOf}
 use Rattle.owner_changes.specs.ChangeSteps.{changesLeft, entered, mostChanges}
@@ -86,6 +90,16 @@ all-few (p ∷ ps) =
 
 pub entered-few : (xs : List ℕ) → refusal xs ≡ 0 → length (entered xs) ≤ mostChanges
 entered-few xs h = omega (arith, all-few (campaignOf xs .provinces), few-events xs h)
+
+-- An owner event takes 7 bytes of the record, and a change is of one.
+pub entered-bytes : (xs : List ℕ) → refusal xs ≡ 0 → 7 * length (entered xs) ≤ length xs
+unfolding campaignOf
+entered-bytes xs h =
+    let events = all-few (campaignOf xs .provinces) in
+    let joined = length-joined (λ (p : Province). p .events) (campaignOf xs .provinces) in
+    let owned = events-owned (provinceRows xs) (ownerEvents xs) in
+    let counted = rows-counted (ownerEventAt xs) 7 xs (eventsAt (headOf xs)) (headOf xs .events) in
+    omega (arith, accepted-laid xs (accepted xs h) .inside)
 
 pub changes-few : (xs : List ℕ) → refusal xs ≡ 0 → length (changesOf (campaignOf xs)) ≤ mostChanges
 unfolding changesOf

@@ -17,16 +17,17 @@ use Rattle.owner_changes.specs.ChangeSteps.{mostChanges, AtFirstProvince}
 use Rattle.owner_changes.proofs.ChangeLaws.{changes-few}
 use Rattle.nation_tables.specs.declared.gathering.Origin.{Origin}
 use Rattle.nation_tables.specs.declared.gathering.Sizes.{Sizes}
-use Rattle.nation_tables.specs.Layout.{mostCountries, mostSwitches, mostSettling, mostSlots, half, noChange}
+use Rattle.nation_tables.specs.Layout.{mostCountries, mostSwitches, mostSettling, mostSlots, rowsWithin, half, noChange}
 use Rattle.nation_tables.specs.Countries.{tagWords, switchKeysFrom, settlingKeysFrom, withOwn, Keyed, OwnLast}
 use Rattle.nation_tables.specs.Turning.{highHalves, lowHalves}
 use Rattle.nation_tables.specs.Holders.{Tables, HoldingRoom, slotCell, slotCells, startedOf, Held}
 use Rattle.nation_tables.specs.Switches.{runsFrom, runKeys, targetWords}
 use Rattle.nation_tables.specs.Gathering.{Begun, TablesRoom, TablesFilled, FewSwitches, Arranged, CampaignCells, cellsFrom, TableRoom, Gathered}
-use Rattle.nation_tables.proofs.tables.KeyedLaws.{countries-few, provinces-few, switches-few, settling-few, accepted-keyed, accepted-own}
+use Rattle.nation_tables.proofs.tables.KeyedLaws.{countries-few, provinces-few, switches-few, accepted-keyed, accepted-own}
 use Rattle.nation_tables.proofs.tables.OwnLaws.{keyed-own}
 use Rattle.nation_tables.proofs.tables.OwnKeyLaws.{settling-count}
 use Rattle.nation_tables.proofs.tables.SwitchLaws.{runs-few}
+use Rattle.nation_tables.proofs.slots.RoomLaws.{settling-fit, switches-fit, entered-fit, changes-fit}
 
 -- There is a cell for each slot.
 slots-count : (c : Campaign) → length (slotCells c (holdersOf c)) ≡ suc (length (c .provinces))
@@ -46,7 +47,7 @@ length-first n k xs l e = rw (sub-zero n) (length-take-le n xs l ∙ e)
 -- ## An accepted record, and room for its tables
 
 module _ (xs : List ℕ) (from : Origin) (pre : Begun xs from) (words initials switches keys cells slots started turns firsts : List ℕ)
-    (room : TableRoom words initials switches keys cells slots started turns firsts) where
+    (room : TableRoom (length xs) words initials switches keys cells slots started turns firsts) where
   abbrev c : Campaign
   c = campaignOf xs
 
@@ -65,9 +66,15 @@ module _ (xs : List ℕ) (from : Origin) (pre : Begun xs from) (words initials s
   told-keyed : Keyed told
   told-keyed = subst Keyed (sym (pre .countries)) (accepted-keyed xs (pre .ready .accepted))
 
-  -- Nor many keys that changes settle by.
-  told-settling-few : length (settlingKeysFrom 0 told) ≤ mostSettling
-  told-settling-few = subst (λ ks. length (settlingKeysFrom 0 ks) ≤ mostSettling) (sym (pre .countries)) (settling-few xs (pre .ready .accepted))
+  -- Nor more keys that changes settle by than the bytes allow.
+  told-settling-few : (m : ℕ) → rowsWithin mostSettling (length xs) ≤ m → length (settlingKeysFrom 0 told) ≤ m
+  told-settling-few m l =
+      subst (λ ks. length (settlingKeysFrom 0 ks) ≤ m) (sym (pre .countries)) (settling-fit xs (pre .ready .accepted) m l)
+
+  -- And so it is with switches, where changes have room.
+  told-switches-fit : (m : ℕ) → rowsWithin mostChanges (length xs) ≤ m → length (switchKeysFrom 0 told) ≤ m
+  told-switches-fit m l =
+      subst (λ ks. length (switchKeysFrom 0 ks) ≤ m) (sym (pre .countries)) (switches-fit xs (pre .ready .accepted) m l)
 
   told-own : OwnLast told
   told-own = subst OwnLast (sym (pre .countries)) (accepted-own xs (pre .ready .accepted))
@@ -76,18 +83,16 @@ module _ (xs : List ℕ) (from : Origin) (pre : Begun xs from) (words initials s
   pub tables-asked : Keyed (map withOwn told) × TablesRoom told words initials switches
   tables-asked =
       let a = told-few in
-      let b = told-settling-few in
       let w = room .words in
       let i = room .initials in
-      let s = room .switches in
-      (keyed-own told told-keyed told-own, record { few = a; words = omega arith; initials = omega arith; switches = omega arith })
+      (keyed-own told told-keyed told-own, record { few = a; words = omega arith; initials = omega arith; switches = told-settling-few _ (room .switches) })
 
   -- The countries, the switches and the slots are within their cells.
   pub countries-within : (n m k : ℕ) → n ≡ length told → m ≡ k → mostCountries ≤ k → n ≤ m
   countries-within n m k e q z = let a = told-few in omega arith
 
-  pub settling-within : (n m k : ℕ) → n ≡ length (settlingKeysFrom 0 told) → m ≡ k → mostSettling ≤ k → n ≤ m
-  settling-within n m k e q z = let a = told-settling-few in omega arith
+  pub settling-within : (n m k : ℕ) → n ≡ length (settlingKeysFrom 0 told) → m ≡ k → rowsWithin mostSettling (length xs) ≤ k → n ≤ m
+  settling-within n m k e q z = let a = told-settling-few k z in omega arith
 
   pub slots-within : (n m : ℕ) → n ≡ length (provincesLeft xs (from .provinces)) → mostSlots ≤ m → n + 1 ≤ m
   slots-within n m e z = let a = provinces-few xs (pre .ready .accepted) in let b = ap length (pre .ready .rows) in omega arith
@@ -113,7 +118,7 @@ module _ (xs : List ℕ) (from : Origin) (pre : Begun xs from) (words initials s
     pub holding-asked : (cells₁ : List ℕ) → length cells₁ ≡ length cells
         → AtFirstProvince xs (from .provinces)
         × (Tables (c .countries) (take (r .countries - 0) words₁) (take (r .countries - 0) initials₁) (take (r .settling - 0) switches₁)
-        × HoldingRoom c keys cells₁ (take (p + 1 - 0) slots) (take (r .countries - 0) started) turns)
+        × HoldingRoom xs keys cells₁ (take (p + 1 - 0) slots) (take (r .countries - 0) started) turns)
     holding-asked cells₁ kept =
         let g = filled in
         let tables : Tables (c .countries) (take (r .countries - 0) words₁) (take (r .countries - 0) initials₁) (take (r .settling - 0) switches₁) =
@@ -128,11 +133,11 @@ module _ (xs : List ℕ) (from : Origin) (pre : Begun xs from) (words initials s
               };
           initials = from-first (r .countries) initials₁ _ (g .initials);
         } in
-        let held : HoldingRoom c keys cells₁ (take (p + 1 - 0) slots) (take (r .countries - 0) started) turns =
+        let held : HoldingRoom xs keys cells₁ (take (p + 1 - 0) slots) (take (r .countries - 0) started) turns =
         record {
-          keys = room .keys;
-          cells = omega (arith, room .cells, kept);
-          turns = room .turns;
+          keys = entered-fit xs (pre .ready .accepted) _ (room .keys);
+          cells = entered-fit xs (pre .ready .accepted) _ (omega (arith, room .cells, kept));
+          turns = entered-fit xs (pre .ready .accepted) _ (room .turns);
           slots = length-first (p + 1) _ slots (slots-within p (length slots) provinces (room .slots)) slot-count;
           started = length-first (r .countries) _ started (countries-within (r .countries) _ _ (f .countries) refl (room .started)) (g .countries);
         } in
@@ -141,19 +146,20 @@ module _ (xs : List ℕ) (from : Origin) (pre : Begun xs from) (words initials s
     -- All changes are settled.
     module _ (n : ℕ) (keys₁ slots₁ started₁ turns₁ : List ℕ) (h : Held xs n keys₁ slots₁ started₁ turns₁) where
       -- There are not many.
-      pub changes-within : (m k : ℕ) → m ≡ k → mostChanges ≤ k → n ≤ m
-      changes-within m k e l = let a = changes-few xs (pre .ready .accepted) in let b = h .counted in omega arith
+      pub changes-within : (m k : ℕ) → m ≡ k → rowsWithin mostChanges (length xs) ≤ k → n ≤ m
+      changes-within m k e l = let a = changes-fit xs (pre .ready .accepted) k l in let b = h .counted in omega arith
 
       few-changes : n ≤ mostChanges
-      few-changes = changes-within mostChanges mostChanges refl (omega arith)
+      few-changes = let a = changes-few xs (pre .ready .accepted) in let b = h .counted in omega arith
 
       -- What `arrange` asks.
       pub arrange-asked : (cells₁ : List ℕ) → length cells₁ ≡ length cells → length switches₁ ≡ length switches
           → (Keyed told × FewSwitches told switches₁ cells₁) × (length (take (n - 0) turns₁) ≤ noChange)
       arrange-asked cells₁ kept same =
           let few = told-switches-few in
-          let a = room .cells in
-          let b = room .switches in
+          let a = told-switches-fit (length cells) (room .cells) in
+          let b = told-settling-few (length switches) (room .switches) in
+          let s = settling-count 0 told in
           let k = few-changes in
           let l = length-take (n - 0) turns₁ in (
             (told-keyed, record { few = few; runs = omega arith; targets = omega arith }),
@@ -176,9 +182,7 @@ module _ (xs : List ℕ) (from : Origin) (pre : Begun xs from) (words initials s
         -- The links are all that is lent of them, and so is what each country starts with.
         long-links : length links ≡ n
         long-links =
-            let r = room .turns in
-            let k = few-changes in
-            linksKept ∙ rw (sub-zero n) (length-take-le n turns₁ (omega arith))
+            linksKept ∙ rw (sub-zero n) (length-take-le n turns₁ (changes-within _ _ turnsKept (room .turns)))
 
         links-there : take n (links ++ linksRest) ≡ links
         links-there = take-at links linksRest n long-links
@@ -239,7 +243,7 @@ module _ (xs : List ℕ) (from : Origin) (pre : Begun xs from) (words initials s
               countries = filled .countries;
               changes = h .counted;
               slotted = slot-count;
-              fewSwitches = let e = switched in let k = told-switches-few in omega arith;
+              switches = switched ∙ ap (λ (ks : List Country). length (switchKeysFrom 0 ks)) (pre .countries);
               cells = chronicled;
               sorted = h .sorted;
               slots = slots-front ∙ h .slots;

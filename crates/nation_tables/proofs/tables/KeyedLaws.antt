@@ -2,7 +2,7 @@
 use mathlib.Core.Path.{_≡_, refl, sym, ap₂, _∙_}
 use mathlib.Core.Bool.{true}
 use mathlib.Core.List.{List, [], _∷_, map}
-use Prim.Native.Nat.{ℕ, suc, _+_, _≤_, _<_}
+use Prim.Native.Nat.{ℕ, suc, _+_, _*_, _≤_, _<_}
 use native.Mathlib.Omega.{arith}
 use borrow.Author.Tests.{lt-ltb}
 use lib.Dec.{ltb}
@@ -10,9 +10,14 @@ use lib.ListN.{length, length-append, length-map}
 use Rattle.lists.specs.Lists.{allOf, joinOf}
 use Rattle.lists.proofs.ListLaws.{all-map, all-allOf}
 use Rattle.format.specs.declared.rows.Switch.{Switch}
-use Rattle.format.specs.Campaign.{Country, campaignOf}
+use Rattle.format.specs.Head.{headOf, countriesAt, switchesAt}
+use Rattle.format.specs.Rows.{countryAt, switchAt}
+use Rattle.format.specs.Campaign.{Country, countryRows, previousTags, switchRows, campaignOf}
 use Rattle.format.specs.Refusal.{refusal}
 use Rattle.format.specs.Sound.{GoodSwitch, GoodCountry, GoodProvince}
+use Rattle.format.proofs.AcceptLaws.{accepted, accepted-laid}
+use Rattle.format.proofs.RowLaws.{rows-counted}
+use Rattle.format.proofs.CampaignLaws.{countries-length, switches-owned}
 use Rattle.format.proofs.SoundLaws.{sound}
 pub use Rattle.format.proofs.BoundLaws.{tag-small, date-small}
 use Rattle.format.proofs.BoundLaws.{date-most}
@@ -66,6 +71,18 @@ module _ (xs : List ℕ) (h : refusal xs ≡ 0) where
   pub settling-few : length (settlingKeysFrom 0 (campaignOf xs .countries)) ≤ mostSettling
   settling-few =
       let a = countries-few in let b = switches-few in omega (arith, settling-count 0 (campaignOf xs .countries))
+
+  -- A switch takes 7 bytes of the record, and a country 12.
+  pub settling-bytes : 7 * length (settlingKeysFrom 0 (campaignOf xs .countries)) ≤ length xs
+  unfolding campaignOf
+  settling-bytes =
+      let count = settling-count 0 (campaignOf xs .countries) in
+      let keys = keys-length 0 (campaignOf xs .countries) in
+      let owned = switches-owned (countryRows xs) (previousTags xs) (switchRows xs) in
+      let switches = rows-counted (switchAt xs) 7 xs (switchesAt (headOf xs)) (headOf xs .switches) in
+      let grouped = countries-length (countryRows xs) (previousTags xs) (switchRows xs) in
+      let countries = rows-counted (countryAt xs) 12 xs (countriesAt (headOf xs)) (headOf xs .countries) in
+      omega (arith, accepted-laid xs (accepted xs h) .inside)
 
   pub accepted-slotted : (slots : ℕ) → length (campaignOf xs .provinces) < slots → Slotted slots (campaignOf xs .provinces)
   accepted-slotted slots l =

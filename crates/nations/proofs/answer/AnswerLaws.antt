@@ -1,9 +1,9 @@
--- What the steps of `nation_events` ask where the tables of an accepted record are gathered, and the outcome by its case: a slice that is too
--- short, or the rows, which are those of the answer.
+-- What the steps of an answer ask where the tables of an accepted record are gathered, and the outcome by its case: a refused record, a slice that is
+-- too short, or the rows, which are those of the answer.
 use mathlib.Core.Path.{_≡_, refl, sym, ap, ap₂, subst, _∙_}
 use mathlib.Core.Bool.{Bool, true, false, not, _&&_}
 use mathlib.Core.List.{List, map}
-use Prim.Native.Nat.{ℕ, _*_, _≤_, _<_}
+use Prim.Native.Nat.{ℕ, suc, _*_, _≤_, _<_}
 use native.Mathlib.Omega.{arith}
 use borrow.Author.Tests.{leb-true}
 use lib.Dec.{leb}
@@ -23,21 +23,22 @@ use Rattle.rules.specs.NationRows.{nationWords, entryWords, holderWord, nationW
 use Rattle.rules.specs.Outcomes.{answersOf, NationCells, cellsOf, allFit, allWritten, Counts, countsOf, callNationEvents}
 use Rattle.nation_tables.specs.declared.gathering.TableSizes.{TableSizes}
 use Rattle.nation_tables.specs.Layout.{wordSpan}
-use Rattle.nation_tables.specs.Holders.{SlotsRoom}
-use Rattle.nation_tables.specs.Gathering.{Cells, CampaignCells, frontsOf, Gathered}
+use Rattle.nation_tables.specs.Holders.{slotCells, SlotsRoom}
+use Rattle.nation_tables.specs.Gathering.{Cells, CampaignCells, frontsOf, TableRoom, Gathered}
 use Rattle.nation_tables.proofs.tables.KeyedLaws.{countries-few, provinces-few}
+use Rattle.nation_tables.proofs.tables.OwnKeyLaws.{settling-count}
 use Rattle.nation_tables.proofs.tables.SwitchLaws.{run-entries, targets-small}
 use Rattle.nation_tables.proofs.slots.HoldersLaws.{holder-words, held-counted}
+use Rattle.nation_tables.proofs.slots.RoomLaws.{settling-fit, switches-fit, changes-fit}
 use Rattle.owner_changes.proofs.ChangeLaws.{changes-few}
 use Rattle.nations.specs.declared.listing.Listed.{Listed}
 use Rattle.nations.specs.declared.nations.NationCounts.{NationCounts}
 use Rattle.nations.specs.Cases.{nationCells, countsIn}
-use Rattle.nations.specs.Listing.{nationsAt, listedOf, Readable, NationsWritten}
-use Rattle.nations.specs.NationSteps.{nationsFor, restFor, FewNations, FrontsInside, PlacedRows, PlacedShort, RestReady, RestWritten}
-use Rattle.nations.proofs.answer.ArmLaws.{FullSize}
+use Rattle.nations.specs.Listing.{nationsAt, listedOf, Readable}
+use Rattle.nations.specs.NationSteps.{nationsFor, restFor, FewNations, FrontsInside, PlacedRows, PlacedShort, RestReady, RestWritten, NationsPlaced, RefusedBy}
 use Rattle.nations.proofs.answer.NationsLaws.{cells-nations, cells-readable, runs-told}
 use Rattle.nations.proofs.answer.NationSizeLaws.{nations-few, entries-few}
-use Rattle.nations.proofs.answer.NationOutcomeLaws.{room-fits, nations-short, nations-rows}
+use Rattle.nations.proofs.answer.NationOutcomeLaws.{room-fits, nations-refused, nations-short, nations-rows}
 
 -- ## Cells of a campaign
 
@@ -87,14 +88,72 @@ module _ (c : Campaign) (nations₀ entries₀ holders₀ held₀ changes₀ : L
       ∙ ap (nationCells (written (nationWords (nationsOf c)) nations₀) (written (entryWords (nationsOf c)) entries₀)
       (written (map holderWord (holdersOf c)) holders₀) (written (heldOf c) held₀)) d
 
+-- ## An accepted record, and tables of its sizes
+
+module _ (xs : List ℕ) (accepted : refusal xs ≡ 0) (z : TableSizes) (countries : z .countries ≡ length (campaignOf xs .countries))
+    (changes : z .changes ≡ length (changesOf (campaignOf xs))) (slotted : z .slots ≡ suc (length (campaignOf xs .provinces))) where
+  abbrev c : Campaign
+  c = campaignOf xs
+
+  -- The counts.
+  module _ (r : Listed) (listed : r ≡ listedOf (nationsOf c)) where
+    abbrev rows : NationCounts
+    rows = record { nations = r .nations; entries = r .entries; slots = z .slots; countries = z .countries; changes = z .changes }
+
+    counts-told : countsIn rows ≡ countsOf (answersOf c)
+    unfolding countsOf answersOf holdersOf heldOf
+    counts-told =
+        counts-same _ _ _ _ _ _ _ _ _ _ (ap (λ (x : Listed). x .nations) listed) (ap (λ (x : Listed). x .entries) listed)
+        (slotted ∙ sym (length-map (slotsOf c) (λ slot. lastHolder c slot (movesOf c)) ∙ length-slots c))
+        (countries ∙ sym (length-map (c .countries) (λ k. countOf (matches (k .tag)) (holdersOf c))))
+        changes
+
+  -- Whether all fits.
+  module _ (before : NationCells) where
+    abbrev nationsFit : Bool
+    nationsFit = nationsFor (listedOf (nationsOf c)) (length (before .nations)) (length (before .entries))
+
+    abbrev restFit : Bool
+    restFit = restFor z (length (before .holders)) (length (before .held)) (length (before .changes))
+
+    fit-parts : allFit (cellsOf (answersOf c)) before ≡ (nationsFit && restFit)
+    fit-parts =
+        sym (room-fits (answersOf c) (countsIn (rows (listedOf (nationsOf c)) refl)) before (counts-told (listedOf (nationsOf c)) refl))
+        ∙ regroup (leb (nationWidth * listedOf (nationsOf c) .nations) (length (before .nations))) (leb (entryWidth * listedOf (nationsOf c) .entries) (length (before .entries)))
+        (leb (z .slots) (length (before .holders))) (leb (z .countries) (length (before .held))) (leb (changeWidth * z .changes) (length (before .changes)))
+
+    -- The rest does not.
+    rest-short : restFit ≡ false → record { answer = refused 10; memory = before } ≡ callNationEvents xs before
+    rest-short f = nations-short xs before accepted (fit-parts ∙ ap (λ (x : Bool). nationsFit && x) f ∙ and-false nationsFit)
+
+    -- The nations do not.
+    nations-not : nationsFit ≡ false → record { answer = refused 10; memory = before } ≡ callNationEvents xs before
+    nations-not f = nations-short xs before accepted (fit-parts ∙ ap (λ (x : Bool). x && restFit) f)
+
+    -- All does, and what is written is the answer.
+    all-fit : restFit ≡ true → (slots : List ℕ) → take (z .slots) slots ≡ slotCells c (holdersOf c)
+        → (r : Listed) (rows₁ entries₁ holders₁ held₁ changes₁ : List ℕ)
+        → PlacedRows (nationsOf c) r (before .nations) rows₁ (before .entries) entries₁
+        → RestWritten xs z slots (before .holders) holders₁ (before .held) held₁ (before .changes) changes₁
+        → record { answer = gives (countsIn (record { nations = r .nations; entries = r .entries; slots = z .slots; countries = z .countries; changes = z .changes })); memory = nationCells rows₁ entries₁ holders₁ held₁ changes₁ }
+        ≡ callNationEvents xs before
+    all-fit f slots e r rows₁ entries₁ holders₁ held₁ changes₁ p w =
+        nations-rows xs before _ _ accepted
+        (fit-parts ∙ ap₂ _&&_ (p .room) f)
+        (counts-told r (p .listed))
+        (all-written c (before .nations) (before .entries) (before .holders) (before .held) (before .changes) rows₁ entries₁ holders₁ held₁ changes₁
+        (p .put .rows) (p .put .entries)
+        (w .slots .holders ∙ ap (λ (l : List ℕ). written l (before .holders)) (holder-words xs accepted (take (z .slots) slots) e))
+        (w .slots .held
+        ∙ ap (λ (l : List ℕ). written l (before .held))
+        (held-counted xs accepted (take (z .slots) slots) _ (z .countries) e countries refl))
+        (w .changes))
+
 -- ## All gathered
 
 module _ (xs : List ℕ) (z : TableSizes) (provinces : Provinces) (words initials runs keys targets slots started turns firsts : List ℕ)
     (q : Gathered xs z provinces words initials runs keys targets slots started turns firsts)
-    (full : FullSize words initials runs keys targets slots started turns) where
-  abbrev c : Campaign
-  c = campaignOf xs
-
+    (room : TableRoom (length xs) words initials runs keys targets slots started turns firsts) where
   abbrev accepted : refusal xs ≡ 0
   accepted = q .ready .accepted
 
@@ -105,8 +164,8 @@ module _ (xs : List ℕ) (z : TableSizes) (provinces : Provinces) (words initial
   nations = nationsAt front (take (z .countries) initials)
 
   -- The fronts tell the campaign's nations.
-  told : nations ≡ nationsOf c
-  told = cells-told c front (q .cells)
+  told : nations ≡ nationsOf (campaignOf xs)
+  told = cells-told (campaignOf xs) front (q .cells)
 
   -- Few of each.
   pub changes-small : z .changes < wordSpan
@@ -116,129 +175,109 @@ module _ (xs : List ℕ) (z : TableSizes) (provinces : Provinces) (words initial
   fronts-inside =
       let a = countries-few xs accepted in
       let b = q .countries in
-      let d = changes-few xs accepted in
-      let e = q .changes in
-      let f = q .fewSwitches in
+      let d = q .changes in
+      let e = q .switches in
+      let s = settling-count 0 (campaignOf xs .countries) in
       record {
-        words = omega (arith, full .allWords);
-        initials = omega (arith, full .allInitials);
-        runs = omega (arith, full .allRuns);
-        targets = omega (arith, full .allCells);
-        started = omega (arith, full .allStarted);
-        keys = omega (arith, full .allKeys);
-        turns = omega (arith, full .allTurns);
+        words = omega (arith, room .words);
+        initials = omega (arith, room .initials);
+        runs = omega (arith, settling-fit xs accepted (length runs) (room .switches));
+        targets = omega (arith, switches-fit xs accepted (length targets) (room .cells));
+        started = omega (arith, room .started);
+        keys = omega (arith, changes-fit xs accepted (length keys) (room .keys));
+        turns = omega (arith, changes-fit xs accepted (length turns) (room .turns));
       }
 
   pub fronts-readable : Readable front
-  fronts-readable = cells-readable c front (q .cells)
+  fronts-readable = cells-readable (campaignOf xs) front (q .cells)
 
   pub nations-told-few : FewNations nations
   nations-told-few =
       rw told
       (record { nations = omega (arith, nations-few xs accepted); entries = omega (arith, entries-few xs accepted) })
 
-  -- ## Slots and changes
-
-  slots-there : z .slots ≤ length slots
-  slots-there = omega (arith, q .slotted, provinces-few xs accepted, full .allSlots)
-
-  pub rest-ready : RestReady xs provinces z slots keys targets
+  -- What is left for the rest.
+  rest-ready : RestReady xs provinces z slots keys targets
   rest-ready =
       let f = fronts-inside in
-      let d = changes-few xs accepted in
-      let e = q .changes in
-      record { ready = q .ready; slots = slots-there; keys = f .keys; cells = omega (arith, full .allCells); sorted = q .sorted }
+      record {
+        ready = q .ready;
+        slots = omega (arith, q .slotted, provinces-few xs accepted, room .slots);
+        keys = f .keys;
+        cells = omega (arith, q .changes, changes-fit xs accepted (length targets) (room .cells));
+        sorted = q .sorted;
+      }
 
-  -- ## The counts
+  module _ (b : Bool) (holders held changes : ℕ) (e : b ≡ restFor z holders held changes) (rows₀ entries₀ : List ℕ) where
+    -- The rest has no room.
+    pub rest-refused : not b ≡ true → RefusedBy xs holders held changes 10 rows₀ rows₀ entries₀ entries₀
+    rest-refused f =
+        record {
+          refuses = λ holders₀ held₀ changes₀ h d l.
+              rest-short xs accepted z (q .countries) (q .changes) (q .slotted) (nationCells rows₀ entries₀ holders₀ held₀ changes₀)
+              (rw (h, d, l) (sym e ∙ negated b f));
+        }
 
-  module _ (r : Listed) (listed : r ≡ listedOf nations) where
-    abbrev rows : NationCounts
-    rows = record { nations = r .nations; entries = r .entries; slots = z .slots; countries = z .countries; changes = z .changes }
-
-    counts-told : countsIn rows ≡ countsOf (answersOf c)
-    unfolding countsOf answersOf holdersOf heldOf
-    counts-told =
-        counts-same _ _ _ _ _ _ _ _ _ _ (ap (λ (x : Listed). x .nations) here) (ap (λ (x : Listed). x .entries) here)
-        (q .slotted ∙ sym (length-map (slotsOf c) (λ slot. lastHolder c slot (movesOf c)) ∙ length-slots c))
-        (q .countries ∙ sym (length-map (c .countries) (λ k. countOf (matches (k .tag)) (holdersOf c))))
-        (q .changes)
-      where
-        here : r ≡ listedOf (nationsOf c)
-        here = listed ∙ ap listedOf told
-
-  -- ## Whether all fits
-
-  module _ (before : NationCells) where
-    abbrev nationsFit : Bool
-    nationsFit = nationsFor (listedOf nations) (length (before .nations)) (length (before .entries))
-
-    abbrev restFit : Bool
-    restFit = restFor z (length (before .holders)) (length (before .held)) (length (before .changes))
-
-    fit-parts : allFit (cellsOf (answersOf c)) before ≡ (nationsFit && restFit)
-    fit-parts =
-        sym (room-fits (answersOf c) (countsIn (rows (listedOf nations) refl)) before (counts-told (listedOf nations) refl))
-        ∙ regroup (leb (nationWidth * listedOf nations .nations) (length (before .nations))) (leb (entryWidth * listedOf nations .entries) (length (before .entries)))
-        (leb (z .slots) (length (before .holders))) (leb (z .countries) (length (before .held))) (leb (changeWidth * z .changes) (length (before .changes)))
-
-    -- The rest does not.
-    pub rest-short : (b : Bool) → b ≡ restFit → not b ≡ true → record { answer = refused 10; memory = before } ≡ callNationEvents xs before
-    rest-short b e f = nations-short xs before accepted (fit-parts ∙ ap (λ (x : Bool). nationsFit && x) (sym e ∙ negated b f) ∙ and-false nationsFit)
-
-    -- The nations do not.
-    pub placed-short : (rows₁ entries₁ : List ℕ) → PlacedShort nations (before .nations) rows₁ (before .entries) entries₁
-        → record { answer = refused 10; memory = nationCells rows₁ entries₁ (before .holders) (before .held) (before .changes) }
-        ≡ callNationEvents xs before
-    placed-short rows₁ entries₁ p =
-        ap₂
-        (λ (x y : List ℕ). record {
-          answer = refused 10;
-          memory = nationCells x y (before .holders) (before .held) (before .changes);
-        })
-        (p .rows) (p .entries)
-        ∙ nations-short xs before accepted (fit-parts ∙ ap (λ (x : Bool). x && restFit) (p .short))
-
-    -- All does.
-    module _ (b : Bool) (e : b ≡ restFit) (t : not b ≡ false) where
-      rest-fits : restFit ≡ true
-      rest-fits = sym e ∙ affirmed b t
-
-      -- What the writing of the rest asks.
-      pub rest-asked : SlotsRoom (take (z .slots) slots) (z .countries) (before .holders) (before .held) × (changeWidth * z .changes ≤ length (before .changes))
-      rest-asked =
-          let h : Bool = leb (z .slots) (length (before .holders)) in
-          let d : Bool = leb (z .countries) (length (before .held)) in
-          let f : Bool = leb (changeWidth * z .changes) (length (before .changes)) in
-          let two = and-left (h && d) f rest-fits in
-          let l = length-take-le (z .slots) slots slots-there in (
-            record {
-              holders = omega (arith, l, leb-true (z .slots) (length (before .holders)) (and-left h d two));
-              held = leb-true (z .countries) (length (before .held)) (and-right h d two);
-              few = omega (arith, l, q .slotted, provinces-few xs accepted);
-            },
-            leb-true (changeWidth * z .changes) (length (before .changes)) (and-right (h && d) f rest-fits),
-          )
-
-      -- What is written is the answer.
-      pub all-placed : (r : Listed) (rows₁ entries₁ holders₁ held₁ changes₁ : List ℕ)
-          → PlacedRows nations r (before .nations) rows₁ (before .entries) entries₁
-          → RestWritten xs z slots (before .holders) holders₁ (before .held) held₁ (before .changes) changes₁
-          → record {
-            answer = gives (countsIn (record { nations = r .nations; entries = r .entries; slots = z .slots; countries = z .countries; changes = z .changes }));
-            memory = nationCells rows₁ entries₁ holders₁ held₁ changes₁;
+    module _ (rows₁ entries₁ : List ℕ) where
+      -- The nations have none.
+      pub placed-refused : PlacedShort nations rows₀ rows₁ entries₀ entries₁ → RefusedBy xs holders held changes 10 rows₀ rows₁ entries₀ entries₁
+      placed-refused p =
+          record {
+            refuses = λ holders₀ held₀ changes₀ h d l.
+                ap₂ (λ (x y : List ℕ). record { answer = refused 10; memory = nationCells x y holders₀ held₀ changes₀ }) (p .rows) (p .entries)
+                ∙ nations-not xs accepted z (q .countries) (q .changes) (q .slotted) (nationCells rows₀ entries₀ holders₀ held₀ changes₀)
+                (subst (λ (ns : List Nation). nationsFor (listedOf ns) (length rows₀) (length entries₀) ≡ false) told (p .short));
           }
-          ≡ callNationEvents xs before
-      all-placed r rows₁ entries₁ holders₁ held₁ changes₁ p w =
-          nations-rows xs before _ _ accepted
-          (fit-parts ∙ ap₂ _&&_ (p .room) rest-fits)
-          (counts-told r (p .listed))
-          (all-written c (before .nations) (before .entries) (before .holders) (before .held) (before .changes) rows₁ entries₁ holders₁ held₁ changes₁
-          (put .rows) (put .entries)
-          (w .slots .holders ∙ ap (λ (l : List ℕ). written l (before .holders)) (holder-words xs accepted (take (z .slots) slots) (q .slots)))
-          (w .slots .held
-          ∙ ap (λ (l : List ℕ). written l (before .held))
-          (held-counted xs accepted (take (z .slots) slots) _ (z .countries) (q .slots) (q .countries) refl))
-          (w .changes))
-        where
-          put : NationsWritten (nationsOf c) (before .nations) rows₁ (before .entries) entries₁
-          put = subst (λ (ns : List Nation). NationsWritten ns (before .nations) rows₁ (before .entries) entries₁) told (p .put)
+
+      -- All has room.
+      pub placed-told : not b ≡ false → (r : Listed) → PlacedRows nations r rows₀ rows₁ entries₀ entries₁
+          → NationsPlaced xs holders held changes z provinces r slots keys targets rows₀ rows₁ entries₀ entries₁
+      placed-told t r p =
+          record {
+            countries = q .countries;
+            counted = q .changes;
+            slotted = q .slotted;
+            slots = q .slots;
+            ready = rest-ready;
+            rest = sym e ∙ affirmed b t;
+            placed = subst (λ (ns : List Nation). PlacedRows ns r rows₀ rows₁ entries₀ entries₁) told p;
+          }
+
+-- A record that is refused.
+pub record-refused : (xs : List ℕ) (holders held changes n : ℕ) (rows₀ entries₀ : List ℕ) → (0 < n) × (n ≡ refusal xs)
+    → RefusedBy xs holders held changes n rows₀ rows₀ entries₀ entries₀
+record-refused xs holders held changes n rows₀ entries₀ h =
+    record { refuses = λ holders₀ held₀ changes₀ _ _ _. nations-refused xs (nationCells rows₀ entries₀ holders₀ held₀ changes₀) n (h .0) (h .1) }
+
+-- ## The nations are written
+
+module _ (xs : List ℕ) (rows₀ entries₀ holders₀ held₀ changes₀ : List ℕ) (z : TableSizes) (provinces : Provinces) (r : Listed)
+    (slots keys cells rows₁ entries₁ : List ℕ)
+    (q : NationsPlaced xs (length holders₀) (length held₀) (length changes₀) z provinces r slots keys cells rows₀ rows₁ entries₀ entries₁) where
+  -- What the writing of the rest asks.
+  pub rest-asked : RestReady xs provinces z slots keys cells
+      × (SlotsRoom (take (z .slots) slots) (z .countries) holders₀ held₀ × (changeWidth * z .changes ≤ length changes₀))
+  rest-asked =
+      let h : Bool = leb (z .slots) (length holders₀) in
+      let d : Bool = leb (z .countries) (length held₀) in
+      let f : Bool = leb (changeWidth * z .changes) (length changes₀) in
+      let two = and-left (h && d) f (q .rest) in
+      let l = length-take-le (z .slots) slots (q .ready .slots) in (
+        q .ready,
+        (
+          record {
+            holders = omega (arith, l, leb-true (z .slots) (length holders₀) (and-left h d two));
+            held = leb-true (z .countries) (length held₀) (and-right h d two);
+            few = omega (arith, l, q .slotted, provinces-few xs (q .ready .ready .accepted));
+          },
+          leb-true (changeWidth * z .changes) (length changes₀) (and-right (h && d) f (q .rest)),
+        ),
+      )
+
+  -- What is written is the answer.
+  pub all-placed : (holders₁ held₁ changes₁ : List ℕ) → RestWritten xs z slots holders₀ holders₁ held₀ held₁ changes₀ changes₁
+      → record { answer = gives (countsIn (record { nations = r .nations; entries = r .entries; slots = z .slots; countries = z .countries; changes = z .changes })); memory = nationCells rows₁ entries₁ holders₁ held₁ changes₁ }
+      ≡ callNationEvents xs (nationCells rows₀ entries₀ holders₀ held₀ changes₀)
+  all-placed holders₁ held₁ changes₁ w =
+      all-fit xs (q .ready .ready .accepted) z (q .countries) (q .counted) (q .slotted) (nationCells rows₀ entries₀ holders₀ held₀ changes₀)
+      (q .rest) slots (q .slots) r rows₁ entries₁ holders₁ held₁ changes₁ (q .placed) w

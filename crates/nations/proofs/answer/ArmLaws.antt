@@ -1,5 +1,5 @@
--- What `nation_events` knows before its first call, and in each arm behind one: new cells have room for all tables, and an answer that is an enum
--- tells by its case.
+-- What the functions of an answer know before their first call, and in each arm behind one: new cells have room for the tables, and an answer that is
+-- an enum tells by its case.
 use mathlib.Core.Path.{_≡_, subst}
 use mathlib.Core.List.{List}
 use Prim.Native.Nat.{ℕ, _≤_, _<_}
@@ -12,12 +12,13 @@ use Rattle.owner_changes.specs.ChangeSteps.{mostChanges}
 use Rattle.nation_tables.specs.declared.gathering.TableSizes.{TableSizes}
 use Rattle.nation_tables.specs.declared.gathering.TablesGathered.{TablesGathered}
 use Rattle.nation_tables.specs.declared.gathering.TablesGathered.the-variants.{Tables, Refused}
-use Rattle.nation_tables.specs.Layout.{mostCountries, mostSettling, mostSlots}
+use Rattle.nation_tables.specs.Layout.{mostCountries, mostSettling, mostSlots, rowsWithin}
 use Rattle.nation_tables.specs.Gathering.{TableRoom, Gathered, gatheredTold}
 use Rattle.nations.specs.declared.listing.Listed.{Listed}
+use Rattle.nations.specs.declared.telling.NationsTold as NationsTold
 use Rattle.nations.specs.declared.writing.Placed.{Placed}
 use Rattle.nations.specs.declared.writing.Placed.the-variants.{Rows, Short}
-use Rattle.nations.specs.NationSteps.{PlacedRows, PlacedShort, placedTold}
+use Rattle.nations.specs.NationSteps.{smallRecord, fewRows, RowsRoom, PlacedRows, PlacedShort, placedTold, NationsPlaced, RefusedBy, nationsTold}
 
 -- ## Room
 
@@ -25,34 +26,59 @@ use Rattle.nations.specs.NationSteps.{PlacedRows, PlacedShort, placedTol
 pub made : (n : ℕ) → length {A = ℕ} (replicate n 0) ≡ n
 made n = length-replicate {A = ℕ} n 0
 
-room : (n : ℕ) → n ≤ length {A = ℕ} (replicate n 0)
-room n = omega (arith, made n)
+room : (m n : ℕ) → m ≤ n → m ≤ length {A = ℕ} (replicate n 0)
+room m n l = omega (arith, made n)
 
-pub made-room : TableRoom (replicate mostCountries 0) (replicate mostCountries 0) (replicate mostSettling 0) (replicate mostChanges 0)
-    (replicate mostChanges 0) (replicate mostSlots 0) (replicate mostCountries 0) (replicate mostChanges 0) (replicate mostCountries 0)
-made-room =
+-- The cells of a small record suffice for it, and those for the largest record for any.
+pub small-room : (bytes : ℕ) → bytes ≤ smallRecord
+    → RowsRoom bytes (replicate fewRows 0) (replicate fewRows 0) (replicate fewRows 0) (replicate fewRows 0)
+small-room bytes l =
+    let changes = room (rowsWithin mostChanges bytes) fewRows (omega arith) in
+    record { runs = room (rowsWithin mostSettling bytes) fewRows (omega arith); keys = changes; cells = changes; turns = changes }
+
+pub large-room : (bytes : ℕ) → RowsRoom bytes (replicate mostSettling 0) (replicate mostChanges 0) (replicate mostChanges 0) (replicate mostChanges 0)
+large-room bytes =
+    let changes = room (rowsWithin mostChanges bytes) mostChanges (omega arith) in
+    record { runs = room (rowsWithin mostSettling bytes) mostSettling (omega arith); keys = changes; cells = changes; turns = changes }
+
+-- With new cells for the countries there is room for all tables.
+pub made-room : (bytes : ℕ) (runs keys cells turns slots : List ℕ) → RowsRoom bytes runs keys cells turns × (mostSlots ≤ length slots)
+    → TableRoom bytes (replicate mostCountries 0) (replicate mostCountries 0) runs keys cells slots (replicate mostCountries 0) turns (replicate mostCountries 0)
+made-room bytes runs keys cells turns slots l =
+    let new = room mostCountries mostCountries (omega arith) in
     record {
-      words = room mostCountries;
-      initials = room mostCountries;
-      switches = room mostSettling;
-      keys = room mostChanges;
-      cells = room mostChanges;
-      slots = room mostSlots;
-      started = room mostCountries;
-      turns = room mostChanges;
-      firsts = room mostCountries;
+      words = new;
+      initials = new;
+      switches = l .0 .runs;
+      keys = l .0 .keys;
+      cells = l .0 .cells;
+      slots = l .1;
+      started = new;
+      turns = l .0 .turns;
+      firsts = new;
     }
 
--- Cells of full size, as they were made and are kept.
-pub record FullSize (words initials runs keys cells slots started turns : List ℕ) : Type 0 where
-  pub allWords : length words ≡ mostCountries
-  pub allInitials : length initials ≡ mostCountries
-  pub allRuns : length runs ≡ mostSettling
-  pub allKeys : length keys ≡ mostChanges
-  pub allCells : length cells ≡ mostChanges
-  pub allSlots : length slots ≡ mostSlots
-  pub allStarted : length started ≡ mostCountries
-  pub allTurns : length turns ≡ mostChanges
+-- Cells that are as many as before have as much room.
+kept : (m a b : ℕ) → b ≡ a → m ≤ a → m ≤ b
+kept m a b e l = omega arith
+
+pub room-kept : {bytes : ℕ} {words₀ initials₀ runs₀ keys₀ cells₀ slots₀ started₀ turns₀ firsts₀ : List ℕ} (words initials runs keys cells slots started turns firsts : List ℕ)
+    → TableRoom bytes words₀ initials₀ runs₀ keys₀ cells₀ slots₀ started₀ turns₀ firsts₀
+    → length words ≡ length words₀ → length initials ≡ length initials₀ → length runs ≡ length runs₀ → length keys ≡ length keys₀
+    → length cells ≡ length cells₀ → length slots ≡ length slots₀ → length started ≡ length started₀ → length turns ≡ length turns₀
+    → length firsts ≡ length firsts₀ → TableRoom bytes words initials runs keys cells slots started turns firsts
+room-kept words initials runs keys cells slots started turns firsts r w i u k c s b t f =
+    record {
+      words = kept _ _ _ w (r .words);
+      initials = kept _ _ _ i (r .initials);
+      switches = kept _ _ _ u (r .switches);
+      keys = kept _ _ _ k (r .keys);
+      cells = kept _ _ _ c (r .cells);
+      slots = kept _ _ _ s (r .slots);
+      started = kept _ _ _ b (r .started);
+      turns = kept _ _ _ t (r .turns);
+      firsts = kept _ _ _ f (r .firsts);
+    }
 
 -- ## What callers know in each arm
 
@@ -71,3 +97,12 @@ module _ (ns : List Nation) (rows₀ rows₁ entries₀ entries₁ : List ℕ) (
 
   pub none-placed : r ≡ Short → PlacedShort ns rows₀ rows₁ entries₀ entries₁
   none-placed e = subst (λ (p : Placed). placedTold ns p rows₀ rows₁ entries₀ entries₁) e told
+
+module _ (xs : List ℕ) (holders held changes : ℕ) (slots keys cells rows₀ rows₁ entries₀ entries₁ : List ℕ) (r : NationsTold.NationsTold)
+    (told : nationsTold xs holders held changes r slots keys cells rows₀ rows₁ entries₀ entries₁) where
+  pub nations-placed : {z : TableSizes} {provinces : Provinces} {l : Listed} → r ≡ NationsTold.the-variants.Rows z provinces l
+      → NationsPlaced xs holders held changes z provinces l slots keys cells rows₀ rows₁ entries₀ entries₁
+  nations-placed e = subst (λ (t : NationsTold.NationsTold). nationsTold xs holders held changes t slots keys cells rows₀ rows₁ entries₀ entries₁) e told
+
+  pub none-told : {n : ℕ} → r ≡ NationsTold.the-variants.Refused n → RefusedBy xs holders held changes n rows₀ rows₁ entries₀ entries₁
+  none-told e = subst (λ (t : NationsTold.NationsTold). nationsTold xs holders held changes t slots keys cells rows₀ rows₁ entries₀ entries₁) e told

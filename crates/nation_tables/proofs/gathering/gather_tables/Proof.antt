@@ -8,7 +8,7 @@ has-cells-requires : tie.Need-has-cells-requires
 has-cells-requires c κs = tt
 
 returns : tie.Need-returns
-returns c = λ room. absurd (room-denied _ _ _ _ _ _ _ _ _ _ ((c .before) .has-cells .ensures) (c .if1 .taken) room)
+returns c = λ room. absurd (room-denied _ _ _ _ _ _ _ _ _ _ _ ((c .before) .has-cells .ensures) (c .if1 .taken) room)
 
 begin-at-requires : tie.Need-begin-at-requires
 begin-at-requires c κs = tt
@@ -17,7 +17,7 @@ enum-known-from : tie.Need-enum-known-from
 enum-known-from c = search needs
 
 fill-all-requires : tie.Need-fill-all-requires
-fill-all-requires c κs = (begun-at _ _ ((c .before .before .before .before .before .before .before .before .before .before .before .before .before) .begin-at .ensures) ((c .before .before .before .before .before .before .before .before .before .before .before) .from .given .1), room-there _ _ _ _ _ _ _ _ _ _ ((c .before .before .before .before .before .before .before .before .before .before .before .before .before .before .before) .has-cells .ensures) ((c .before .before .before .before .before .before .before .before .before .before .before .before .before .before) .if1 .left))
+fill-all-requires c κs = (begun-at _ _ ((c .before .before .before .before .before .before .before .before .before .before .before .before .before) .begin-at .ensures) ((c .before .before .before .before .before .before .before .before .before .before .before) .from .given .1), room-there _ _ _ _ _ _ _ _ _ _ _ ((c .before .before .before .before .before .before .before .before .before .before .before .before .before .before .before) .has-cells .ensures) ((c .before .before .before .before .before .before .before .before .before .before .before .before .before .before) .if1 .left))
 
 enum-known-number : tie.Need-enum-known-number
 enum-known-number c = search needs

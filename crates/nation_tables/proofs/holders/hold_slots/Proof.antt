@@ -1,11 +1,9 @@
--- The start, then the steps, then the pass over them. There are at most 60,000 changes, so all have room.
-use mathlib.Core.Path.{_∙_}
-use Prim.Native.Nat.{_≤_}
+-- The start, then the steps, then the pass over them. There is room for as many changes as there are.
+use mathlib.Core.Path.{_≡_, _∙_}
 use native.Mathlib.Omega.{arith}
 use borrow.Author.Needs.{zero≤}
-use lib.ListN.{length-take}
-use Rattle.owner_changes.proofs.ChangeLaws.{entered-few}
-use Rattle.owner_changes.specs.ChangeSteps.{mostChanges}
+use lib.ListN.{length, length-take}
+use Rattle.owner_changes.specs.ChangeSteps.{entered}
 use Rattle.nation_tables.proofs.slots.HoldersLaws.{held}
 use Rattle.nation_tables.proofs.holders.hold_slots.Statement.{statement}
 use Rattle.nation_tables.proofs.holders.hold_slots.Tie as tie
@@ -17,9 +15,9 @@ begin c = c .before .before .before .before .before .before .before
 abbrev start : tie.After-sort-steps → tie.Start
 start c = begin c .before .before .before .before .before .before .before .before .before .before .before .before
 
--- There are not many changes.
-few : (c : tie.After-sort-steps) → c .sort-steps .result ≤ mostChanges
-few c = omega (arith, entered-few _ (start c .pre .0 .accepted), c .sort-steps .ensures .counted)
+-- So many changes there are.
+count : (c : tie.After-sort-steps) → c .sort-steps .result ≡ length (entered (start c .args .s .now))
+count c = c .sort-steps .ensures .counted
 
 abbrev passed : tie.After-pass → tie.After-sort-steps
 passed c = c .before .before .before .before .before .before .before .before .before .before .before
@@ -41,7 +39,7 @@ part-pass-start : tie.Need-part-pass-start
 part-pass-start c = zero≤
 
 part-pass-end : tie.Need-part-pass-end
-part-pass-end c = let sorted = c .before .before .before .before .before in omega (arith, few sorted, sorted .sort-steps .kept .1 .1 .1 .1 .0, start sorted .pre .1 .1 .keys)
+part-pass-end c = let sorted = c .before .before .before .before .before in omega (arith, count sorted, sorted .sort-steps .kept .1 .1 .1 .1 .0, start sorted .pre .1 .1 .keys)
 
 sub-pass-2 : tie.Need-sub-pass-2
 sub-pass-2 c = zero≤
@@ -50,7 +48,7 @@ part-pass-start-2 : tie.Need-part-pass-start-2
 part-pass-start-2 c = zero≤
 
 part-pass-end-2 : tie.Need-part-pass-end-2
-part-pass-end-2 c = let sorted = c .before .before .before .before .before .before .before in omega (arith, few sorted, sorted .sort-steps .kept .1 .1 .1 .1 .1 .0, start sorted .pre .1 .1 .cells)
+part-pass-end-2 c = let sorted = c .before .before .before .before .before .before .before in omega (arith, count sorted, sorted .sort-steps .kept .1 .1 .1 .1 .1 .0, start sorted .pre .1 .1 .cells)
 
 sub-pass-3 : tie.Need-sub-pass-3
 sub-pass-3 c = zero≤
@@ -59,13 +57,13 @@ part-pass-start-3 : tie.Need-part-pass-start-3
 part-pass-start-3 c = zero≤
 
 part-pass-end-3 : tie.Need-part-pass-end-3
-part-pass-end-3 c = let sorted = c .before .before .before .before .before .before .before .before .before in omega (arith, few sorted, start sorted .pre .1 .1 .turns)
+part-pass-end-3 c = let sorted = c .before .before .before .before .before .before .before .before .before in omega (arith, count sorted, start sorted .pre .1 .1 .turns)
 
 pass-requires : tie.Need-pass-requires
 pass-requires c κs =
     let sorted = c .before .before .before .before .before .before .before .before .before .before in
     let room = start sorted .pre .1 .1 in
-    simp length-take (omega (arith, few sorted, sorted .sort-steps .kept .1 .1 .1 .1 .0, room .keys, room .turns))
+    simp length-take (omega (arith, count sorted, sorted .sort-steps .kept .1 .1 .1 .1 .0, room .keys, room .turns))
 
 same-length : tie.Need-same-length
 same-length c = c .before .before .before .before .before .before .before .before .before .before .before .before .before .before .before .sort-steps .kept .1 .1 .1 .1 .0

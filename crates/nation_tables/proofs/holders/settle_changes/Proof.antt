@@ -10,17 +10,11 @@ use borrow.Author.Needs.{needs}
 use Rattle.nation_tables.proofs.holders.settle_changes.Statement.{statement}
 use Rattle.nation_tables.proofs.holders.settle_changes.Tie as tie
 
-slice-aggregate-note-ends : tie.Need-slice-aggregate-note-ends
-slice-aggregate-note-ends c = search needs
+slice-aggregate-note-starts : tie.Need-slice-aggregate-note-starts
+slice-aggregate-note-starts c = search needs
 
-note-ends-requires : tie.Need-note-ends-requires
-note-ends-requires c κs = search needs
-
-slice-aggregate-raise-starts : tie.Need-slice-aggregate-raise-starts
-slice-aggregate-raise-starts c = search needs
-
-raise-starts-requires : tie.Need-raise-starts-requires
-raise-starts-requires c κs = search needs
+note-starts-requires : tie.Need-note-starts-requires
+note-starts-requires c κs = tt
 
 slice-aggregate-fill-holders : tie.Need-slice-aggregate-fill-holders
 slice-aggregate-fill-holders c = search needs
@@ -36,7 +30,7 @@ part-fill-holders-end c = search needs
 
 fill-holders-requires : tie.Need-fill-holders-requires
 fill-holders-requires c κs =
-    let p = c .before .before .before .before .before .before .before .before .before .before .before .before .pre in
+    let p = c .before .before .before .before .before .before .before .before .before .pre in
     (p .0, (simp length-take (omega (arith, p .1 .0)), p .1 .1))
 
 same-length : tie.Need-same-length
@@ -44,7 +38,7 @@ same-length c = search needs
 
 returns : tie.Need-returns
 returns c =
-    let s0 = c .before .before .before .before .before .before .before .before .before .before .before .before .before .before .before in
+    let s0 = c .before .before .before .before .before .before .before .before .before .before .before .before in
     let xs = s0 .args .s .now in
     front-is _ _ _ _ (c .before .before .fill-holders .ensures) (length-map (entered xs) (holderCell (campaignOf xs .countries)) ∙ sym (s0 .pre .1 .0 .0))
 
@@ -52,10 +46,8 @@ pub settle-changes-spec : {M : Type 1} → statement M
 settle-changes-spec =
     tie.close
     (tie.spec
-    slice-aggregate-note-ends
-    note-ends-requires
-    slice-aggregate-raise-starts
-    raise-starts-requires
+    slice-aggregate-note-starts
+    note-starts-requires
     slice-aggregate-fill-holders
     sub-fill-holders
     part-fill-holders-start

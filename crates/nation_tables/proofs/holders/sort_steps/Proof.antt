@@ -1,9 +1,7 @@
--- There are at most 60,000 changes, so their keys and cells have room.
-use Prim.Native.Nat.{_≤_}
+-- All changes have room, by their count.
 use native.Mathlib.Omega.{arith}
 use borrow.Author.Needs.{needs, zero≤}
-use Rattle.owner_changes.specs.ChangeSteps.{KeysFilled, mostChanges}
-use Rattle.owner_changes.proofs.ChangeLaws.{entered-few}
+use Rattle.owner_changes.specs.ChangeSteps.{KeysFilled}
 use Rattle.owner_changes.proofs.WrittenLaws.{keys-filled}
 use Rattle.nation_tables.proofs.slots.HoldersLaws.{stepped}
 use Rattle.nation_tables.proofs.holders.sort_steps.Statement.{statement}
@@ -16,10 +14,6 @@ start c = c .before .before .before .before .before .before .before
 filled-all : (c : tie.After-fill-keys) → KeysFilled (start c .args .s .now) (c .fill-keys .result) (c .fill-keys .last .1 .1 .0)
 filled-all c = keys-filled _ _ (start c .pre .0) _ _ _ (start c .pre .1 .1 .0) (c .fill-keys .ensures)
 
--- There are not many changes.
-few : (c : tie.After-fill-keys) → c .fill-keys .result ≤ mostChanges
-few c = omega (arith, entered-few _ (start c .pre .0 .accepted), filled-all c .counted)
-
 fill-keys-requires : tie.Need-fill-keys-requires
 fill-keys-requires c κs = search needs
 
@@ -30,7 +24,7 @@ part-sort-keys-start : tie.Need-part-sort-keys-start
 part-sort-keys-start c = zero≤
 
 part-sort-keys-end : tie.Need-part-sort-keys-end
-part-sort-keys-end c = let filled = c .before .before in omega (arith, few filled, filled .fill-keys .kept .1 .1 .0, start filled .pre .1 .1)
+part-sort-keys-end c = let filled = c .before .before in omega (arith, filled-all filled .counted, filled .fill-keys .kept .1 .1 .0, start filled .pre .1 .1)
 
 sort-keys-requires : tie.Need-sort-keys-requires
 sort-keys-requires c κs = search needs
@@ -45,7 +39,7 @@ settle-changes-requires c κs =
       (
         (
           filled-all filled .counted,
-          omega (arith, few filled, sorted .sort-keys .kept .1 .0, p .1 .1 .1),
+          omega (arith, filled-all filled .counted, sorted .sort-keys .kept .1 .0, p .1 .1 .1),
         ),
         p .1 .0,
       ),
