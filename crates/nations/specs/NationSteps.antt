@@ -19,6 +19,7 @@ use Rattle.nation_tables.specs.declared.gathering.TableSizes.{TableSizes}
 use Rattle.nation_tables.specs.Layout.{mostSettling, rowsWithin, wordSpan}
 use Rattle.nation_tables.specs.Holders.{slotCells, SlotsPut}
 use Rattle.nations.specs.declared.listing.Listed.{Listed}
+use Rattle.nations.specs.declared.nations.NationCounts.{NationCounts}
 use Rattle.nations.specs.declared.writing.Placed as Placed
 use Rattle.nations.specs.declared.telling.NationsTold as NationsTold
 use Rattle.nations.specs.Cases.{nationCells}
@@ -96,6 +97,10 @@ pub record RestReady (xs : List ℕ) (provinces₀ : Provinces) (z : TableSizes)
 pub record RestWritten (xs : List ℕ) (z : TableSizes) (slots₀ holders₀ holders₁ held₀ held₁ changes₀ changes₁ : List ℕ) : Type 0 where
   pub slots : SlotsPut (take (z .slots) slots₀) (z .countries) holders₀ holders₁ held₀ held₁
   pub changes : changes₁ ≡ written (changeRows (changesOf (campaignOf xs))) changes₀
+
+-- How many rows of each kind.
+abbrev pub countsFrom : TableSizes → Listed → NationCounts
+countsFrom z r = record { nations = r .nations; entries = r .entries; slots = z .slots; countries = z .countries; changes = z .changes }
 
 -- ## All but the rest
 

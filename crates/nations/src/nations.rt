@@ -1,16 +1,18 @@
 // Nations: who lived, under which tags.
+use crate::listing::Listed;
 use crate::telling;
 use crate::telling::NationsTold;
 use crate::writing;
 use nation_tables::MOST_SETTLING;
 use nation_tables::MOST_SLOTS;
+use nation_tables::TableSizes;
 use owner_changes::MOST_CHANGES;
 ghost use mathlib.Core.Path.{_≡_};
 ghost use Prim.Native.Nat.{_≤_};
 ghost use lib.ListN.{length};
 ghost use Rattle.rules.specs.Outcomes.{callNationEvents};
 ghost use Rattle.nations.specs.Cases.{nationCells, nationsOutcome};
-ghost use Rattle.nations.specs.NationSteps.{smallRecord, RowsRoom};
+ghost use Rattle.nations.specs.NationSteps.{smallRecord, RowsRoom, countsFrom};
 
 // A record of no more bytes is small: its tables take less time to clear.
 const SMALL_RECORD: usize = 16384;
@@ -31,6 +33,19 @@ pub struct NationCounts {
 pub enum NationEvents {
     Rows(NationCounts),
     Refused(u32),
+}
+
+// How many rows there are, by the sizes of the tables and what is listed.
+fn counts_of(sizes: TableSizes, listed: Listed) -> NationCounts
+    ensures { λ r. ⌜ r ≡ countsFrom sizes listed ⌝ }
+{
+    NationCounts {
+        nations: listed.nations,
+        entries: listed.entries,
+        slots: sizes.slots,
+        countries: sizes.countries,
+        changes: sizes.changes,
+    }
 }
 
 // The answer, worked out in cells for changes and switches that are lent with room for any record of as many bytes.
@@ -63,25 +78,9 @@ fn answer_in(
         held.len(),
         changes.len(),
     ) {
-        NationsTold::Rows(sizes, provinces, listed) => {
-            writing::write_rest(
-                s,
-                provinces,
-                sizes,
-                &slots,
-                keys,
-                cells,
-                holders,
-                held,
-                changes,
-            );
-            let counts = NationCounts {
-                nations: listed.nations,
-                entries: listed.entries,
-                slots: sizes.slots,
-                countries: sizes.countries,
-                changes: sizes.changes,
-            };
+        NationsTold::Rows(sizes, all, listed) => {
+            writing::write_rest(s, all, sizes, &slots, keys, cells, holders, held, changes);
+            let counts = counts_of(sizes, listed);
             NationEvents::Rows(counts)
         }
         NationsTold::Refused(number) => NationEvents::Refused(number),

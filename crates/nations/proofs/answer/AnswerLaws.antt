@@ -35,7 +35,7 @@ use Rattle.nations.specs.declared.listing.Listed.{Listed}
 use Rattle.nations.specs.declared.nations.NationCounts.{NationCounts}
 use Rattle.nations.specs.Cases.{nationCells, countsIn}
 use Rattle.nations.specs.Listing.{nationsAt, listedOf, Readable}
-use Rattle.nations.specs.NationSteps.{nationsFor, restFor, FewNations, FrontsInside, PlacedRows, PlacedShort, RestReady, RestWritten, NationsPlaced, RefusedBy}
+use Rattle.nations.specs.NationSteps.{nationsFor, restFor, countsFrom, FewNations, FrontsInside, PlacedRows, PlacedShort, RestReady, RestWritten, NationsPlaced, RefusedBy}
 use Rattle.nations.proofs.answer.NationsLaws.{cells-nations, cells-readable, runs-told}
 use Rattle.nations.proofs.answer.NationSizeLaws.{nations-few, entries-few}
 use Rattle.nations.proofs.answer.NationOutcomeLaws.{room-fits, nations-refused, nations-short, nations-rows}
@@ -67,10 +67,10 @@ affirmed true h = refl
 affirmed false h = sym h
 
 -- Counts of equal numbers are the same.
-abbrev countsFrom : ℕ → ℕ → ℕ → ℕ → ℕ → Counts
-countsFrom a b c d e = record { nations = a; entries = b; slots = c; countries = d; changes = e }
+abbrev fiveCounts : ℕ → ℕ → ℕ → ℕ → ℕ → Counts
+fiveCounts a b c d e = record { nations = a; entries = b; slots = c; countries = d; changes = e }
 
-counts-same : (a b c d e a′ b′ c′ d′ e′ : ℕ) → a ≡ a′ → b ≡ b′ → c ≡ c′ → d ≡ d′ → e ≡ e′ → countsFrom a b c d e ≡ countsFrom a′ b′ c′ d′ e′
+counts-same : (a b c d e a′ b′ c′ d′ e′ : ℕ) → a ≡ a′ → b ≡ b′ → c ≡ c′ → d ≡ d′ → e ≡ e′ → fiveCounts a b c d e ≡ fiveCounts a′ b′ c′ d′ e′
 counts-same a b c d e a′ b′ c′ d′ e′ p q r s t = cc
 
 -- The five slices, each with its part of the answer.
@@ -97,10 +97,7 @@ module _ (xs : List ℕ) (accepted : refusal xs ≡ 0) (z : TableSizes) (countri
 
   -- The counts.
   module _ (r : Listed) (listed : r ≡ listedOf (nationsOf c)) where
-    abbrev rows : NationCounts
-    rows = record { nations = r .nations; entries = r .entries; slots = z .slots; countries = z .countries; changes = z .changes }
-
-    counts-told : countsIn rows ≡ countsOf (answersOf c)
+    counts-told : countsIn (countsFrom z r) ≡ countsOf (answersOf c)
     unfolding countsOf answersOf holdersOf heldOf
     counts-told =
         counts-same _ _ _ _ _ _ _ _ _ _ (ap (λ (x : Listed). x .nations) listed) (ap (λ (x : Listed). x .entries) listed)
@@ -118,7 +115,7 @@ module _ (xs : List ℕ) (accepted : refusal xs ≡ 0) (z : TableSizes) (countri
 
     fit-parts : allFit (cellsOf (answersOf c)) before ≡ (nationsFit && restFit)
     fit-parts =
-        sym (room-fits (answersOf c) (countsIn (rows (listedOf (nationsOf c)) refl)) before (counts-told (listedOf (nationsOf c)) refl))
+        sym (room-fits (answersOf c) (countsIn (countsFrom z (listedOf (nationsOf c)))) before (counts-told (listedOf (nationsOf c)) refl))
         ∙ regroup (leb (nationWidth * listedOf (nationsOf c) .nations) (length (before .nations))) (leb (entryWidth * listedOf (nationsOf c) .entries) (length (before .entries)))
         (leb (z .slots) (length (before .holders))) (leb (z .countries) (length (before .held))) (leb (changeWidth * z .changes) (length (before .changes)))
 
@@ -135,12 +132,12 @@ module _ (xs : List ℕ) (accepted : refusal xs ≡ 0) (z : TableSizes) (countri
         → (r : Listed) (rows₁ entries₁ holders₁ held₁ changes₁ : List ℕ)
         → PlacedRows (nationsOf c) r (before .nations) rows₁ (before .entries) entries₁
         → RestWritten xs z slots (before .holders) holders₁ (before .held) held₁ (before .changes) changes₁
-        → record { answer = gives (countsIn (record { nations = r .nations; entries = r .entries; slots = z .slots; countries = z .countries; changes = z .changes })); memory = nationCells rows₁ entries₁ holders₁ held₁ changes₁ }
+        → (counts : NationCounts) → counts ≡ countsFrom z r → record { answer = gives (countsIn counts); memory = nationCells rows₁ entries₁ holders₁ held₁ changes₁ }
         ≡ callNationEvents xs before
-    all-fit f slots e r rows₁ entries₁ holders₁ held₁ changes₁ p w =
+    all-fit f slots e r rows₁ entries₁ holders₁ held₁ changes₁ p w counts k =
         nations-rows xs before _ _ accepted
         (fit-parts ∙ ap₂ _&&_ (p .room) f)
-        (counts-told r (p .listed))
+        (ap countsIn k ∙ counts-told r (p .listed))
         (all-written c (before .nations) (before .entries) (before .holders) (before .held) (before .changes) rows₁ entries₁ holders₁ held₁ changes₁
         (p .put .rows) (p .put .entries)
         (w .slots .holders ∙ ap (λ (l : List ℕ). written l (before .holders)) (holder-words xs accepted (take (z .slots) slots) e))
@@ -276,8 +273,8 @@ module _ (xs : List ℕ) (rows₀ entries₀ holders₀ held₀ changes₀ : Lis
 
   -- What is written is the answer.
   pub all-placed : (holders₁ held₁ changes₁ : List ℕ) → RestWritten xs z slots holders₀ holders₁ held₀ held₁ changes₀ changes₁
-      → record { answer = gives (countsIn (record { nations = r .nations; entries = r .entries; slots = z .slots; countries = z .countries; changes = z .changes })); memory = nationCells rows₁ entries₁ holders₁ held₁ changes₁ }
+      → (counts : NationCounts) → counts ≡ countsFrom z r → record { answer = gives (countsIn counts); memory = nationCells rows₁ entries₁ holders₁ held₁ changes₁ }
       ≡ callNationEvents xs (nationCells rows₀ entries₀ holders₀ held₀ changes₀)
-  all-placed holders₁ held₁ changes₁ w =
+  all-placed holders₁ held₁ changes₁ w counts k =
       all-fit xs (q .ready .ready .accepted) z (q .countries) (q .counted) (q .slotted) (nationCells rows₀ entries₀ holders₀ held₀ changes₀)
-      (q .rest) slots (q .slots) r rows₁ entries₁ holders₁ held₁ changes₁ (q .placed) w
+      (q .rest) slots (q .slots) r rows₁ entries₁ holders₁ held₁ changes₁ (q .placed) w counts k

@@ -1,7 +1,6 @@
 -- The tables are gathered in cells that have room for them. Then the outcome by its case: a refused record, a slice that is too short, or the nations, with
 -- all that the rest asks.
 use mathlib.Core.Path.{sym, _∙_}
-use borrow.Author.Needs.{needs}
 use lib.ListN.{length}
 use Rattle.nation_tables.specs.Layout.{mostCountries}
 use Rattle.nation_tables.specs.Gathering.{Gathered, TableRoom}
@@ -38,7 +37,7 @@ gather-tables-requires : tie.Need-gather-tables-requires
 gather-tables-requires c κs = tt
 
 enum-known-sizes : tie.Need-enum-known-sizes
-enum-known-sizes c = search needs
+enum-known-sizes c = c .match .keys1
 
 rest-fits-requires : tie.Need-rest-fits-requires
 rest-fits-requires c κs = changes-small _ _ _ _ _ _ _ _ _ _ _ _ (gathered (c .before)) (roomy (c .before))
@@ -77,13 +76,13 @@ place-nations-requires : tie.Need-place-nations-requires
 place-nations-requires c κs = (fronts-inside _ _ _ _ _ _ _ _ _ _ _ _ (gathered (c .before .before .before .before .before .before .before .before .before .before .before .before .before)) (roomy (c .before .before .before .before .before .before .before .before .before .before .before .before .before)), (fronts-readable _ _ _ _ _ _ _ _ _ _ _ _ (gathered (c .before .before .before .before .before .before .before .before .before .before .before .before .before)) (roomy (c .before .before .before .before .before .before .before .before .before .before .before .before .before)), nations-told-few _ _ _ _ _ _ _ _ _ _ _ _ (gathered (c .before .before .before .before .before .before .before .before .before .before .before .before .before)) (roomy (c .before .before .before .before .before .before .before .before .before .before .before .before .before))))
 
 enum-known-listed : tie.Need-enum-known-listed
-enum-known-listed c = search needs
+enum-known-listed c = c .match2 .keys1
 
 enum-told : tie.Need-enum-told
-enum-told c = search needs
+enum-told c = c .match2 .keys2
 
 enum-known-number : tie.Need-enum-known-number
-enum-known-number c = search needs
+enum-known-number c = c .match .keys2
 
 same-length-6 : tie.Need-same-length-6
 same-length-6 c = (c .before .before .before .before .before .before .before .before .before .before .before .before .before .before .before .before .before .before .before .before .before .before .before .before .before .before .before .before .before .before .before .before .before .before .before .before .before) .gather-tables .kept .1 .1 .1 .0
