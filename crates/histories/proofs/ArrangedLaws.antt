@@ -17,7 +17,7 @@ use Rattle.sorting.proofs.SortLaws.{all-kept}
 use Rattle.rules.specs.Histories.{History, hasPlayers, isReleased, takesInitial, arranged, namesIn}
 use Rattle.rules.specs.HistoryRows.{HistoryRow, historyRowOf, historyRowWords, historyRowsFrom, historyWords}
 use Rattle.histories.specs.Drafts.{draftOf}
-use Rattle.histories.specs.Arranging.{hasNames, isPopped, historiesFrom, namesAt, keptOf, draftWords}
+use Rattle.arranging.specs.Arranging.{hasNames, isPopped, historiesFrom, namesAt, keptOf, draftWords}
 
 module _ (keys : List ℕ) where
   abbrev draft : History → HistoryRow

@@ -23,11 +23,12 @@ use Rattle.rules.specs.NationRows.{nationRowsIn}
 use Rattle.rules.specs.HistoryRows.{HistoryRow, historyRowWords}
 use Rattle.search.specs.Places.{tagKeysFrom, placeFrom}
 use Rattle.chronicle_rows.specs.RowAt.{storedTags}
-use Rattle.histories.specs.Tables.{tagsLeft, storedWord, markedFrom, cellAt}
+use Rattle.draft_parts.specs.Marks.{storedWord, markedFrom, cellAt}
+use Rattle.histories.specs.Tables.{tagsLeft}
 use Rattle.histories.specs.Drafts.{playedLeft, draftWith, draftFor, FillsDrafts, HoldsDrafts}
-use Rattle.histories.proofs.MarkLaws.{stored-word, all-placed}
+use Rattle.draft_parts.proofs.MarkLaws.{stored-word, all-placed}
 use Rattle.histories.proofs.PlayerKeyLaws.{length-tag-keys}
-use Rattle.histories.proofs.ArrangeStepLaws.{length-rows}
+use Rattle.history_rows.proofs.PutLaws.{length-rows}
 
 -- ## The tables
 

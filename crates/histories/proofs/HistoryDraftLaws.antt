@@ -20,7 +20,7 @@ use Rattle.chronicle_rows.specs.RowAt.{nationNumbered, storedTags}
 use Rattle.chronicle_rows.proofs.NumberedLaws.{nations-numbered}
 use Rattle.search.specs.Places.{placeFrom}
 use Rattle.search.proofs.PlaceLaws.{place-inside}
-use Rattle.histories.specs.Tables.{storedWord}
+use Rattle.draft_parts.specs.Marks.{storedWord}
 use Rattle.histories.specs.Drafts.{runLength, draftWith, draftOf}
 
 -- ## Rows read back

@@ -32,14 +32,16 @@ use Rattle.rules.proofs.LentLaws.{outcome-refused}
 use Rattle.players.specs.declared.pairs.Pairs.{Pairs}
 use Rattle.players.specs.PlayerSteps.{playersLeft}
 use Rattle.players.proofs.PlayerLaws.{walk-ready, players-few}
-use Rattle.players.proofs.LackLaws.{nations-many}
+use Rattle.history_rows.proofs.LackLaws.{nations-many}
 use Rattle.histories.specs.Cases.{AcceptedRecord}
-use Rattle.histories.specs.Tables.{storedWord, playerKey}
-use Rattle.histories.specs.Drafts.{playedLeft, keysBefore, runLength, draftWith, draftOf, nameIn}
-use Rattle.histories.specs.Arranging.{isPopped, namesAt, ArrangeReady, draftedCells, draftedCounts, draftedOutcome}
+use Rattle.draft_parts.specs.Marks.{storedWord}
+use Rattle.histories.specs.Tables.{playerKey}
+use Rattle.histories.specs.Drafts.{playedLeft, keysBefore, runLength, draftWith, draftOf}
+use Rattle.arranging.specs.Arranging.{isPopped, nameIn, namesAt, ArrangeReady, draftedCells, draftedCounts, draftedOutcome, arrangedOutcome}
+use Rattle.arranging.proofs.ArrangeLaws.{arranged-ready}
 use Rattle.histories.proofs.NameLaws.{players-rising, names-told}
 use Rattle.histories.proofs.HistoryDraftLaws.{drafts-read, history-parts, draft-history}
-use Rattle.histories.proofs.ArrangeStepLaws.{length-all-names}
+use Rattle.arranging.proofs.ArrangeStepLaws.{length-all-names}
 use Rattle.histories.proofs.ArrangedLaws.{words-same, names-same, count-same}
 
 -- ## The drafts of a campaign
@@ -111,7 +113,7 @@ module _ (xs ws : List ℕ) (r : Record) (a : AcceptedRecord xs r) where
     short : length keys ≤ 1000
     short = omega (arith, ap length sorted ∙ length-sort leb (map playerKey (playersLeft xs (r .multiplayer) start)), length-map (playersLeft xs (r .multiplayer) start) playerKey, few-players)
 
-    pub ready-told : ArrangeReady (historyRowsIn words) keys
+    ready-told : ArrangeReady (historyRowsIn words) keys
     ready-told =
         record {
           few = omega (arith, ap length rows ∙ length-map (playedLeft xs (r .countries)) _, keep-short (λ (k : Country). k .wasPlayer) (countriesLeft xs (r .countries)), few-countries);
@@ -157,10 +159,11 @@ module _ (xs ws : List ℕ) (r : Record) (a : AcceptedRecord xs r) where
           ∙ first-pass (numberedNumber (nationsIn ws es)) _ (rw (le-leb (length (nationsIn ws es)) 4294967295 (omega (arith, nations-many ws es shaped))))
           ∙ first-one _
 
-      pub outcome-told : draftedOutcome (r .ironman) (historyRowsIn words) keys before ≡ callPlayerHistories xs ws es before
+      pub outcome-told : arrangedOutcome (r .ironman) (historyRowsIn words) keys before ≡ callPlayerHistories xs ws es before
       unfolding callPlayerHistories
       outcome-told =
-          ap₂ (λ (b : Bool) (ds : List HistoryRow). draftedOutcome b ds keys before) (a .told .ironman) drafts
+          arranged-ready (historyRowsIn words) keys (r .ironman) before ready-told
+          ∙ ap₂ (λ (b : Bool) (ds : List HistoryRow). draftedOutcome b ds keys before) (a .told .ironman) drafts
           ∙ ap₂ (λ (cells : HistoryCells) (n : HistoryCounts). outcome (roomNumber (bothFit cells before)) n (bothWritten cells before) before) cells-same counts-same
           ∙ ap (λ (m : ℕ). outcome m (historyCountsOf (historiesOf camp (nationsIn ws es))) (bothWritten (historyCellsOf (historiesOf camp (nationsIn ws es))) before) before) (sym number)
 

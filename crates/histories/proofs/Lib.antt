@@ -1,10 +1,6 @@
-pub mod KeptLaws
-pub mod MarkLaws
 pub mod PlayerKeyLaws
 pub mod DraftStepLaws
-pub mod ArrangeStepLaws
 pub mod DraftLaws
-pub mod ArrangeLaws
 pub mod NameLaws
 pub mod HistoryDraftLaws
 pub mod ArrangedLaws

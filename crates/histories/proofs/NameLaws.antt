@@ -22,7 +22,8 @@ use Rattle.format.specs.Campaign.{Campaign}
 use Rattle.rules.specs.Players.{Pair, pairsFrom, Player, isAnonymous, taggedPlayer, playerOf, playersOf}
 use Rattle.rules.specs.Histories.{namesOf}
 use Rattle.histories.specs.Tables.{playerKey}
-use Rattle.histories.specs.Drafts.{keysBefore, runLength, nameIn}
+use Rattle.arranging.specs.Arranging.{nameIn}
+use Rattle.histories.specs.Drafts.{keysBefore, runLength}
 
 -- ## Names rise
 

@@ -1,27 +1,24 @@
 -- What a draft holds: inner steps, which no promise of a call of 01 cites.
 use mathlib.Core.Path.{_≡_}
-use mathlib.Core.Bool.{Bool, _&&_}
 use mathlib.Core.List.{List, [], _∷_, map}
-use Prim.Native.Nat.{ℕ, zero, suc, _+_, _-_, _*_, _%_, _≤_}
-use lib.Dec.{leb, ltb, eqb}
-use lib.IntN.{ℤ}
+use Prim.Native.Nat.{ℕ, _+_, _-_, _*_, _%_, _≤_}
+use lib.Dec.{leb, ltb}
 use lib.ListN.{length, take}
 use Rattle.lists.specs.Lists.{keep, countOf, one, joinOf}
 use Rattle.sorting.specs.Sort.{sortBy}
 use Rattle.format.specs.declared.tag.CountryTag.{CountryTag}
-use Rattle.format.specs.Tags.{sameTag}
 use Rattle.format.specs.Campaign.{Country}
 use Rattle.record.specs.declared.cursors.Countries.{Countries}
 use Rattle.record.specs.declared.cursors.NextCountry as NextCountry
 use Rattle.record.specs.Cursors.{countriesLeft, countryOf}
 use Rattle.rules.specs.Lent.{written}
-use Rattle.rules.specs.NationRows.{NationRow}
-use Rattle.rules.specs.Histories.{History, isAboveZero, isReleased}
+use Rattle.rules.specs.Histories.{History, isReleased}
 use Rattle.rules.specs.HistoryRows.{HistoryRow, historyRowWords, nationWord}
-use Rattle.chronicle_rows.specs.RowAt.{nationRowAt}
 use Rattle.search.specs.Places.{tagKeysFrom, placeFrom}
 use Rattle.histories.specs.declared.drafts.NameRun.{NameRun}
-use Rattle.histories.specs.Tables.{tagsLeft, cellAt, storedWord}
+use Rattle.draft_parts.specs.Marks.{cellAt, storedWord}
+use Rattle.draft_parts.specs.Parts.{toldBy, draftBy}
+use Rattle.histories.specs.Tables.{tagsLeft}
 
 -- ## A walk over the countries that were played
 
@@ -49,28 +46,6 @@ pub record RunOf (keys : List ℕ) (tag : CountryTag) (r : NameRun) : Type 0 whe
   pub inside : r .first + r .count ≤ length keys
 
 -- ## A draft
-
--- The nation of a number plus 1; for 0 a bare one.
-abbrev pub toldBy : List ℕ → CountryTag → ℕ → NationRow
-toldBy ws tag zero = record { initial = tag; latest = tag; stored = tag; first = 0; count = 0 }
-toldBy ws tag (suc i) = nationRowAt ws i
-
--- The test of a released country, from what the code has at hand.
-abbrev pub releasedBy : Bool → Bool → ℤ → NationRow → ℕ → Bool
-releasedBy human switched cities n count =
-    human && eqb count 1 && sameTag (n .stored) (n .latest) && switched && isAboveZero cities
-
-abbrev pub draftBy : Bool → Bool → ℤ → ℕ → NationRow → ℕ → ℕ → HistoryRow
-draftBy human switched cities word n first count =
-    record {
-      initial = n .initial;
-      latest = n .latest;
-      stored = n .stored;
-      nation = word;
-      human = one human + 2 * one (releasedBy human switched cities n count);
-      first = first;
-      count = count;
-    }
 
 -- A country's draft with this word.
 abbrev pub draftWith : List ℕ → List ℕ → Country → ℕ → HistoryRow
@@ -124,7 +99,3 @@ draftOf keys h =
       first = keysBefore keys (h .country .tag);
       count = length (h .names);
     }
-
--- The name of a key, and those that a draft leads to.
-abbrev pub nameIn : ℕ → ℕ
-nameIn key = key % 65536

@@ -1,47 +1,24 @@
 // `player_histories`.
-use crate::arranging;
 use crate::drafts;
 use crate::tables;
-use chronicle_rows::is_well_shaped;
-use chronicle_rows::nation_count;
-use players::HISTORY_WIDTH;
+use arranging::PlayerHistories;
+use arranging::arrange_drafts;
+use draft_parts::is_numbered;
+use history_rows::HISTORY_WIDTH;
 use players::Pairs;
 use record::Opened;
 use record::Record;
 ghost use mathlib.Core.Path.{_≡_};
-ghost use mathlib.Core.Bool.{true, _&&_};
+ghost use mathlib.Core.Bool.{true};
 ghost use mathlib.Core.List.{List};
 ghost use Prim.Native.Nat.{ℕ, _≤_};
-ghost use lib.Dec.{leb};
 ghost use lib.ListN.{length};
 ghost use Rattle.rules.specs.NationRows.{nationRowsIn, wellShaped};
 ghost use Rattle.rules.specs.PlayerOutcomes.{callPlayerHistories};
 ghost use Rattle.histories.specs.Cases.{historiesOutcome, lentCells, AcceptedRecord};
 
-// The most nations that a word can number from 1 on.
-const MOST_NUMBERED: usize = 4294967295;
-
 // The words of a draft for each of the most countries.
 const MOST_WORDS: usize = 14000;
-
-// How many histories, and how many names.
-pub struct HistoryCounts {
-    pub histories: usize,
-    pub names: usize,
-}
-
-// The numbers of histories and of names, which are written, or the number of the refusal.
-pub enum PlayerHistories {
-    Rows(HistoryCounts),
-    Refused(u32),
-}
-
-// Whether a chronicle is well shaped, and has no more nations than a word can number.
-fn is_numbered(nations: &[u32], entries: &[u32]) -> bool
-    ensures { λ r. ⌜ r ≡ (wellShaped (now (nations .entry)) (now (entries .entry)) && leb (length (nationRowsIn (now (nations .entry)))) 4294967295) ⌝ }
-{
-    is_well_shaped(nations, entries) & (nation_count(nations) <= MOST_NUMBERED)
-}
 
 // Sorts the players, drafts a history for each country that was played, and arranges them.
 fn drafted_histories(
@@ -61,7 +38,7 @@ fn drafted_histories(
     let start = Pairs { number: 0, strings };
     let players = tables::sort_players(s, start, rows.multiplayer, &mut keys);
     let n = drafts::draft_rows(s, countries, nations, &keys[0..players], &mut words);
-    arranging::arrange_drafts(
+    arrange_drafts(
         rows.ironman,
         &words[0..HISTORY_WIDTH * n],
         &keys[0..players],

@@ -1,11 +1,9 @@
-// The histories of the countries that were played. Each played country is drafted first, in a row of the width of a history; the drafts are
-// counted and, if there is room, written in their order.
+// The histories of the countries that were played. Each played country is drafted first, in a row of the width of a history; crate
+// arranging then puts the drafts in order.
 mod answers;
-mod arranging;
 mod drafts;
-mod names;
 mod tables;
 
-pub use answers::HistoryCounts;
-pub use answers::PlayerHistories;
 pub use answers::player_histories;
+pub use arranging::HistoryCounts;
+pub use arranging::PlayerHistories;

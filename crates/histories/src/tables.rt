@@ -1,28 +1,19 @@
-// Tables by which a country finds its nation and its players: sorted keys of country tags, with a cell for each, and sorted keys of players.
-use chronicle_rows::nation_at;
-use chronicle_rows::nation_count;
+// Tables by which a country finds its nation and its players: keys of country tags, and sorted keys of players.
 use players::NextPlayer;
 use players::Pairs;
 use players::next_player;
 use record::Countries;
 use record::NextCountry;
-use search::Place;
-use search::first_place;
 use search::tag_key;
 use sorting::sort_keys;
 ghost use mathlib.Core.Path.{_≡_};
-ghost use mathlib.Core.List.{List, map};
+ghost use mathlib.Core.List.{map};
 ghost use Prim.Native.Nat.{_≤_};
-ghost use lib.Dec.{leb};
 ghost use lib.ListN.{length};
-ghost use Rattle.sorting.specs.Sort.{sortBy};
-ghost use Rattle.format.specs.declared.tag.CountryTag.{CountryTag};
 ghost use Rattle.rules.specs.Lent.{written};
-ghost use Rattle.rules.specs.NationRows.{nationRowsIn};
-ghost use Rattle.search.specs.Places.{tagKeysFrom, placeTold};
+ghost use Rattle.search.specs.Places.{tagKeysFrom};
 ghost use Rattle.players.specs.PlayerSteps.{playersLeft};
-ghost use Rattle.chronicle_rows.specs.RowAt.{storedTags};
-ghost use Rattle.histories.specs.Tables.{tagsLeft, markedAt, markedFrom, playerKey, FewPlayers, SortsPlayers};
+ghost use Rattle.histories.specs.Tables.{tagsLeft, playerKey, FewPlayers, SortsPlayers};
 
 // The most countries of a record.
 pub(crate) const MOST_COUNTRIES: usize = 2000;
@@ -49,36 +40,6 @@ pub(crate) fn fill_countries(s: &[u8], countries: Countries, keys: &mut [u64])
                 return;
             }
         }
-    }
-}
-
-// Writes the word into the cell at a place, unless a word stands there.
-fn mark_cell(cells: &mut [u64], place: Place, word: u64)
-    ensures { λ _. ⌜ now (cells .exit) ≡ markedAt (now (cells .entry)) (placeTold place) word ⌝ }
-{
-    match place {
-        Place::At(p) => {
-            if p < cells.len() {
-                if cells[p] == 0 {
-                    cells[p] = word;
-                }
-            }
-        }
-        Place::Nowhere => {}
-    }
-}
-
-// For each country the number, plus 1, of the first nation that is stored under it.
-pub(crate) fn mark_nations(nations: &[u32], keys: &[u64], cells: &mut [u64])
-    ensures { λ _. ⌜ ((ts : List CountryTag) → length ts ≤ 65536 → now (keys .entry) ≡ sortBy leb (tagKeysFrom 0 ts) → now (cells .exit) ≡ markedFrom ts (now (cells .entry)) 0 (storedTags (now (nations .entry)) 0 (length (nationRowsIn (now (nations .entry)))))) ⌝ }
-{
-    let n = nation_count(nations);
-    let mut i = 0;
-    while i < n {
-        let row = nation_at(nations, i);
-        let stored = row.stored;
-        mark_cell(cells, first_place(keys, stored), i as u64 + 1);
-        i += 1;
     }
 }
 

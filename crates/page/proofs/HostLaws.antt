@@ -1,36 +1,25 @@
 -- An outcome as the host gets it: the signed number, and the words of a run or of counts in a lent slice.
-use mathlib.Core.Path.{_≡_, refl, sym, ap, _∙_}
+use mathlib.Core.Path.{_≡_, refl, ap, _∙_}
 use mathlib.Core.Bool.{Bool, true, false}
 use mathlib.Core.List.{List, [], _∷_}
 use Prim.Native.Nat.{ℕ, zero, suc, _≤_, _<_}
 use native.Mathlib.Omega.{arith}
 use borrow.Author.Tests.{le-leb, lt-leb}
-use lib.IntN.{ℤ, pos, negℤ, _-ℤ_, +ℤ-idl}
+use lib.IntN.{ℤ}
 use lib.ListN.{length}
-use mir.Syntax.{w64}
-use mir.Val.{SFits, toZ}
-use mir.Facts.{toZ-pos}
 use Rattle.format.specs.Campaign.{campaignOf}
 use Rattle.format.specs.Refusal.{refusal, firstOf}
 use Rattle.format.proofs.FirstLaws.{first-stop, first-pass, first-one}
 use Rattle.nations.specs.declared.nations.NationCounts.{NationCounts}
-use Rattle.rules.specs.Lent.{Answer, refused, gives, written, fits, roomNumber, Outcome, outcome}
+use Rattle.rules.specs.Lent.{refused, gives, written, fits, roomNumber, Outcome, outcome}
 use Rattle.rules.specs.Changes.{Run}
 use Rattle.rules.specs.Outcomes.{callEventsOn, answersOf, NationCells, cellsOf, allFit, allWritten, Counts, countsOf, callNationEvents}
 use Rattle.nations.specs.Cases.{countsIn}
-use Rattle.rules.proofs.LentLaws.{outcome-refused}
 use Rattle.nations.proofs.answer.NationOutcomeLaws.{nations-given}
-use Rattle.page.specs.Host.{returned, Returns, runWords, inCells, callEventsOnCells, countWords, NationSlices, nationSlices, withCounts, callNationEventsCells}
-use Rattle.page.specs.Inner.{FewCounts}
+use Rattle.host_answers.specs.Host.{returned, Returns, wordCells, runWords, inCells, callEventsOnCells, countWords, NationSlices, nationSlices, withCounts, callNationEventsCells}
+use Rattle.host_answers.specs.Inner.{FewCounts}
 
 -- ## The number
-
-pub minus-fits : (n : ℕ) → n < 4294967296 → SFits w64 (negℤ (pos n))
-minus-fits zero h = record { sfits = omega arith }
-minus-fits (suc n) h = record { sfits = omega arith }
-
-pub minus-same : (n : ℕ) → n < 4294967296 → pos 0 -ℤ toZ w64 n ≡ negℤ (pos n)
-minus-same n h = ap (λ (z : ℤ). pos 0 -ℤ z) (toZ-pos w64 {n = n} (omega arith)) ∙ +ℤ-idl (negℤ (pos n))
 
 pub returns-of : {M : Type 0} {o p : Outcome ℕ M} {r : ℤ} → p ≡ o → r ≡ returned (p .answer) → Returns o r (p .memory)
 returns-of e q = record { answer = q ∙ ap (λ x. returned (x .answer)) e; cells = ap (λ x. x .memory) e }
@@ -47,18 +36,11 @@ module _ (xs : List ℕ) (date : ℕ) (before : List ℕ) where
   unfolding callEventsOnCells
   cells-refused n e = ap (λ a. inCells a before) e
 
-  module _ (run : Run) (e : gives run ≡ callEventsOn xs date) where
-    pub cells-short : length before < 2 → record { answer = refused 10; memory = before } ≡ callEventsOnCells xs date before
-    unfolding callEventsOnCells
-    cells-short h =
-        let room : fits (runWords run) before ≡ false = lt-leb 2 (length before) h in
-        sym (outcome-refused 10 2 (written (runWords run) before) before (omega arith)) ∙ (simp room) ∙ ap (λ a. inCells a before) e
-
-    pub cells-run : 2 ≤ length before → record { answer = gives 2; memory = written (runWords run) before } ≡ callEventsOnCells xs date before
-    unfolding callEventsOnCells
-    cells-run h =
-        let room : fits (runWords run) before ≡ true = le-leb 2 (length before) h in
-        (simp room) ∙ ap (λ a. inCells a before) e
+  -- What was written of a run is the call's.
+  pub cells-run : (run : Run) (r : ℤ) (after : List ℕ) → gives run ≡ callEventsOn xs date → Returns (wordCells (runWords run) before) r after
+      → Returns (callEventsOnCells xs date before) r after
+  unfolding callEventsOnCells
+  cells-run run r after e x = rw (← e) x
 
 -- ## The counts of nations
 

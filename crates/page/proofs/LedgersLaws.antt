@@ -20,7 +20,7 @@ use Rattle.rules.specs.Refusals.{chronicleNumber, askedNationNumber}
 use Rattle.rules.specs.Outcomes.{askedPoints, LedgerCells, ledgerCellsOf, callNationLedger, callNationLedgerRows, callNationLedgers}
 use Rattle.rules.proofs.LentLaws.{answered-given}
 use Rattle.spans.proofs.FillsLaws.{rows-length}
-use Rattle.page.specs.Host.{returned, mostReturned}
+use Rattle.host_answers.specs.Host.{returned, mostReturned}
 use Rattle.page.proofs.HostLaws.{room-true}
 
 pub ledger-given : (xs ws es : List ℕ) (number : ℕ) (before : List ℕ) (n : ℕ) → gives n ≡ callNationLedger xs ws es number before .answer

@@ -1,13 +1,12 @@
 -- Answers about players as the host gets them.
 use mathlib.Core.Path.{_≡_, refl, ap}
 use mathlib.Core.List.{List, [], _∷_}
-use mathlib.Core.Option.{Option, some}
+use mathlib.Core.Option.{Option}
 use Prim.Native.Nat.{ℕ, _+_, _*_, _≤_}
 use native.Mathlib.Omega.{arith}
 use borrow.Author.Tests.{leb-true}
-use lib.IntN.{ℤ, pos}
-use lib.ListN.{length, set}
-use lib.Seq.{sets-eq}
+use lib.IntN.{ℤ}
+use lib.ListN.{length}
 use Rattle.lists.specs.Lists.{joinOf}
 use Rattle.lists.proofs.BoolLaws.{and-left}
 use Rattle.format.specs.declared.tag.CountryTag.{CountryTag}
@@ -23,10 +22,9 @@ use Rattle.rules.specs.Refusals.{chronicleNumber, numberedNumber}
 use Rattle.rules.specs.PlayerOutcomes.{HistoryCells, HistoryCounts, historyCellsOf, historyCountsOf, bothFit, callPlayers, callPlayerHistories, callStartingCountry}
 use Rattle.rules.proofs.LentLaws.{answered-given}
 use Rattle.players.proofs.PlayerLaws.{players-few}
-use Rattle.page.specs.Host.{returned, Returns, foundCells}
-use Rattle.page.specs.Playing.{historiesGiven, callPlayerHistoriesGiven, startingWords, callStartingCountryCells}
+use Rattle.host_answers.specs.Host.{returned, Returns, foundCells}
+use Rattle.host_answers.specs.Playing.{historiesGiven, callPlayerHistoriesGiven, startingWords, callStartingCountryCells}
 use Rattle.page.proofs.HostLaws.{room-true, returns-of}
-use Rattle.page.proofs.ResolvingLaws.{found-written}
 
 -- The number of players is small.
 pub players-counted : (xs before : List ℕ) (n : ℕ) → gives n ≡ callPlayers xs before .answer → n ≤ 1000
@@ -73,12 +71,6 @@ histories-of xs ws es before o r e q =
     returns-of (ap (λ (p : Outcome HistoryCounts HistoryCells). record { answer = historiesGiven (p .answer); memory = p .memory }) e) q
 
 -- ## The starting country
-
--- Its word in a cell.
-pub tag-found : (answer : Answer (Option CountryTag)) (before : List ℕ) (t : CountryTag) → answer ≡ gives (some t) → (x : ℕ) → 1 ≤ length before
-    → x ≡ t .0 → Returns (foundCells startingWords answer before) (pos 1) (set before 0 x)
-tag-found answer before t e x h p =
-    found-written startingWords answer before t e (set before 0 x) h (rw p (sets-eq (startingWords t) before 0 (omega arith)))
 
 -- What is found is the outcome of the call.
 pub starting-of : (hs ws es before : List ℕ) (a : Answer (Option CountryTag)) (r : ℤ) (after : List ℕ) → a ≡ callStartingCountry hs ws es

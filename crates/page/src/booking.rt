@@ -1,7 +1,8 @@
 // The C function of war bookings.
 use chronicle::Bookings;
+use host_answers::minus;
 ghost use Rattle.rules.specs.Outcomes.{callWarParticipants};
-ghost use Rattle.page.specs.Host.{Returns};
+ghost use Rattle.host_answers.specs.Host.{Returns};
 
 // Writes the bookings, three words each: a war's number, the tag that joins it, and its stored tag by the lent nation words and entry
 // words. Gives the number of rows, or minus the refusal number.
@@ -16,6 +17,6 @@ pub extern "C" fn war_participants(
 {
     match chronicle::war_participants(s, nations, entries, out) {
         Bookings::Rows(n) => n as i64,
-        Bookings::Refused(number) => crate::minus(number),
+        Bookings::Refused(number) => minus(number),
     }
 }

@@ -1,13 +1,12 @@
 // The C functions of the ledger. A nation is asked for by its number, from 0, among the lent nation words.
 use chronicle::NationLedger;
+use host_answers::can_return;
+use host_answers::minus;
 ghost use mathlib.Core.Path.{_≡_};
 ghost use Prim.Native.Nat.{min};
 ghost use Rattle.rules.specs.Outcomes.{callNationLedger, callNationLedgerRows, callNationLedgers};
 ghost use Rattle.ledger.specs.Cases.{ledgerCells};
-ghost use Rattle.page.specs.Host.{returned, Returns, mostReturned};
-
-// The largest number that can be returned.
-const MOST_RETURNED: usize = 9223372036854775807;
+ghost use Rattle.host_answers.specs.Host.{returned, Returns, mostReturned};
 
 // Writes a nation's ledger, three words each: tag, year and value in two's complement. Gives the number of rows, or minus the refusal
 // number: 13 for a number that is no nation's.
@@ -23,18 +22,7 @@ pub extern "C" fn nation_ledger(
 {
     match chronicle::nation_ledger(s, nations, entries, nation, out) {
         NationLedger::Rows(n) => n as i64,
-        NationLedger::Refused(number) => crate::minus(number),
-    }
-}
-
-// A number, or in place of one that no return can tell the largest that one can.
-fn can_return(most: usize) -> usize
-    ensures { λ r. ⌜ r ≡ min most mostReturned ⌝ }
-{
-    if most < MOST_RETURNED {
-        most
-    } else {
-        MOST_RETURNED
+        NationLedger::Refused(number) => minus(number),
     }
 }
 
@@ -52,7 +40,7 @@ pub extern "C" fn nation_ledger_rows(
 {
     match chronicle::nation_ledger_rows(s, nations, entries, nation, can_return(most)) {
         NationLedger::Rows(n) => n as i64,
-        NationLedger::Refused(number) => crate::minus(number),
+        NationLedger::Refused(number) => minus(number),
     }
 }
 
@@ -70,6 +58,6 @@ pub extern "C" fn nation_ledgers(
 {
     match chronicle::nation_ledgers(s, nations, entries, out, counts) {
         NationLedger::Rows(n) => n as i64,
-        NationLedger::Refused(number) => crate::minus(number),
+        NationLedger::Refused(number) => minus(number),
     }
 }

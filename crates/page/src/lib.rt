@@ -6,9 +6,13 @@ mod playing;
 mod resolving;
 
 use chronicle::EventsOn;
-use chronicle::NationCounts;
 use chronicle::NationEvents;
 use chronicle::Owners;
+use host_answers::has_counts;
+use host_answers::minus;
+use host_answers::put_counts;
+use host_answers::put_two;
+use host_answers::room_number;
 pub use pages::CampaignFile;
 pub use pages::PRINTED_BYTES;
 pub use pages::Paged;
@@ -17,16 +21,11 @@ pub use pages::print_page;
 pub use pages::write_page;
 use record::Eu4Date;
 ghost use mathlib.Core.Path.{_≡_};
-ghost use mathlib.Core.List.{_∷_, []};
-ghost use Prim.Native.Nat.{_≤_};
 ghost use lib.IntN.{pos};
-ghost use lib.ListN.{length};
-ghost use Rattle.format.specs.Refusal.{refusal, firstOf};
-ghost use Rattle.rules.specs.Lent.{refused, written};
+ghost use Rattle.format.specs.Refusal.{refusal};
 ghost use Rattle.rules.specs.Outcomes.{callProvinceOwners};
-ghost use Rattle.nations.specs.Cases.{countsIn, nationCells};
-ghost use Rattle.page.specs.Host.{returned, Returns, callEventsOnCells, countWords, nationSlices, callNationEventsCells};
-ghost use Rattle.page.specs.Inner.{FewCounts};
+ghost use Rattle.nations.specs.Cases.{nationCells};
+ghost use Rattle.host_answers.specs.Host.{Returns, callEventsOnCells, nationSlices, callNationEventsCells};
 
 // The record's refusal number, 0 when it is accepted.
 #[no_mangle]
@@ -34,13 +33,6 @@ pub extern "C" fn check(s: &[u8]) -> i64
     ensures { λ r. ⌜ r ≡ pos (refusal (now (s .entry))) ⌝ }
 {
     record::check(s) as i64
-}
-
-// What a refused call returns: minus its number.
-fn minus(number: u32) -> i64
-    ensures { λ r. ⌜ r ≡ returned (refused number) ⌝ }
-{
-    0 - number as i64
 }
 
 // Writes the owner changes, four words each. Gives their number, or minus the refusal number.
@@ -62,36 +54,9 @@ pub extern "C" fn events_on(s: &[u8], date: u32, out: &mut [u32]) -> i64
 {
     // The word is tested by the call, behind the record.
     match chronicle::events_on(s, Eu4Date::kept(date)) {
-        EventsOn::Run(first, count) => {
-            if out.len() < 2 {
-                return minus(10);
-            }
-            out[0] = first as u32;
-            out[1] = count as u32;
-            2
-        }
+        EventsOn::Run(first, count) => put_two(first as u32, count as u32, out),
         EventsOn::Refused(number) => minus(number),
     }
-}
-
-// The number that refuses a call without room: the record's own, else 10.
-fn room_number(s: &[u8]) -> u32
-    ensures { λ r. ⌜ r ≡ firstOf (refusal (now (s .entry)) ∷ 10 ∷ []) ⌝ }
-{
-    let number = record::check(s);
-    if number == 0 { 10 } else { number }
-}
-
-// Writes the five counts.
-fn put_counts(counts: NationCounts, out: &mut [u32])
-    requires { ⌜ FewCounts counts × (5 ≤ length (now out)) ⌝ }
-    ensures { λ _. ⌜ now (out .exit) ≡ written (countWords (countsIn counts)) (now (out .entry)) ⌝ }
-{
-    out[0] = counts.nations as u32;
-    out[1] = counts.entries as u32;
-    out[2] = counts.slots as u32;
-    out[3] = counts.countries as u32;
-    out[4] = counts.changes as u32;
 }
 
 // Writes the listed nations, five words each, their entries, three words each, the holder of each slot and the slots held by each country
@@ -109,8 +74,8 @@ pub extern "C" fn nation_events(
 ) -> i64
     ensures { λ r. ⌜ Returns (callNationEventsCells (now (s .entry)) (nationSlices (nationCells (now (nations .entry)) (now (entries .entry)) (now (holders .entry)) (now (held .entry)) (now (changes .entry))) (now (counts .entry)))) r (nationSlices (nationCells (now (nations .exit)) (now (entries .exit)) (now (holders .exit)) (now (held .exit)) (now (changes .exit))) (now (counts .exit))) ⌝ }
 {
-    if counts.len() < 5 {
-        return minus(room_number(s));
+    if !has_counts(counts) {
+        return minus(room_number(record::check(s)));
     }
     match chronicle::nation_events(s, nations, entries, holders, held, changes) {
         NationEvents::Rows(n) => {

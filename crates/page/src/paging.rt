@@ -1,7 +1,8 @@
 // The C function of the page.
+use host_answers::minus;
 use pages::Paged;
 ghost use Rattle.rules.specs.PageOutcomes.{callPage};
-ghost use Rattle.page.specs.Host.{Returns};
+ghost use Rattle.host_answers.specs.Host.{Returns};
 
 // Writes the page of a record for a selection of stored tags, each followed by a line feed. Gives the number of bytes, or minus the
 // refusal number.
@@ -11,6 +12,6 @@ pub extern "C" fn page(s: &[u8], selection: &[u8], out: &mut [u8]) -> i64
 {
     match pages::write_page(s, selection, out) {
         Paged::Bytes(n) => n as i64,
-        Paged::Refused(number) => crate::minus(number),
+        Paged::Refused(number) => minus(number),
     }
 }

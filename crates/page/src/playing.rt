@@ -1,11 +1,12 @@
 // The C functions of players, of their histories, and of the country that they started as.
 use chronicle::PlayerHistories;
 use chronicle::Players;
-use chronicle::Starting;
+use host_answers::minus;
+use host_answers::put_starting;
 ghost use Rattle.rules.specs.PlayerOutcomes.{callPlayers};
 ghost use Rattle.histories.specs.Cases.{lentCells};
-ghost use Rattle.page.specs.Host.{Returns};
-ghost use Rattle.page.specs.Playing.{callPlayerHistoriesGiven, callStartingCountryCells};
+ghost use Rattle.host_answers.specs.Host.{Returns};
+ghost use Rattle.host_answers.specs.Playing.{callPlayerHistoriesGiven, callStartingCountryCells};
 
 // Writes the players, two words each: the string number of the name, and the tag. Gives their number, or minus the refusal number.
 #[no_mangle]
@@ -14,7 +15,7 @@ pub extern "C" fn players(s: &[u8], out: &mut [u32]) -> i64
 {
     match chronicle::players(s, out) {
         Players::Rows(n) => n as i64,
-        Players::Refused(number) => crate::minus(number),
+        Players::Refused(number) => minus(number),
     }
 }
 
@@ -32,7 +33,7 @@ pub extern "C" fn player_histories(
 {
     match chronicle::player_histories(s, nations, entries, histories, names) {
         PlayerHistories::Rows(n) => n.histories as i64,
-        PlayerHistories::Refused(number) => crate::minus(number),
+        PlayerHistories::Refused(number) => minus(number),
     }
 }
 
@@ -47,15 +48,8 @@ pub extern "C" fn starting_country(
 ) -> i64
     ensures { λ r. ⌜ Returns (callStartingCountryCells (now (histories .entry)) (now (nations .entry)) (now (entries .entry)) (now (out .entry))) r (now (out .exit)) ⌝ }
 {
-    match chronicle::starting_country(histories, nations, entries) {
-        Starting::Found(tag) => {
-            if out.len() < 1 {
-                return crate::minus(10);
-            }
-            out[0] = tag.word();
-            1
-        }
-        Starting::Nothing => 0,
-        Starting::Refused(number) => crate::minus(number),
-    }
+    put_starting(
+        chronicle::starting_country(histories, nations, entries),
+        out,
+    )
 }

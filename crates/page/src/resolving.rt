@@ -1,34 +1,13 @@
 // The C functions of the resolver. A tag, a date and a day are words; each is lent nation words and entry words.
 use chronicle::Each;
-use chronicle::Resolved;
+use host_answers::minus;
+use host_answers::put_data;
 use record::CountryTag;
 use record::Eu4Date;
 ghost use Rattle.rules.specs.Outcomes.{callResolve, callInitial, callResolveOn, callInitialOn};
 ghost use Rattle.rules.specs.Questions.{callResolveEach};
-ghost use Rattle.resolver.specs.Cases.{resolvedAnswer};
-ghost use Rattle.page.specs.Host.{Returns};
-ghost use Rattle.page.specs.Resolving.{dataCells};
-
-// Writes a found tag and the tag it is stored under, and gives 2; for none 0. Else minus the refusal number: 10 where the slice has no
-// two words for them.
-fn put_data(answer: Resolved, out: &mut [u32]) -> i64
-    ensures { λ r. ⌜ Returns (dataCells (resolvedAnswer answer) (now (out .entry))) r (now (out .exit)) ⌝ }
-{
-    match answer {
-        Resolved::Found(data) => {
-            if out.len() < 2 {
-                return crate::minus(10);
-            }
-            let current = data.current;
-            let stored = data.stored;
-            out[0] = current.word();
-            out[1] = stored.word();
-            2
-        }
-        Resolved::Nothing => 0,
-        Resolved::Refused(number) => crate::minus(number),
-    }
-}
+ghost use Rattle.host_answers.specs.Host.{Returns};
+ghost use Rattle.host_answers.specs.Resolving.{dataCells};
 
 // `resolve`.
 #[no_mangle]
@@ -106,6 +85,6 @@ pub extern "C" fn resolver_resolve_each(
 {
     match chronicle::resolve_each(nations, entries, questions, out) {
         Each::Rows(n) => n as i64,
-        Each::Refused(number) => crate::minus(number),
+        Each::Refused(number) => minus(number),
     }
 }

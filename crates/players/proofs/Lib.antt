@@ -1,4 +1,2 @@
 pub mod PairLaws
 pub mod PlayerLaws
-pub mod HistoryLaws
-pub mod LackLaws

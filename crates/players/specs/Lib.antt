@@ -1,5 +1,3 @@
 pub mod Cases
 pub mod PairSteps
 pub mod PlayerSteps
-pub mod HistoryAt
-pub mod LackSteps

@@ -13,9 +13,10 @@ use Rattle.format.specs.Campaign.{Country}
 use Rattle.record.specs.Cursors.{countriesLeft}
 use Rattle.rules.specs.HistoryRows.{historyRowWords}
 use Rattle.players.specs.PlayerSteps.{playersLeft}
-use Rattle.histories.specs.Tables.{storedWord, playerKey}
+use Rattle.draft_parts.specs.Marks.{storedWord}
+use Rattle.histories.specs.Tables.{playerKey}
 use Rattle.histories.specs.Drafts.{playedLeft, draftWith}
-use Rattle.histories.proofs.HistoryOutcomeLaws.{front-zero, few-players, few-countries, ready-told, outcome-told}
+use Rattle.histories.proofs.HistoryOutcomeLaws.{front-zero, few-players, few-countries, outcome-told}
 use borrow.Author.Needs.{needs}
 use Rattle.histories.proofs.answers.drafted_histories.Statement.{statement}
 use Rattle.histories.proofs.answers.drafted_histories.Tie as tie
@@ -97,10 +98,7 @@ part-arrange-drafts-end-2 : tie.Need-part-arrange-drafts-end-2
 part-arrange-drafts-end-2 c = room (c .before .before .before .before .before .before .before .before .before)
 
 arrange-drafts-requires : tie.Need-arrange-drafts-requires
-arrange-drafts-requires c κs =
-    let drafts = c .before .before .before .before .before .before .before in
-    let b = begun (drafts .before .before .before .before .before) in
-    ready-told (b .args .s .now) (b .args .nations .now) (b .args .rows) (b .pre) _ _ (sorted (drafts .before .before .before .before .before)) (drafted drafts)
+arrange-drafts-requires c κs = search needs
 
 same-length : tie.Need-same-length
 same-length c = search needs

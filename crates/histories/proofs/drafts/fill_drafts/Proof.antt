@@ -3,7 +3,7 @@ use mathlib.Core.Path.{_≡_, refl, ap}
 use mathlib.Core.List.{List, [], _∷_, _++_, map}
 use Prim.Native.Nat.{_*_}
 use native.Mathlib.Omega.{arith}
-use lib.ListN.{length, length-take, length-drop, length-map}
+use lib.ListN.{length, length-map}
 use Rattle.lists.specs.Lists.{joinOf}
 use Rattle.lists.proofs.FillLaws.{Filling, filling-new, filling-count, filling-written}
 use Rattle.format.proofs.CampaignLaws.{told-row, told-end}
@@ -12,7 +12,7 @@ use Rattle.record.specs.Cursors.{countryOf}
 use Rattle.rules.specs.HistoryRows.{HistoryRow, historyRowWords}
 use Rattle.histories.specs.Tables.{tagsLeft}
 use Rattle.histories.specs.Drafts.{playedLeft, playedTold, draftFor}
-use Rattle.histories.proofs.ArrangeStepLaws.{length-rows, row-room, row-more}
+use Rattle.history_rows.proofs.PutLaws.{length-rows, row-room, row-more}
 use borrow.Author.Needs.{needs}
 use Rattle.histories.proofs.drafts.fill_drafts.Statement.{statement}
 use Rattle.histories.proofs.drafts.fill_drafts.Tie as tie
@@ -85,9 +85,7 @@ part-put-history-end c =
     omega (arith, row-room _ _ _ _ _ [] _ _ (told .before .before .before .loop .inv) (row told))
 
 put-history-requires : tie.Need-put-history-requires Inv-loop μ-loop
-put-history-requires c κs =
-    let told = c .before .before .before in
-    simp (length-take, length-drop) (omega (arith, row-room _ _ _ _ _ [] _ _ (told .before .before .before .loop .inv) (row told)))
+put-history-requires c κs = search needs
 
 add-n : tie.Need-add-n Inv-loop μ-loop
 add-n c =

@@ -8,7 +8,7 @@ use Rattle.format.specs.Campaign.{Country}
 use Rattle.lists.specs.Lists.{keep}
 use Rattle.record.specs.Cursors.{countriesLeft, countryOf, countryTold}
 use Rattle.histories.specs.Drafts.{playedLeft}
-use Rattle.histories.proofs.KeptLaws.{kept-here, kept-past}
+use Rattle.arranging.proofs.KeptLaws.{kept-here, kept-past}
 use borrow.Author.Needs.{needs}
 use Rattle.histories.proofs.drafts.next_played.Statement.{statement}
 use Rattle.histories.proofs.drafts.next_played.Tie as tie

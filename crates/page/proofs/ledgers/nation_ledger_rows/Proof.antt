@@ -5,7 +5,7 @@ use native.Mathlib.Omega.{arith}
 use mir.Syntax.{w64}
 use mir.Facts.{toZ-pos, toZ-ofZ}
 use Rattle.ledger.specs.Cases.{ledgerAnswer}
-use Rattle.page.specs.Host.{returned, mostReturned}
+use Rattle.host_answers.specs.Host.{returned, mostReturned}
 use Rattle.page.proofs.LedgersLaws.{rows-given, rows-returned}
 use borrow.Author.Needs.{needs}
 use Rattle.page.proofs.ledgers.nation_ledger_rows.Statement.{statement}

@@ -1,0 +1,3 @@
+pub mod HistoryLaws
+pub mod PutLaws
+pub mod LackLaws
