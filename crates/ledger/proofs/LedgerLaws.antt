@@ -26,8 +26,8 @@ use Rattle.spans.specs.declared.walk.Span.{Span}
 use Rattle.spans.specs.declared.walk.SpanWalk.{SpanWalk}
 use Rattle.spans.specs.declared.walk.NextSpan as NextSpan
 use Rattle.spans.specs.SpanSteps.{spanIn, spansLeft, spanTold}
-use Rattle.spans.specs.PointSteps.{spanFilled, FillsSpan}
-use Rattle.spans.proofs.FillsLaws.{FillingRows, fills-more, fills-done}
+use Rattle.span_points.specs.PointSteps.{spanFilled, FillsSpan}
+use Rattle.span_points.proofs.FillsLaws.{FillingRows, fills-more, fills-done}
 use Rattle.ledger.specs.declared.frame.Frame.{Frame}
 use Rattle.ledger.specs.declared.index.NamePoints as NamePoints
 use Rattle.ledger.specs.Index.{Indexed, IndexesNames, namePointsTold}

@@ -25,7 +25,7 @@ use Rattle.rules.proofs.LentLaws.{answered-refused, answered-gives, outcome-ref
 use Rattle.chronicle_rows.specs.declared.rows.Nation.{Nation}
 use Rattle.chronicle_rows.specs.Cases.{nationTold}
 use Rattle.chronicle_rows.specs.RowAt.{nationRowAt}
-use Rattle.spans.proofs.FillsLaws.{rows-length}
+use Rattle.span_points.proofs.FillsLaws.{rows-length}
 use Rattle.ledger.specs.Cases.{ledgerCells}
 use Rattle.ledger.specs.Ledgers.{nationIn, rowLedger, ledgerNumbered, rowLedgers, rowCounts, WritesLedgers, askedNumber, roomOutcome, roomsOutcome}
 use Rattle.ledger.proofs.NationLaws.{nations-size, nation-listed, nation-unlisted, all-ledgers, all-counts}

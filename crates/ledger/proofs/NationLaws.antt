@@ -19,8 +19,8 @@ use Rattle.chronicle_rows.specs.declared.rows.Nation.{Nation}
 use Rattle.chronicle_rows.specs.Cases.{nationTold}
 use Rattle.chronicle_rows.specs.RowAt.{nationRowAt, entriesAt, nationNumbered}
 use Rattle.chronicle_rows.proofs.NumberedLaws.{nation-entries, nations-numbered}
-use Rattle.spans.specs.PointSteps.{FillsSpan}
-use Rattle.spans.proofs.FillsLaws.{FillingRows, fills-start, fills-more}
+use Rattle.span_points.specs.PointSteps.{FillsSpan}
+use Rattle.span_points.proofs.FillsLaws.{FillingRows, fills-start, fills-more}
 use Rattle.ledger.specs.Ledgers.{nationIn, rowLedger, ledgerNumbered, ledgersFrom, countsNumbered, rowLedgers, rowCounts, WritesLedgers}
 use Rattle.ledger.proofs.LedgerLaws.{PointsCounted, count-start, count-more, fills-whole, rows-filled}
 

@@ -8,7 +8,7 @@ use crate::writing;
 use chronicle_rows::is_well_shaped;
 use chronicle_rows::nation_count;
 use record::Opened;
-use spans::LEDGER_WIDTH;
+use span_points::LEDGER_WIDTH;
 ghost use mathlib.Core.Path.{_≡_};
 ghost use Rattle.rules.specs.Outcomes.{callNationLedgers};
 ghost use Rattle.ledger.specs.Cases.{ledgerCells, ledgersOutcome};

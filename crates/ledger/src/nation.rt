@@ -10,7 +10,7 @@ use chronicle_rows::is_well_shaped;
 use chronicle_rows::nation_at;
 use chronicle_rows::nation_count;
 use record::Opened;
-use spans::LEDGER_WIDTH;
+use span_points::LEDGER_WIDTH;
 ghost use mathlib.Core.Path.{_≡_};
 ghost use Prim.Native.Nat.{min};
 ghost use lib.ListN.{length};

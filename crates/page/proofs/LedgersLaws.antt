@@ -19,7 +19,7 @@ use Rattle.rules.specs.Ledger.{nationLedger, pointRows}
 use Rattle.rules.specs.Refusals.{chronicleNumber, askedNationNumber}
 use Rattle.rules.specs.Outcomes.{askedPoints, LedgerCells, ledgerCellsOf, callNationLedger, callNationLedgerRows, callNationLedgers}
 use Rattle.rules.proofs.LentLaws.{answered-given}
-use Rattle.spans.proofs.FillsLaws.{rows-length}
+use Rattle.span_points.proofs.FillsLaws.{rows-length}
 use Rattle.host_answers.specs.Host.{returned, mostReturned}
 use Rattle.page.proofs.HostLaws.{room-true}
 

@@ -1,4 +1,1 @@
 pub mod SpanLaws
-pub mod ReadLaws
-pub mod FilledLaws
-pub mod FillsLaws

@@ -1,2 +1,1 @@
 pub mod SpanSteps
-pub mod PointSteps

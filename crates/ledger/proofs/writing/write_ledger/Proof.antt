@@ -4,7 +4,7 @@ use native.Mathlib.Omega.{arith}
 use lib.ListN.{length}
 use Rattle.spans.specs.SpanSteps.{spansLeft}
 use Rattle.ledger.specs.Ledgers.{rowLedger, ledgerLeft}
-use Rattle.spans.proofs.FillsLaws.{FillingRows, fills-start}
+use Rattle.span_points.proofs.FillsLaws.{FillingRows, fills-start}
 use Rattle.ledger.proofs.LedgerLaws.{rows-inside, rows-filled, walk-all, walk-fewer, walk-end, span-passed}
 use borrow.Author.Needs.{needs}
 use Rattle.ledger.proofs.writing.write_ledger.Statement.{statement}
