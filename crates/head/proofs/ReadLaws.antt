@@ -1,4 +1,4 @@
--- What reads past the end give, and a head of its fields.
+-- What reads past the end give; and words, tags and a head of what they are read from.
 use mathlib.Core.Path.{_≡_, ap, _∙_}
 use mathlib.Core.List.{List}
 use Prim.Native.Nat.{ℕ, _+_, _*_, _≤_}
@@ -13,7 +13,7 @@ use Rattle.format.specs.Head.{headOf}
 
 -- Behind the end every byte is 0, and so is every number of them.
 module _ (xs : List ℕ) (at : ℕ) (behind : length xs ≤ at) where
-  pub byte-past : (k : ℕ) → byteAt xs (at + k) ≡ 0
+  byte-past : (k : ℕ) → byteAt xs (at + k) ≡ 0
   byte-past k = List·getD-eq-default xs 0 (omega arith)
 
   pub le16-past : le16 xs at ≡ 0
@@ -27,6 +27,11 @@ module _ (xs : List ℕ) (at : ℕ) (behind : length xs ≤ at) where
   pub tag-past : tagAt xs at ≡ tagOf 0 0 0
   unfolding tagAt
   tag-past = rw (List·getD-eq-default xs 0 behind, byte-past 1, byte-past 2)
+
+-- 32 bits are twice 16.
+pub le32-halves : (xs : List ℕ) (at : ℕ) → le32 xs at ≡ le16 xs at + le16 xs (at + 2) * 65536
+unfolding le16 le32
+le32-halves xs at = let next : at + 2 + 1 ≡ at + 3 = omega arith in rw next (omega arith)
 
 -- A tag by its word.
 abbrev worded : ℕ → CountryTag

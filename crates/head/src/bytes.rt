@@ -27,13 +27,13 @@ pub fn u16_at(s: &[u8], at: usize) -> u32
 }
 
 // 32 bits from an offset on.
-pub fn u32_at(s: &[u8], at: usize) -> u32
+pub(crate) fn u32_at(s: &[u8], at: usize) -> u32
     ensures { λ r. ⌜ Num (le32 (now (s .entry)) at) 4294967296 r ⌝ }
 {
     if s.len() <= at {
         return 0;
     }
-    byte(s, at) + byte(s, at + 1) * 256 + byte(s, at + 2) * 65536 + byte(s, at + 3) * 16777216
+    u16_at(s, at) + u16_at(s, at + 2) * 65536
 }
 
 // Three bytes, read as a tag.
@@ -47,7 +47,7 @@ pub fn tag_at(s: &[u8], at: usize) -> CountryTag
 }
 
 // 32 bits, read as a date.
-pub fn date_at(s: &[u8], at: usize) -> Eu4Date
+pub(crate) fn date_at(s: &[u8], at: usize) -> Eu4Date
     ensures { λ r. ⌜ r ≡ dateAt (now (s .entry)) at ⌝ }
 {
     Eu4Date::kept(u32_at(s, at))

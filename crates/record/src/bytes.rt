@@ -1,4 +1,4 @@
-// Reads of a field at an offset that the caller knows to be inside. Nothing outside this crate reads bytes of a record.
+// Reads of a field at an offset that the caller knows to be inside, without a test. No crate above this one reads bytes of a record.
 use format::CountryTag;
 use format::Eu4Date;
 use format::ProvinceId;

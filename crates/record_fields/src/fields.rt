@@ -242,7 +242,8 @@ fn laid_number(s: &[u8], h: Head) -> u32
     sections_number(&tags, &days, s, h)
 }
 
-// The number of the first bad field, 0 where none is bad. Sizes that do not agree are the caller's to refuse: fields past the bytes are not looked at.
+// The number of the first bad field, 0 where none is bad. Sizes that do not agree are the caller's to refuse, and nothing is promised of
+// them: fields past the bytes are not looked at.
 pub fn fields_number(s: &[u8]) -> u32
     ensures { λ r. ⌜ (sizesAgree (now (s .entry)) ≡ true → r ≡ fieldsNumber (now (s .entry))) ⌝ }
 {

@@ -1,8 +1,7 @@
--- Four bytes, low byte first; none where the first is past the end.
+-- Twice two bytes, the low ones first; none where the first is past the end.
 use mathlib.Core.Path.{sym}
 use native.Mathlib.Omega.{arith}
-use Rattle.format.specs.Bytes.{le32}
-use Rattle.head.proofs.ReadLaws.{le32-past}
+use Rattle.head.proofs.ReadLaws.{le32-past, le32-halves}
 use borrow.Author.Needs.{needs}
 use Rattle.head.proofs.bytes.u32_at.Statement.{statement}
 use Rattle.head.proofs.bytes.u32_at.Tie as tie
@@ -10,14 +9,14 @@ use Rattle.head.proofs.bytes.u32_at.Tie as tie
 returns : tie.Need-returns
 returns c = record { same = sym (le32-past (c .before .before .args .s .now) (c .before .before .args .at) (c .if1 .taken)); small = omega arith }
 
-byte-requires : tie.Need-byte-requires
-byte-requires c κs = search needs
+u16-at-requires : tie.Need-u16-at-requires
+u16-at-requires c κs = tt
 
-add-byte : tie.Need-add-byte
-add-byte c = search needs
+add-u16-at : tie.Need-add-u16-at
+add-u16-at c = search needs
 
-byte-requires-2 : tie.Need-byte-requires-2
-byte-requires-2 c κs = search needs
+u16-at-requires-2 : tie.Need-u16-at-requires-2
+u16-at-requires-2 c κs = tt
 
 mul-result : tie.Need-mul-result
 mul-result c = search needs
@@ -25,50 +24,11 @@ mul-result c = search needs
 add-result : tie.Need-add-result
 add-result c = search needs
 
-add-byte-2 : tie.Need-add-byte-2
-add-byte-2 c = search needs
-
-byte-requires-3 : tie.Need-byte-requires-3
-byte-requires-3 c κs = search needs
-
-mul-result-2 : tie.Need-mul-result-2
-mul-result-2 c = search needs
-
-add-result-2 : tie.Need-add-result-2
-add-result-2 c = search needs
-
-add-byte-3 : tie.Need-add-byte-3
-add-byte-3 c = search needs
-
-byte-requires-4 : tie.Need-byte-requires-4
-byte-requires-4 c κs = search needs
-
-mul-result-3 : tie.Need-mul-result-3
-mul-result-3 c = search needs
-
-add-result-3 : tie.Need-add-result-3
-add-result-3 c = search needs
-
 returns-2 : tie.Need-returns-2
-unfolding le32
-returns-2 c = record { same = omega arith; small = omega arith }
+returns-2 c =
+    let start = c .before .before .before .before in
+    record { same = omega (arith, le32-halves (start .args .s .now) (start .args .at)); small = omega arith }
 
 pub u32-at-spec : {M : Type 1} → statement M
 u32-at-spec =
-    tie.close
-    (tie.spec
-    returns
-    byte-requires
-    add-byte
-    byte-requires-2
-    mul-result
-    add-result
-    add-byte-2
-    byte-requires-3
-    mul-result-2
-    add-result-2
-    add-byte-3
-    byte-requires-4
-    mul-result-3
-    add-result-3
-    returns-2)
+    tie.close (tie.spec returns u16-at-requires add-u16-at u16-at-requires-2 mul-result add-result returns-2)
