@@ -16,7 +16,7 @@ use Rattle.record.specs.declared.cursors.Provinces.{Provinces}
 use Rattle.record.specs.Cursors.{countriesLeft}
 use Rattle.rules.specs.Changes.{changesOf}
 use Rattle.rules.specs.Nations.{holdersOf}
-use Rattle.owner_changes.specs.ChangeSteps.{entered, mostChanges, changeKeysFrom, AtFirstProvince}
+use Rattle.change_keys.specs.ChangeSteps.{entered, mostChanges, changeKeysFrom, AtFirstProvince}
 use Rattle.nation_tables.specs.declared.gathering.Origin.{Origin}
 use Rattle.nation_tables.specs.declared.gathering.Beginning as Beginning
 use Rattle.nation_tables.specs.declared.gathering.Sizes.{Sizes}

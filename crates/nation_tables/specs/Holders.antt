@@ -15,7 +15,7 @@ use Rattle.rules.specs.Chronicle.{Change}
 use Rattle.rules.specs.Lent.{written}
 use Rattle.rules.specs.Changes.{changesOf}
 use Rattle.rules.specs.Nations.{matches, startHolders, allSwitches, settles, holdersOf}
-use Rattle.owner_changes.specs.ChangeSteps.{entered, perId, changeKeysFrom}
+use Rattle.change_keys.specs.ChangeSteps.{entered, perId, changeKeysFrom}
 use Rattle.nation_tables.specs.Layout.{mostSlots, wordSpan, half, cellRows, nobodyCell}
 use Rattle.nation_tables.specs.Countries.{tagWords, initialWords, rowKeys, settlingKeys, Keyed, OwnLast}
 use Rattle.nation_tables.specs.Turning.{highHalves, lowHalves, keyDate, rowAmong, RowTurn, rowTurnsOf, Rowed}

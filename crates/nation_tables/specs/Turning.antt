@@ -13,7 +13,7 @@ use Rattle.format.specs.Dates.{notAfter}
 use Rattle.format.specs.Campaign.{Campaign}
 use Rattle.rules.specs.Chronicle.{Entry}
 use Rattle.rules.specs.Nations.{Turn, turnsOf, turnEntries, turnCount}
-use Rattle.owner_changes.specs.ChangeSteps.{perDate}
+use Rattle.change_keys.specs.ChangeSteps.{perDate}
 use Rattle.nation_tables.specs.Layout.{half, noChange, noRow}
 use Rattle.nation_tables.specs.Countries.{tagWords}
 

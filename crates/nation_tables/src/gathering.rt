@@ -8,7 +8,7 @@ use crate::layout::MOST_SLOTS;
 use crate::layout::NO_FIRSTS;
 use crate::layout::rows_within;
 use crate::switches;
-use owner_changes::MOST_CHANGES;
+use change_keys::MOST_CHANGES;
 use record::Countries;
 use record::Eu4Date;
 use record::Opened;

@@ -6,8 +6,8 @@ use crate::layout::WORD_SPAN;
 use crate::settling;
 use crate::settling::STARTS;
 use crate::starting;
-use owner_changes::NextChange;
-use owner_changes::PER_ID;
+use change_keys::NextChange;
+use change_keys::PER_ID;
 use record::CountryTag;
 use record::ProvinceId;
 use record::Provinces;
@@ -17,7 +17,7 @@ ghost use mathlib.Core.List.{map};
 ghost use Prim.Native.Nat.{suc, _+_, _*_, _≤_};
 ghost use lib.ListN.{length, getD, take};
 ghost use Rattle.format.specs.Campaign.{campaignOf};
-ghost use Rattle.owner_changes.specs.ChangeSteps.{entered, AtFirstProvince};
+ghost use Rattle.change_keys.specs.ChangeSteps.{entered, AtFirstProvince};
 ghost use Rattle.nation_tables.specs.Layout.{half, cellRows};
 ghost use Rattle.nation_tables.specs.Countries.{tagWords, initialWords, rowKeys};
 ghost use Rattle.nation_tables.specs.Turning.{lowHalves};
@@ -99,7 +99,7 @@ fn fill_holders(
     let mut at = provinces.next(s);
     let mut n = 0;
     loop {
-        match owner_changes::next_change(s, at) {
+        match change_keys::next_change(s, at) {
             NextChange::Row(x, rest) => {
                 let to = x.to;
                 let row = settling::holder_row(settling_keys, starts, to, x.date);
@@ -162,7 +162,7 @@ fn pass(keys: &[u64], cells: &[u64], slots: &mut [u64], turns: &mut [u32])
     while k < keys.len() {
         let key = keys[k];
         let id = ProvinceId::kept((key / PER_ID % PER_ID) as u32);
-        let cell = owner_changes::cell(cells, (key % PER_ID) as usize);
+        let cell = change_keys::cell(cells, (key % PER_ID) as usize);
         let old = replace(slots, id, cell);
         turns[k] = (old % CELL_ROWS * CELL_ROWS + cell % CELL_ROWS) as u32;
         k += 1;
@@ -211,7 +211,7 @@ fn sort_steps(
     requires { ⌜ (length (entered (now s)) ≤ length (now keys)) × (length (entered (now s)) ≤ length (now cells)) ⌝ }
     ensures { λ r. ⌜ Stepped (now (s .entry)) r (now (keys .exit)) (now (cells .exit)) ⌝ }
 {
-    let n = owner_changes::fill_keys(s, provinces, keys);
+    let n = change_keys::fill_keys(s, provinces, keys);
     sort_keys(&mut keys[0..n], cells);
     settle_changes(s, provinces, tag_words, settling_keys, cells, n);
     n

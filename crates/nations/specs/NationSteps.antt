@@ -14,7 +14,7 @@ use Rattle.rules.specs.Changes.{changeWidth, changesOf, changeRows}
 use Rattle.rules.specs.Nations.{nationsOf, holdersOf}
 use Rattle.rules.specs.NationRows.{nationWidth, entryWidth}
 use Rattle.rules.specs.Outcomes.{callNationEvents}
-use Rattle.owner_changes.specs.ChangeSteps.{AtFirstProvince, entered, mostChanges, changeKeysFrom}
+use Rattle.change_keys.specs.ChangeSteps.{AtFirstProvince, entered, mostChanges, changeKeysFrom}
 use Rattle.nation_tables.specs.declared.gathering.TableSizes.{TableSizes}
 use Rattle.nation_tables.specs.Layout.{mostSettling, rowsWithin, wordSpan}
 use Rattle.nation_tables.specs.Holders.{slotCells, SlotsPut}

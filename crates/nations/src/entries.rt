@@ -30,7 +30,7 @@ fn switch_date(key: u64) -> Eu4Date
 fn switch_target(targets: &[u64], key: u64) -> CountryTag
     ensures { λ r. ⌜ r .0 ≡ targetIn (now (targets .entry)) key ⌝ }
 {
-    let cell = owner_changes::cell(targets, (key % KEY_NUMBERS) as usize);
+    let cell = change_keys::cell(targets, (key % KEY_NUMBERS) as usize);
     CountryTag::kept((cell % WORD_SPAN) as u32)
 }
 

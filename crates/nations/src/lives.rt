@@ -1,8 +1,8 @@
 // The Annexed and Appeared of one country, told one by one along its two chains of changes. A walk is a cursor by value: the next
 // change at which the country loses a slot, the next at which it gains one, and the slots that it holds now.
+use change_keys::PER_DATE;
 use nation_tables::HALF;
 use nation_tables::NO_CHANGE;
-use owner_changes::PER_DATE;
 use record::Eu4Date;
 ghost use mathlib.Core.Path.{_≡_};
 ghost use mathlib.Core.Bool.{true, _||_};

@@ -6,7 +6,7 @@ use crate::writing;
 use nation_tables::MOST_SETTLING;
 use nation_tables::MOST_SLOTS;
 use nation_tables::TableSizes;
-use owner_changes::MOST_CHANGES;
+use change_keys::MOST_CHANGES;
 ghost use mathlib.Core.Path.{_≡_};
 ghost use Prim.Native.Nat.{_≤_};
 ghost use lib.ListN.{length};

@@ -1,10 +1,10 @@
 // The rows of the answer, written once there is room for every one of them.
 use crate::listing;
 use crate::listing::Listed;
+use change_keys::CHANGE_WIDTH;
 use chronicle_rows::ENTRY_WIDTH;
 use chronicle_rows::NATION_WIDTH;
 use nation_tables::TableSizes;
-use owner_changes::CHANGE_WIDTH;
 use record::Provinces;
 ghost use mathlib.Core.Path.{_≡_};
 ghost use Prim.Native.Nat.{_*_, _≤_, _<_};

@@ -1,10 +1,6 @@
-pub mod ChangeLaws
-pub mod ChangeKeyLaws
-pub mod EnteringLaws
-pub mod RoomLaws
 pub mod OutcomeLaws
 pub mod CountLaws
-pub mod WrittenLaws
+pub mod WrittenRowLaws
 pub mod ReadRowLaws
 pub mod RowTurnLaws
 pub mod EnterRowLaws

@@ -1,3 +1,2 @@
-pub mod ChangeSteps
 pub mod RowSteps
 pub mod Cases

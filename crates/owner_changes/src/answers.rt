@@ -1,10 +1,10 @@
 // What is asked of owner changes: all of them in order, and the run of a date.
-use crate::changes;
-use crate::changes::NextChange;
 use crate::entering;
 use crate::entering::one;
-use crate::keys::CHANGE_WIDTH;
 use crate::rows;
+use change_keys::CHANGE_WIDTH;
+use change_keys::NextChange;
+use change_keys::next_change;
 use record::Dated;
 use record::Eu4Date;
 use record::Opened;
@@ -15,7 +15,7 @@ ghost use Rattle.rules.specs.Lent.{gives};
 ghost use Rattle.rules.specs.Changes.{changesOf, eventsOn};
 ghost use Rattle.rules.specs.Outcomes.{callProvinceOwners, callEventsOn};
 ghost use Rattle.owner_changes.specs.Cases.{ownersOutcome, eventsOnAnswer};
-ghost use Rattle.owner_changes.specs.ChangeSteps.{AtFirstProvince};
+ghost use Rattle.change_keys.specs.ChangeSteps.{AtFirstProvince};
 
 // The number of changes, whose rows are written, or the number of the refusal.
 pub enum Owners {
@@ -67,7 +67,7 @@ fn count_on(s: &[u8], provinces: Provinces, day: Eu4Date) -> EventsOn
     let mut first = 0;
     let mut count = 0;
     loop {
-        match changes::next_change(s, at) {
+        match next_change(s, at) {
             NextChange::Row(x, rest) => {
                 let date = x.date;
                 first += one(date.earlier(day));

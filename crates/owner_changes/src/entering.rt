@@ -1,7 +1,10 @@
 // Changes written in entry order, before any is sorted.
-use crate::changes;
-use crate::changes::NextChange;
-use crate::keys;
+use crate::writing;
+use change_keys::CHANGE_WIDTH;
+use change_keys::MOST_CHANGES;
+use change_keys::NextChange;
+use change_keys::change_key;
+use change_keys::next_change;
 use record::Provinces;
 ghost use mathlib.Core.Path.{_≡_};
 ghost use Prim.Native.Nat.{_*_, _≤_};
@@ -9,7 +12,7 @@ ghost use lib.Dec.{leb};
 ghost use lib.ListN.{length};
 ghost use Rattle.lists.specs.Lists.{one as oneOf};
 ghost use Rattle.rules.specs.Changes.{changeWidth};
-ghost use Rattle.owner_changes.specs.ChangeSteps.{changesAhead, AtFirstProvince};
+ghost use Rattle.change_keys.specs.ChangeSteps.{changesAhead, AtFirstProvince};
 ghost use Rattle.owner_changes.specs.RowSteps.{RowsEntered};
 
 // How many changes were entered, and how many of them go before the one that was entered before them.
@@ -32,7 +35,7 @@ fn at_most(s: &[u8], provinces: Provinces, most: usize) -> bool
     let mut at = provinces.next(s);
     let mut left = most;
     loop {
-        match changes::next_change(s, at) {
+        match next_change(s, at) {
             NextChange::Row(_, rest) => {
                 if left == 0 {
                     return false;
@@ -52,7 +55,7 @@ pub(crate) fn has_room(s: &[u8], provinces: Provinces, room: usize) -> bool
     requires { ⌜ AtFirstProvince (now s) provinces ⌝ }
     ensures { λ r. ⌜ r ≡ leb (length (changesAhead (now (s .entry)) provinces)) room ⌝ }
 {
-    if keys::MOST_CHANGES <= room {
+    if MOST_CHANGES <= room {
         return true;
     }
     at_most(s, provinces, room)
@@ -68,13 +71,13 @@ pub(crate) fn enter_rows(s: &[u8], provinces: Provinces, out: &mut [u32]) -> Wal
     let mut falls = 0;
     let mut last = 0;
     loop {
-        match changes::next_change(s, at) {
+        match next_change(s, at) {
             NextChange::Row(x, rest) => {
-                let key = keys::change_key(x, count);
+                let key = change_key(x, count);
                 falls += one(key < last);
                 last = key;
-                let k = keys::CHANGE_WIDTH * count;
-                keys::put_change(x, &mut out[k..]);
+                let k = CHANGE_WIDTH * count;
+                writing::put_change(x, &mut out[k..]);
                 count += 1;
                 at = rest;
             }

@@ -24,7 +24,7 @@ use Rattle.rules.specs.Chronicle.{Change}
 use Rattle.rules.specs.Changes.{provinceChanges, byDateAndId}
 use Rattle.rules.specs.Nations.{allSwitches, settles, moveOf}
 use Rattle.rules.specs.NationRows.{holderWord}
-use Rattle.owner_changes.specs.ChangeSteps.{entered, changeKey, changeKeysFrom, tagsOf, changeAt, perId, perDate}
+use Rattle.change_keys.specs.ChangeSteps.{entered, changeKey, changeKeysFrom, tagsOf, changeAt, perId, perDate}
 use Rattle.nation_tables.specs.Layout.{keyRows, keyDates, keyTags, cellRows}
 use Rattle.nation_tables.specs.Lookup.{noRow, FirstSorted}
 use Rattle.nation_tables.specs.Countries.{tagAtRow, tagWords, placesOf, rowOf, Keyed}
@@ -32,8 +32,8 @@ use Rattle.nation_tables.specs.Settling.{orTag, settledRow, RowHolds}
 use Rattle.nation_tables.specs.Turning.{firstAt, holderRow}
 use Rattle.nation_tables.specs.Holders.{Settler, slotCell, holderCell, Step, stepAt, stepsOf}
 use Rattle.rules.proofs.CampaignLaws.{all-changes}
-use Rattle.owner_changes.proofs.ChangeLaws.{Narrow}
-use Rattle.owner_changes.proofs.ChangeKeyLaws.{changes-back, keys-sorted}
+use Rattle.change_keys.proofs.ChangeLaws.{Narrow}
+use Rattle.change_keys.proofs.ChangeKeyLaws.{changes-back, keys-sorted}
 use Rattle.nation_tables.proofs.tables.MappedLaws.{row-single}
 use Rattle.nation_tables.proofs.tables.SettlingLaws.{settled-row}
 use Rattle.nation_tables.proofs.slots.TurningLaws.{stepOf}

@@ -13,8 +13,8 @@ use Rattle.format.proofs.SoundLaws.{sound}
 use Rattle.record.specs.Cursors.{countriesLeft, provincesLeft}
 use Rattle.rules.specs.Nations.{slotsOf, movesOf, lastHolder, holdersOf}
 use Rattle.rules.proofs.CampaignLaws.{length-slots}
-use Rattle.owner_changes.specs.ChangeSteps.{mostChanges, AtFirstProvince}
-use Rattle.owner_changes.proofs.ChangeLaws.{changes-few}
+use Rattle.change_keys.specs.ChangeSteps.{mostChanges, AtFirstProvince}
+use Rattle.change_keys.proofs.ChangeLaws.{changes-few}
 use Rattle.nation_tables.specs.declared.gathering.Origin.{Origin}
 use Rattle.nation_tables.specs.declared.gathering.Sizes.{Sizes}
 use Rattle.nation_tables.specs.Layout.{mostCountries, mostSwitches, mostSettling, mostSlots, rowsWithin, half, noChange}

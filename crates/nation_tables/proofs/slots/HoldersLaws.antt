@@ -27,7 +27,7 @@ use Rattle.rules.specs.Changes.{byDateAndId, changesOf}
 use Rattle.rules.specs.Nations.{initialOf, matches, mapsTo, slotsOf, startTag, startHolder, startHolders, allSwitches, moveOf, movesOf, holdersOf, heldOf}
 use Rattle.rules.specs.NationRows.{holderWord}
 use Rattle.rules.proofs.CampaignLaws.{holders-of}
-use Rattle.owner_changes.specs.ChangeSteps.{entered, AtFirstProvince, changeKeysFrom, KeysFilled}
+use Rattle.change_keys.specs.ChangeSteps.{entered, AtFirstProvince, changeKeysFrom, KeysFilled}
 use Rattle.nation_tables.specs.Layout.{keyRows, keyTags, wordSpan, noChange, cellRows}
 use Rattle.nation_tables.specs.Lookup.{noRow}
 use Rattle.nation_tables.specs.Countries.{tagAtRow, tagWords, initialWords, rowKeys, initialRow}
@@ -35,8 +35,8 @@ use Rattle.nation_tables.specs.Starting.{ownerIn, slotRows, Slotted, Sta
 use Rattle.nation_tables.specs.Turning.{highHalves, lowHalves, rowTurnsOf, Rowed}
 use Rattle.nation_tables.specs.Holders.{rowCell, slotCell, slotCells, cellWord, slotCounts, holderCell, stepAt, stepsOf}
 use Rattle.nation_tables.specs.Holders.{turnsAlong, cellsAlong, turnCell, Passed, Began, Stepped, Held}
-use Rattle.owner_changes.proofs.ChangeLaws.{entered-few, entered-narrow}
-use Rattle.owner_changes.proofs.ChangeKeyLaws.{length-change-keys}
+use Rattle.change_keys.proofs.ChangeLaws.{entered-few, entered-narrow}
+use Rattle.change_keys.proofs.ChangeKeyLaws.{length-change-keys}
 use Rattle.nation_tables.proofs.tables.KeyedLaws.{tag-small, accepted-keyed, accepted-slotted}
 use Rattle.nation_tables.proofs.tables.MappedLaws.{row-mapped}
 use Rattle.nation_tables.proofs.slots.SlotPassLaws.{length-along, passed-rows}

@@ -12,8 +12,8 @@ use Rattle.sorting.proofs.SortLaws.{length-sort}
 use Rattle.format.specs.Campaign.{campaignOf}
 use Rattle.format.specs.Refusal.{refusal}
 use Rattle.rules.specs.Changes.{byDateAndId, changesOf}
-use Rattle.owner_changes.specs.ChangeSteps.{entered, mostChanges}
-use Rattle.owner_changes.proofs.ChangeLaws.{entered-few, entered-bytes}
+use Rattle.change_keys.specs.ChangeSteps.{entered, mostChanges}
+use Rattle.change_keys.proofs.ChangeLaws.{entered-few, entered-bytes}
 use Rattle.nation_tables.specs.declared.gathering.Origin.{Origin}
 use Rattle.nation_tables.specs.declared.gathering.Beginning.{Beginning}
 use Rattle.nation_tables.specs.declared.gathering.Beginning.the-variants.{At, Refused}

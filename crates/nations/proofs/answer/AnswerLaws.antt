@@ -30,7 +30,7 @@ use Rattle.nation_tables.proofs.tables.OwnKeyLaws.{settling-count}
 use Rattle.nation_tables.proofs.tables.SwitchLaws.{run-entries, targets-small}
 use Rattle.nation_tables.proofs.slots.HoldersLaws.{holder-words, held-counted}
 use Rattle.nation_tables.proofs.slots.RoomLaws.{settling-fit, switches-fit, changes-fit}
-use Rattle.owner_changes.proofs.ChangeLaws.{changes-few}
+use Rattle.change_keys.proofs.ChangeLaws.{changes-few}
 use Rattle.nations.specs.declared.listing.Listed.{Listed}
 use Rattle.nations.specs.declared.nations.NationCounts.{NationCounts}
 use Rattle.nations.specs.Cases.{nationCells, countsIn}

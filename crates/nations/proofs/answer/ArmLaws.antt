@@ -8,7 +8,7 @@ use lib.ListN.{length, replicate, length-replicate}
 use Rattle.record.specs.declared.cursors.Provinces.{Provinces}
 use Rattle.format.specs.Refusal.{refusal}
 use Rattle.rules.specs.Chronicle.{Nation}
-use Rattle.owner_changes.specs.ChangeSteps.{mostChanges}
+use Rattle.change_keys.specs.ChangeSteps.{mostChanges}
 use Rattle.nation_tables.specs.declared.gathering.TableSizes.{TableSizes}
 use Rattle.nation_tables.specs.declared.gathering.TablesGathered.{TablesGathered}
 use Rattle.nation_tables.specs.declared.gathering.TablesGathered.the-variants.{Tables, Refused}

@@ -13,7 +13,7 @@ use Rattle.format.specs.Campaign.{Campaign, campaignOf}
 use Rattle.format.specs.Refusal.{refusal, firstOf}
 use Rattle.format.proofs.FirstLaws.{first-stop, first-pass, first-one, first-zero}
 use Rattle.rules.specs.Changes.{changeWidth}
-use Rattle.owner_changes.specs.ChangeSteps.{mostChanges}
+use Rattle.change_keys.specs.ChangeSteps.{mostChanges}
 use Rattle.nation_tables.specs.Layout.{mostCountries, mostSlots}
 use Rattle.rules.specs.Lent.{refused, gives, roomNumber}
 use Rattle.rules.specs.Nations.{matches, slotsOf, movesOf, lastHolder, holdersOf, heldOf}
@@ -21,7 +21,7 @@ use Rattle.rules.specs.NationRows.{holderWord, nationWidth, entryWidth}
 use Rattle.rules.specs.Outcomes.{Answers, answersOf, NationCells, cellsOf, allFit, allWritten, Counts, countsOf, callNationEvents}
 use Rattle.rules.proofs.RowLaws.{length-nationWords, length-entryWords, length-changeRows}
 use Rattle.rules.proofs.LentLaws.{outcome-refused, outcome-gives, answered-given}
-use Rattle.owner_changes.proofs.ChangeLaws.{changes-few}
+use Rattle.change_keys.proofs.ChangeLaws.{changes-few}
 use Rattle.nation_tables.proofs.tables.KeyedLaws.{countries-few, provinces-few}
 use Rattle.nations.proofs.answer.NationSizeLaws.{nations-few, entries-few}
 

@@ -24,7 +24,7 @@ use Rattle.nation_tables.specs.Countries.{switchKey, switchKeysFrom}
 use Rattle.nation_tables.specs.Turning.{byDate}
 use Rattle.rules.specs.NationRows.{targetWord}
 use Rattle.nation_tables.proofs.tables.SwitchLaws.{length-chain}
-use Rattle.owner_changes.proofs.ChangeLaws.{changes-few}
+use Rattle.change_keys.proofs.ChangeLaws.{changes-few}
 use Rattle.nation_tables.proofs.tables.KeyedLaws.{countries-few, switches-few}
 use Rattle.nations.proofs.walks.WalkLaws.{turn-short}
 

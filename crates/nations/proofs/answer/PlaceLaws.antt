@@ -15,7 +15,7 @@ use Rattle.sorting.specs.Sort.{sortBy}
 use Rattle.record.specs.declared.cursors.Provinces.{Provinces}
 use Rattle.rules.specs.Chronicle.{Nation}
 use Rattle.rules.specs.Changes.{changeWidth}
-use Rattle.owner_changes.specs.ChangeSteps.{entered, changeKeysFrom}
+use Rattle.change_keys.specs.ChangeSteps.{entered, changeKeysFrom}
 use Rattle.rules.specs.NationRows.{nationWidth, entryWidth}
 use Rattle.rules.proofs.RowLaws.{length-nationWords, length-entryWords}
 use Rattle.nation_tables.specs.declared.gathering.TableSizes.{TableSizes}

@@ -8,10 +8,10 @@ use lib.Seq.{take-all}
 use Rattle.lists.specs.Lists.{All}
 use Rattle.format.specs.Campaign.{campaignOf}
 use Rattle.format.proofs.CampaignLaws.{told-row, told-end}
-use Rattle.owner_changes.specs.ChangeSteps.{changeOf, changesLeft, changeTold}
+use Rattle.change_keys.specs.ChangeSteps.{changeOf, changesLeft, changeTold}
 use Rattle.nation_tables.specs.Countries.{settlingKeysFrom}
 use Rattle.nation_tables.specs.Holders.{holderCell}
-use Rattle.owner_changes.proofs.EnteringLaws.{Entering, all-entered, entering-none, entering-next, entering-more, entering-done}
+use Rattle.change_keys.proofs.EnteringLaws.{Entering, all-entered, entering-none, entering-next, entering-more, entering-done}
 use Rattle.nation_tables.proofs.slots.ChangeCellLaws.{Small, entered-small, small-next, all-sorted, cell-made}
 use borrow.Author.Needs.{needs}
 use Rattle.nation_tables.proofs.holders.fill_holders.Statement.{statement}

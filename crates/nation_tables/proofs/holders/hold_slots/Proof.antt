@@ -3,7 +3,7 @@ use mathlib.Core.Path.{_≡_, _∙_}
 use native.Mathlib.Omega.{arith}
 use borrow.Author.Needs.{zero≤}
 use lib.ListN.{length, length-take}
-use Rattle.owner_changes.specs.ChangeSteps.{entered}
+use Rattle.change_keys.specs.ChangeSteps.{entered}
 use Rattle.nation_tables.proofs.slots.HoldersLaws.{held}
 use Rattle.nation_tables.proofs.holders.hold_slots.Statement.{statement}
 use Rattle.nation_tables.proofs.holders.hold_slots.Tie as tie

@@ -3,7 +3,7 @@ use mathlib.Core.Path.{sym, _∙_}
 use native.Mathlib.Omega.{arith}
 use lib.ListN.{length-map, length-take}
 use Rattle.format.specs.Campaign.{campaignOf}
-use Rattle.owner_changes.specs.ChangeSteps.{entered}
+use Rattle.change_keys.specs.ChangeSteps.{entered}
 use Rattle.nation_tables.specs.Holders.{holderCell}
 use Rattle.nation_tables.proofs.slots.CellLaws.{front-is}
 use borrow.Author.Needs.{needs}

@@ -1,8 +1,8 @@
 -- All changes have room, by their count.
 use native.Mathlib.Omega.{arith}
 use borrow.Author.Needs.{needs, zero≤}
-use Rattle.owner_changes.specs.ChangeSteps.{KeysFilled}
-use Rattle.owner_changes.proofs.WrittenLaws.{keys-filled}
+use Rattle.change_keys.specs.ChangeSteps.{KeysFilled}
+use Rattle.change_keys.proofs.WrittenLaws.{keys-filled}
 use Rattle.nation_tables.proofs.slots.HoldersLaws.{stepped}
 use Rattle.nation_tables.proofs.holders.sort_steps.Statement.{statement}
 use Rattle.nation_tables.proofs.holders.sort_steps.Tie as tie

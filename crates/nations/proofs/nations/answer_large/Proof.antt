@@ -1,6 +1,6 @@
 -- The new cells have room.
 use mathlib.Core.Path.{sym}
-use Rattle.owner_changes.specs.ChangeSteps.{mostChanges}
+use Rattle.change_keys.specs.ChangeSteps.{mostChanges}
 use Rattle.nation_tables.specs.Layout.{mostSettling}
 use Rattle.nations.proofs.answer.ArmLaws.{made, large-room}
 use Rattle.nations.proofs.nations.answer_large.Statement.{statement}

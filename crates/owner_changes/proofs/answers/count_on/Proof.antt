@@ -7,9 +7,9 @@ use Rattle.lists.specs.Lists.{one}
 use Rattle.format.specs.Dates.{earlier, sameDate}
 use Rattle.format.proofs.CampaignLaws.{told-row, told-end}
 use Rattle.rules.specs.Lent.{gives}
-use Rattle.owner_changes.specs.ChangeSteps.{changeOf, changesLeft, changeTold, entered}
-use Rattle.owner_changes.proofs.ChangeLaws.{entered-few}
-use Rattle.owner_changes.proofs.EnteringLaws.{all-entered}
+use Rattle.change_keys.specs.ChangeSteps.{changeOf, changesLeft, changeTold, entered}
+use Rattle.change_keys.proofs.ChangeLaws.{entered-few}
+use Rattle.change_keys.proofs.EnteringLaws.{all-entered}
 use Rattle.owner_changes.proofs.CountLaws.{Counting, counting-none, counting-more, counting-small, counting-done, run-counted}
 use borrow.Author.Needs.{needs}
 use Rattle.owner_changes.proofs.answers.count_on.Statement.{statement}

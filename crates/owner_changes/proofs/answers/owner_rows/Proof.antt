@@ -5,7 +5,7 @@ use native.Mathlib.Omega.{arith}
 use borrow.Author.Tests.{not-true, not-false}
 use lib.ListN.{length}
 use Rattle.rules.specs.Changes.{changeWidth}
-use Rattle.owner_changes.specs.ChangeSteps.{changesAhead, mostChanges}
+use Rattle.change_keys.specs.ChangeSteps.{changesAhead, mostChanges}
 use Rattle.owner_changes.proofs.OwnerRowLaws.{ahead-few, owners-over, owners-room, entered-whole, entered-falls, owners-ordered}
 use borrow.Author.Needs.{needs}
 use Rattle.owner_changes.proofs.answers.owner_rows.Statement.{statement}

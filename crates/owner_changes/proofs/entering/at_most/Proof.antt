@@ -8,7 +8,7 @@ use lib.ListN.{length}
 use Rattle.lists.specs.Lists.{joinOf}
 use Rattle.format.proofs.CampaignLaws.{told-row, told-end}
 use Rattle.rules.specs.Changes.{provinceChanges}
-use Rattle.owner_changes.specs.ChangeSteps.{changeOf, changesAhead, changesLeft, changeTold}
+use Rattle.change_keys.specs.ChangeSteps.{changeOf, changesAhead, changesLeft, changeTold}
 use borrow.Author.Needs.{needs}
 use Rattle.owner_changes.proofs.entering.at_most.Statement.{statement}
 use Rattle.owner_changes.proofs.entering.at_most.Tie as tie

@@ -9,7 +9,7 @@ use Rattle.lists.specs.Lists.{joinOf}
 use Rattle.lists.proofs.WriteLaws.{behind}
 use Rattle.format.proofs.CampaignLaws.{told-row, told-end}
 use Rattle.rules.specs.Changes.{provinceChanges, changeWidth, changeWords}
-use Rattle.owner_changes.specs.ChangeSteps.{changeOf, changesLeft, changeTold}
+use Rattle.change_keys.specs.ChangeSteps.{changeOf, changesLeft, changeTold}
 use Rattle.owner_changes.proofs.EnterRowLaws.{EnteringRows, one-small, enter-start, enter-room, enter-more, enter-done, rows-entered}
 use borrow.Author.Needs.{needs}
 use Rattle.owner_changes.proofs.entering.enter_rows.Statement.{statement}

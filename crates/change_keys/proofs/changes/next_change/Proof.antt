@@ -6,11 +6,11 @@ use native.Mathlib.Omega.{arith}
 use Rattle.lists.specs.Lists.{joinOf}
 use Rattle.record.specs.Cursors.{provinceTold}
 use Rattle.rules.specs.Changes.{provinceChanges}
-use Rattle.owner_changes.specs.ChangeSteps.{changesLeft}
-use Rattle.owner_changes.proofs.ChangeLaws.{steps, walk-on, walk-on-less, walk-same, walk-change, walk-less}
+use Rattle.change_keys.specs.ChangeSteps.{changesLeft}
+use Rattle.change_keys.proofs.ChangeLaws.{steps, walk-on, walk-on-less, walk-same, walk-change, walk-less}
 use borrow.Author.Needs.{needs}
-use Rattle.owner_changes.proofs.changes.next_change.Statement.{statement}
-use Rattle.owner_changes.proofs.changes.next_change.Tie as tie
+use Rattle.change_keys.proofs.changes.next_change.Statement.{statement}
+use Rattle.change_keys.proofs.changes.next_change.Tie as tie
 
 abbrev Inv-loop : tie.InvT-loop
 Inv-loop s at₀ at = changesLeft s at₀ ≡ changesLeft s at

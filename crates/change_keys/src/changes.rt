@@ -6,7 +6,7 @@ use record::NextProvince;
 use record::ProvinceId;
 use record::ProvinceRow;
 ghost use mathlib.Core.Path.{_≡_};
-ghost use Rattle.owner_changes.specs.ChangeSteps.{changesLeft, changeTold};
+ghost use Rattle.change_keys.specs.ChangeSteps.{changesLeft, changeTold};
 
 // On this date the province passed from one tag to another.
 pub struct OwnerChange {

@@ -29,8 +29,8 @@ use Rattle.format.proofs.RowLaws.{rows-counted}
 use Rattle.format.proofs.CampaignLaws.{told-row, told-end, events-owned}
 use Rattle.format.proofs.BoundLaws.{small-provinces, few-events}
 use Rattle.rules.specs.Changes.{changesFrom, provinceChanges, byDateAndId, changesOf}
-use Rattle.owner_changes.specs.ChangeSteps.{changesLeft, entered, mostChanges}
-pub use Rattle.owner_changes.specs.RowSteps.{Narrow}
+use Rattle.change_keys.specs.ChangeSteps.{changesLeft, entered, mostChanges}
+pub use Rattle.change_keys.specs.ChangeSteps.{Narrow}
 use Rattle.rules.proofs.CampaignLaws.{all-changes}
 
 -- ## One step of the walk

@@ -1,0 +1,5 @@
+pub mod ChangeLaws
+pub mod ChangeKeyLaws
+pub mod EnteringLaws
+pub mod RoomLaws
+pub mod WrittenLaws
