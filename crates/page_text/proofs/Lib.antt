@@ -1,7 +1,3 @@
-pub mod DecimalLaws
-pub mod SelectionLaws
-pub mod TailLaws
 pub mod StoredLaws
 pub mod PageLaws
-pub mod NumberLaws
 pub mod OutcomeLaws

@@ -17,7 +17,7 @@ use Rattle.rules.specs.NationRows.{nationRowsIn}
 use Rattle.rules.specs.Page.{selectionOf, tagsRead}
 use Rattle.rules.specs.PageOutcomes.{selectionNumber}
 use Rattle.rules.proofs.LentLaws.{outcome-refused, outcome-gives}
-use Rattle.page_text.specs.Lines.{heading}
+use Rattle.page_lines.specs.Lines.{heading}
 use Rattle.page_text.specs.Stored.{linesOf}
 use Rattle.page_text.specs.Texts.{callLines, textOf, rowsNumber, callText}
 

@@ -3,7 +3,7 @@ use mathlib.Core.Path.{_≡_, refl, sym, ap, ap₂, subst, _∙_}
 use mathlib.Core.Bool.{Bool, true, false, cond, _&&_}
 use mathlib.Core.List.{List, [], _∷_, _++_, map}
 use mathlib.Core.Option.{Option, none, some, Option·map, Option·none-ne-some, Option·some-injective}
-use Prim.Native.Nat.{ℕ, _+_, _/_, _%_, _<_, _≤_}
+use Prim.Native.Nat.{ℕ, _+_, _/_, _%_, _<_}
 use native.Mathlib.Nat.{mod-eq-of-lt}
 use native.Mathlib.Omega.{arith}
 use lib.Dec.{eqb}
@@ -11,7 +11,7 @@ use lib.ListN.{length, take, getD, length-map}
 use lib.Seq.{getD-take}
 use Rattle.lists.specs.Lists.{All, joinOf, firstThat, numbersFrom}
 use Rattle.lists.specs.Text.{ascii}
-use Rattle.lists.proofs.BoolLaws.{cases, and-left, and-right}
+use Rattle.lists.proofs.BoolLaws.{and-left, and-right}
 use Rattle.lists.proofs.ListLaws.{length-numbers, numbers-at, map-then}
 use Rattle.format.specs.declared.tag.CountryTag.{CountryTag}
 use Rattle.format.specs.Tags.{isTag, created, sameTag, tagOf}
@@ -23,7 +23,7 @@ use Rattle.chronicle_rows.specs.RowAt.{nationRowAt, entryAt, entriesAt, nationN
 use Rattle.chronicle_rows.proofs.NumberedLaws.{nation-tags, nations-numbered}
 use Rattle.search.specs.Places.{placeFrom}
 use Rattle.search.proofs.PlaceLaws.{first-placed, place-inside}
-use Rattle.page_text.specs.Lines.{tagField, statusField, rowLine, absentLine, heading}
+use Rattle.page_lines.specs.Lines.{tagField, statusField, rowLine, absentLine, heading}
 use Rattle.page_text.specs.Stored.{lineAt, lineOf, linesOf}
 use Rattle.page_text.specs.Texts.{textOf}
 

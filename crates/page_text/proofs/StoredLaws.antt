@@ -2,8 +2,8 @@
 use mathlib.Core.Path.{_≡_, refl, sym, ap, _∙_}
 use mathlib.Core.Bool.{Bool, false}
 use mathlib.Core.List.{List, [], _∷_, _++_, map}
-use mathlib.Core.Option.{Option, none, some}
-use Prim.Native.Nat.{ℕ, zero, suc, _+_, _-_, _%_, _<_, _≤_}
+use mathlib.Core.Option.{Option}
+use Prim.Native.Nat.{ℕ, suc, _+_, _-_, _%_, _<_, _≤_}
 use native.Mathlib.Nat.{sub-zero, mod-eq-of-lt}
 use native.Mathlib.Numerals.{add-one}
 use native.Mathlib.Omega.{arith}
@@ -23,7 +23,7 @@ use Rattle.chronicle_rows.specs.RowAt.{nationRowAt, storedTags, tagsStored}
 use Rattle.search.specs.declared.places.Place as Place
 use Rattle.search.specs.Places.{tagKey, tagKeysFrom, placeFrom, placeTold}
 use Rattle.search.proofs.PlaceLaws.{place-inside}
-use Rattle.page_text.specs.Lines.{rowLine, absentLine}
+use Rattle.page_lines.specs.Lines.{rowLine, absentLine}
 use Rattle.page_text.specs.Stored.{KeysSorted, LineTables, lineAt, lineOf}
 
 -- ## Filled row by row

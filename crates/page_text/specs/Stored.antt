@@ -12,7 +12,7 @@ use Rattle.format.specs.declared.tag.CountryTag.{CountryTag}
 use Rattle.rules.specs.NationRows.{nationRowsIn}
 use Rattle.chronicle_rows.specs.RowAt.{nationRowAt, tagsStored}
 use Rattle.search.specs.Places.{tagKeysFrom, placeFrom}
-use Rattle.page_text.specs.Lines.{rowLine, absentLine}
+use Rattle.page_lines.specs.Lines.{rowLine, absentLine}
 
 -- The first of the keys are those of the stored tags, in order.
 pub record KeysSorted (ws keys : List ℕ) : Type 0 where

@@ -11,7 +11,7 @@ use Rattle.rules.specs.NationRows.{nationRowsIn}
 use Rattle.rules.specs.Page.{selectionOf, tagsRead}
 use Rattle.rules.specs.PageOutcomes.{selectionNumber}
 use Rattle.page_text.specs.declared.text.PageText as PageText
-use Rattle.page_text.specs.Lines.{heading}
+use Rattle.page_lines.specs.Lines.{heading}
 use Rattle.page_text.specs.Stored.{linesOf}
 
 -- How many bytes were written, or the number of the refusal.

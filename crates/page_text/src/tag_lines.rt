@@ -1,7 +1,9 @@
 // The line of a tag: of the nation stored under it, if there is one.
-use crate::lines;
-use crate::lines::ABSENT_LENGTH;
 use chronicle_rows::nation_at;
+use page_lines::ABSENT_LENGTH;
+use page_lines::put_nobody;
+use page_lines::put_row;
+use page_lines::row_length;
 use record::CountryTag;
 use search::Place;
 use search::first_place;
@@ -17,7 +19,7 @@ pub(crate) fn tag_length(nations: &[u32], keys: &[u64], living: &[bool], tag: Co
     ensures { λ r. ⌜ r ≡ length (lineOf (now (nations .entry)) (now (living .entry)) tag) ⌝ }
 {
     match first_place(keys, tag) {
-        Place::At(i) => lines::row_length(nation_at(nations, i), living[i]),
+        Place::At(i) => row_length(nation_at(nations, i), living[i]),
         Place::Nowhere => ABSENT_LENGTH,
     }
 }
@@ -35,10 +37,7 @@ pub(crate) fn put_line(
     ensures { λ r. ⌜ (r ≡ length (lineOf (now (nations .entry)) (now (living .entry)) tag)) × (now (out .exit) ≡ written (lineOf (now (nations .entry)) (now (living .entry)) tag) (now (out .entry))) ⌝ }
 {
     match first_place(keys, tag) {
-        Place::At(i) => lines::put_row(nation_at(nations, i), living[i], out),
-        Place::Nowhere => {
-            lines::put_nobody(tag, out);
-            ABSENT_LENGTH
-        }
+        Place::At(i) => put_row(nation_at(nations, i), living[i], out),
+        Place::Nowhere => put_nobody(tag, out),
     }
 }

@@ -1,15 +1,15 @@
 // The text of the page: held against the room first, then written.
-use crate::decimal;
-use crate::fields;
-use crate::fields::LINE_FEED;
-use crate::selection;
-use crate::selection::NextTag;
-use crate::selection::Selection;
-use crate::selection::TAG_LINE;
 use crate::stored;
 use crate::stored::MOST_NATIONS;
 use crate::tag_lines;
 use chronicle_rows::nation_count;
+use page_lines::NextTag;
+use page_lines::Selection;
+use page_lines::TAG_LINE;
+use page_lines::heading_length;
+use page_lines::next_tag;
+use page_lines::put_heading;
+use page_lines::read_selection;
 ghost use mathlib.Core.Path.{_≡_};
 ghost use mathlib.Core.List.{_++_};
 ghost use Prim.Native.Nat.{_≤_};
@@ -17,8 +17,8 @@ ghost use lib.Dec.{leb};
 ghost use lib.ListN.{length};
 ghost use Rattle.rules.specs.Lent.{written};
 ghost use Rattle.rules.specs.Page.{selectionOf, tagsRead};
-ghost use Rattle.page_text.specs.Selecting.{IsTags};
-ghost use Rattle.page_text.specs.Lines.{heading};
+ghost use Rattle.page_lines.specs.Selecting.{IsTags};
+ghost use Rattle.page_lines.specs.Lines.{heading};
 ghost use Rattle.page_text.specs.Stored.{LineTables, linesOf};
 ghost use Rattle.page_text.specs.Texts.{textOutcome, callLines, callText};
 
@@ -36,7 +36,7 @@ fn lines_fit(nations: &[u32], keys: &[u64], living: &[bool], selection: &[u8], r
     let mut at = 0;
     let mut left = room;
     loop {
-        match selection::next_tag(selection, at) {
+        match next_tag(selection, at) {
             NextTag::Row(tag) => {
                 let need = tag_lines::tag_length(nations, keys, living, tag);
                 if left < need {
@@ -69,7 +69,7 @@ fn put_lines(
     let mut at = 0;
     let mut k = 0;
     loop {
-        match selection::next_tag(selection, at) {
+        match next_tag(selection, at) {
             NextTag::Row(tag) => {
                 k += tag_lines::put_line(nations, keys, living, tag, &mut out[k..]);
             }
@@ -82,24 +82,6 @@ fn put_lines(
         }
         at += TAG_LINE;
     }
-}
-
-// How many bytes the first line has.
-fn heading_length(count: usize) -> usize
-    ensures { λ r. ⌜ r ≡ length (heading count) ⌝ }
-{
-    decimal::decimal_length(count as u64) + 10
-}
-
-// Writes the first line, and gives how many bytes it has.
-fn put_heading(count: usize, out: &mut [u8]) -> usize
-    requires { ⌜ length (heading count) ≤ length (now out) ⌝ }
-    ensures { λ r. ⌜ (r ≡ length (heading count)) × (now (out .exit) ≡ written (heading count) (now (out .entry))) ⌝ }
-{
-    fields::put_selected(out);
-    let k = 9 + decimal::write_decimal(count as u64, &mut out[9..]);
-    out[k] = LINE_FEED;
-    k + 1
 }
 
 // The page from tables of the nations, for a selection that is so many tags.
@@ -135,7 +117,7 @@ pub fn write_text(nations: &[u32], living: &[bool], selection: &[u8], out: &mut 
     if (MOST_NATIONS < n) | (living.len() < n) {
         return PageText::Refused(10);
     }
-    match selection::read_selection(selection) {
+    match read_selection(selection) {
         Selection::Tags(count) => {
             let mut keys = [0u64; MOST_NATIONS];
             stored::sort_stored(nations, &mut keys);

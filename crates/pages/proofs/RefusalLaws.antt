@@ -8,7 +8,7 @@ use lib.ListN.{length}
 use Rattle.lists.specs.Text.{ascii}
 use Rattle.rules.specs.Lent.{fits, written}
 use Rattle.rules.specs.Page.{decimal, line}
-use Rattle.page_text.specs.Numbers.{PutsNumber}
+use Rattle.page_lines.specs.Numbers.{PutsNumber}
 use Rattle.pages.specs.Printing.{refusedLine}
 
 pub line-parts : (n : ℕ) → (ascii "refused " ++ decimal n) ++ (10 ∷ []) ≡ refusedLine n

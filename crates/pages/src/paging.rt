@@ -1,10 +1,10 @@
 // The page: its limits, the nations of the record, and their text.
 use crate::listing::PageNations;
 use crate::listing::list_nations;
+use page_lines::Selection;
+use page_lines::read_selection;
 use page_text::MOST_NATIONS;
 use page_text::PageText;
-use page_text::Selection;
-use page_text::read_selection;
 use page_text::write_text;
 ghost use mathlib.Core.Path.{_≡_};
 ghost use Rattle.rules.specs.PageOutcomes.{callPage};

@@ -1,8 +1,8 @@
 // What the program page prints, in a slice.
 use crate::paging::Paged;
 use crate::paging::write_page;
-use page_text::LINE_FEED;
-use page_text::put_number;
+use page_lines::LINE_FEED;
+use page_lines::put_number;
 ghost use mathlib.Core.Path.{_≡_};
 ghost use mathlib.Core.Option.{some};
 ghost use Prim.Native.Nat.{_≤_};

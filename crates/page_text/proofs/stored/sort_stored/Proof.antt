@@ -1,5 +1,4 @@
 -- The keys of all rows are sorted in their place.
-use mathlib.Core.Path.{_≡_}
 use Rattle.page_text.proofs.StoredLaws.{stored-inside, stored-sorted}
 use borrow.Author.Needs.{needs}
 use Rattle.page_text.proofs.stored.sort_stored.Statement.{statement}

@@ -5,7 +5,8 @@ use native.Mathlib.Omega.{arith}
 use lib.ListN.{length, getD}
 use Rattle.rules.specs.Lent.{written}
 use Rattle.chronicle_rows.specs.Cases.{nationTold}
-use Rattle.page_text.specs.Lines.{rowLine, absentLine}
+use Rattle.page_lines.specs.Lines.{rowLine, absentLine}
+use Rattle.page_lines.proofs.PutLaws.{text-fits}
 use Rattle.page_text.specs.Stored.{lineOf}
 use Rattle.page_text.proofs.StoredLaws.{place-within, line-there, line-nowhere}
 use borrow.Author.Needs.{needs}
@@ -43,13 +44,13 @@ shared-slice-read-put-row c =
     place-within (p .before .before .before .before .before .pre .0) _ _ (p .first-place .ensures) (i .i .given .1)
 
 put-row-requires : tie.Need-put-row-requires
-put-row-requires c κs = omega (arith, ap length (there (c .before .before)), start (c .before .before) .pre .1)
+put-row-requires c κs = search needs
 
 enum-told : tie.Need-enum-told
 enum-told c = search needs
 
 put-nobody-requires : tie.Need-put-nobody-requires
-put-nobody-requires c κs = omega (arith, ap length (nowhere (c .before)), c .before .before .before .before .before .before .before .before .pre .1)
+put-nobody-requires c κs = search needs
 
 same-length : tie.Need-same-length
 same-length c = search needs
@@ -57,8 +58,11 @@ same-length c = search needs
 returns : tie.Need-returns
 returns c =
     let r = c .before .before in
-    let t = there (r .before .before .before) in
-    (r .put-row .ensures .0 ∙ sym (ap length t), r .put-row .ensures .1 ∙ sym (ap (λ l. written l (start (r .before .before .before) .args .out .now)) t))
+    let found = r .before .before .before in
+    let t = there found in
+    let line = rowLine (nationTold (found .nation-at .result)) (getD (start found .args .living .now) (found .before .before .i .given .0 .0) false) in
+    let put = text-fits line (start found .args .out .now) (omega (arith, ap length t, start found .pre .1)) _ _ (r .put-row .ensures) in
+    (put .0 ∙ sym (ap length t), put .1 ∙ sym (ap (λ l. written l (start found .args .out .now)) t))
 
 same-length-2 : tie.Need-same-length-2
 same-length-2 c = search needs
@@ -67,7 +71,9 @@ returns-2 : tie.Need-returns-2
 returns-2 c =
     let r = c .before .before in
     let t = nowhere (r .before .before) in
-    (sym (ap length t), r .put-nobody .ensures ∙ sym (ap (λ l. written l (r .before .before .before .before .before .before .before .before .before .args .out .now)) t))
+    let s = r .before .before .before .before .before .before .before .before .before in
+    let put = text-fits (absentLine (s .args .tag)) (s .args .out .now) (omega (arith, ap length t, s .pre .1)) _ _ (r .put-nobody .ensures) in
+    (put .0 ∙ sym (ap length t), put .1 ∙ sym (ap (λ l. written l (s .args .out .now)) t))
 
 pub put-line-spec : {M : Type 1} → statement M
 put-line-spec =

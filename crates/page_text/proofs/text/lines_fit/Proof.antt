@@ -7,9 +7,9 @@ use native.Mathlib.Omega.{arith}
 use borrow.Author.Tests.{le-leb, lt-leb}
 use lib.ListN.{length, drop, length-append}
 use Rattle.rules.specs.Page.{selectionOf, tagsRead}
-use Rattle.page_text.specs.Selecting.{tagTold, IsTags}
+use Rattle.page_lines.specs.Selecting.{tagTold, IsTags}
 use Rattle.page_text.specs.Stored.{lineOf, linesOf}
-use Rattle.page_text.proofs.SelectionLaws.{tag-inside, tags-next, tags-broken}
+use Rattle.page_lines.proofs.SelectionLaws.{tag-inside, tags-next, tags-broken}
 use borrow.Author.Needs.{needs}
 use Rattle.page_text.proofs.text.lines_fit.Statement.{statement}
 use Rattle.page_text.proofs.text.lines_fit.Tie as tie

@@ -8,9 +8,9 @@ use lib.ListN.{length, drop, length-append, length-take, length-drop}
 use Rattle.lists.proofs.FillLaws.{filling-count, filling-written}
 use Rattle.lists.proofs.WriteLaws.{Writing, behind, writing-none, writing-more}
 use Rattle.rules.specs.Page.{selectionOf, tagsRead}
-use Rattle.page_text.specs.Selecting.{tagTold, IsTags}
+use Rattle.page_lines.specs.Selecting.{tagTold, IsTags}
 use Rattle.page_text.specs.Stored.{lineOf, linesOf}
-use Rattle.page_text.proofs.SelectionLaws.{tag-inside, tags-next, tags-broken}
+use Rattle.page_lines.proofs.SelectionLaws.{tag-inside, tags-next, tags-broken}
 use borrow.Author.Needs.{needs}
 use Rattle.page_text.proofs.text.put_lines.Statement.{statement}
 use Rattle.page_text.proofs.text.put_lines.Tie as tie

@@ -6,10 +6,12 @@ use native.Mathlib.Omega.{arith}
 use borrow.Author.Tests.{leb-true, leb-false, not-true, not-false}
 use lib.ListN.{length, length-append}
 use Rattle.rules.specs.Page.{selectionOf, tagsRead}
-use Rattle.page_text.specs.Lines.{heading}
+use Rattle.page_lines.specs.Lines.{heading}
+use Rattle.rules.specs.Lent.{written}
+use Rattle.page_lines.proofs.PutLaws.{text-fits}
 use Rattle.page_text.specs.Stored.{linesOf}
 use Rattle.page_text.proofs.OutcomeLaws.{lines-short, lines-written}
-use Rattle.page_text.proofs.TailLaws.{tail-start, tail-room, then-written}
+use Rattle.page_lines.proofs.TailLaws.{tail-start, tail-room, then-written}
 use borrow.Author.Needs.{needs}
 use Rattle.page_text.proofs.text.write_tabled.Statement.{statement}
 use Rattle.page_text.proofs.text.write_tabled.Tie as tie
@@ -52,20 +54,27 @@ returns-2 c =
     lines-short (first-line h ++ lines h) (start h .args .out .now) (omega (arith, l, e .if1 .left, h .heading-length .ensures, length-append (first-line h) (lines h)))
 
 put-heading-requires : tie.Need-put-heading-requires
-put-heading-requires c κs =
-    let e = c .before .before .before in omega (arith, e .if1 .left, e .before .heading-length .ensures)
+put-heading-requires c κs = search needs
+
+-- The first line was written.
+headed : (c : tie.After-put-heading)
+    → (c .put-heading .result ≡ length (first-line (c .before .before .before .before .before))) × (c .put-heading .last .1 .0 ≡ written (first-line (c .before .before .before .before .before)) (start (c .before .before .before .before .before) .args .out .now))
+headed c =
+    let e = c .before .before .before .before in
+    let h = c .before .before .before .before .before in
+    text-fits (first-line h) (start h .args .out .now) (omega (arith, e .if1 .left, h .heading-length .ensures)) _ _ (c .put-heading .ensures)
 
 sub-put-lines : tie.Need-sub-put-lines
 sub-put-lines c =
     let p = c .before .before in
     let h = p .before .before .before .before .before in
-    tail-start (first-line h) (start h .args .out .now) _ _ (h .heading-length .ensures) (p .put-heading .ensures .1)
+    tail-start (first-line h) (start h .args .out .now) _ _ (h .heading-length .ensures) (headed p .1)
 
 part-put-lines-start : tie.Need-part-put-lines-start
 part-put-lines-start c =
     let p = c .before .before in
     let h = p .before .before .before .before .before in
-    tail-start (first-line h) (start h .args .out .now) _ _ (h .heading-length .ensures) (p .put-heading .ensures .1)
+    tail-start (first-line h) (start h .args .out .now) _ _ (h .heading-length .ensures) (headed p .1)
 
 part-put-lines-end : tie.Need-part-put-lines-end
 part-put-lines-end c = search needs
@@ -77,7 +86,7 @@ put-lines-requires c κs =
     let s = start h in (
       s .pre .0,
       s .pre .1,
-      tail-room (first-line h) (s .args .out .now) _ _ (h .heading-length .ensures) (p .put-heading .ensures .1) (lines h) (fits (p .before .before)),
+      tail-room (first-line h) (s .args .out .now) _ _ (h .heading-length .ensures) (headed p .1) (lines h) (fits (p .before .before)),
     )
 
 add-t9 : tie.Need-add-t9
@@ -97,7 +106,7 @@ returns-3 c =
     let h = p .before .before .before .before .before in
     lines-written (first-line h ++ lines h) (start h .args .out .now) _ _ (fits (p .before .before))
     (omega (arith, l .put-lines .ensures .0, h .heading-length .ensures, length-append (first-line h) (lines h)))
-    (then-written (first-line h) (start h .args .out .now) _ _ (h .heading-length .ensures) (p .put-heading .ensures .1) (lines h) _ (l .put-lines .ensures .1))
+    (then-written (first-line h) (start h .args .out .now) _ _ (h .heading-length .ensures) (headed p .1) (lines h) _ (l .put-lines .ensures .1))
 
 pub write-tabled-spec : {M : Type 1} → statement M
 write-tabled-spec =

@@ -1,13 +1,13 @@
 -- The keys of all nations in order, and the page by them and the status cells.
 use mathlib.Core.Path.{_≡_, sym, ap, _∙_}
-use mathlib.Core.Option.{none, some, Option·map}
+use mathlib.Core.Option.{some, Option·map}
 use Prim.Native.Nat.{_≤_}
 use native.Mathlib.Omega.{arith}
 use borrow.Author.Tests.{ltb-false}
 use lib.ListN.{length}
 use Rattle.lists.proofs.BoolLaws.{neither}
 use Rattle.rules.specs.Page.{selectionOf}
-use Rattle.page_text.specs.Selecting.{selectionTold}
+use Rattle.page_lines.specs.Selecting.{selectionTold}
 use Rattle.page_text.specs.Texts.{rowsNumber}
 use Rattle.page_text.proofs.StoredLaws.{tabled}
 use Rattle.page_text.proofs.OutcomeLaws.{tags-counted, rows-refused, rows-taken, tags-refused, lines-taken}

@@ -2,7 +2,7 @@
 use mathlib.Core.Path.{_≡_, sym, ap, _∙_}
 use Rattle.rules.specs.Page.{selectionOf}
 use Rattle.rules.specs.PageOutcomes.{bytesNumber}
-use Rattle.page_text.specs.Selecting.{selectionTold}
+use Rattle.page_lines.specs.Selecting.{selectionTold}
 use Rattle.page_text.proofs.OutcomeLaws.{tags-counted, tags-uncounted}
 use Rattle.pages.proofs.BeginLaws.{bytes-many, bytes-few}
 use Rattle.pages.proofs.PageLaws.{page-many, page-bad, page-no-tags}

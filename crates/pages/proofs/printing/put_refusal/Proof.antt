@@ -7,7 +7,7 @@ use lib.ListN.{length, take, drop, length-append, length-set}
 use Rattle.lists.specs.Text.{ascii}
 use Rattle.rules.specs.Lent.{written}
 use Rattle.rules.specs.Page.{decimal}
-use Rattle.page_text.proofs.TailLaws.{tail-room, long-after, then-written, then-cell}
+use Rattle.page_lines.proofs.TailLaws.{tail-room, long-after, then-written, then-cell}
 use Rattle.pages.proofs.RefusalLaws.{line-parts, number-room}
 use Rattle.pages.proofs.SizeLaws.{word-digits}
 use borrow.Author.Needs.{needs}

@@ -1,0 +1,4 @@
+pub mod DecimalLaws
+pub mod SelectionLaws
+pub mod TailLaws
+pub mod PutLaws
