@@ -5,7 +5,7 @@ use format::ProvinceId;
 ghost use mathlib.Core.Path.{_≡_};
 ghost use Prim.Native.Nat.{_+_, _<_, _≤_};
 ghost use lib.ListN.{length};
-ghost use Rattle.head.specs.Reads.{Num};
+ghost use Rattle.record_head.specs.Reads.{Num};
 ghost use Rattle.format.specs.Bytes.{byteAt, le16, le32, signed32, tagAt, dateAt, idAt};
 
 pub(crate) fn byte(s: &[u8], at: usize) -> u32

@@ -152,9 +152,9 @@ impl Countries {
         let switches = self.switches;
         let row = CountryRow {
             tag: bytes::tag_at(s, at),
-            human: head::bit0(flags),
-            was_player: head::bit1(flags),
-            has_switched_nation: head::bit2(flags),
+            human: record_head::bit0(flags),
+            was_player: record_head::bit1(flags),
+            has_switched_nation: record_head::bit2(flags),
             cities: bytes::i32_at(s, at + 4),
             previous: PreviousTags(previous.first(a)),
             switches: Switches(switches.first(b)),

@@ -33,15 +33,15 @@ fn countries_from(h: Head) -> Countries
 {
     Countries {
         rows: Run {
-            at: head::COUNTRIES_AT,
+            at: record_head::COUNTRIES_AT,
             left: h.countries as usize,
         },
         previous: Run {
-            at: head::previous_at(h),
+            at: record_head::previous_at(h),
             left: h.previous as usize,
         },
         switches: Run {
-            at: head::switches_at(h),
+            at: record_head::switches_at(h),
             left: h.switches as usize,
         },
     }
@@ -52,11 +52,11 @@ fn provinces_from(h: Head) -> Provinces
 {
     Provinces {
         rows: Run {
-            at: head::provinces_at(h),
+            at: record_head::provinces_at(h),
             left: h.provinces as usize,
         },
         events: Run {
-            at: head::events_at(h),
+            at: record_head::events_at(h),
             left: h.events as usize,
         },
     }
@@ -67,11 +67,11 @@ fn wars_from(h: Head) -> Wars
 {
     Wars {
         rows: Run {
-            at: head::wars_at(h),
+            at: record_head::wars_at(h),
             left: h.wars as usize,
         },
         events: Run {
-            at: head::war_events_at(h),
+            at: record_head::war_events_at(h),
             left: h.war_events as usize,
         },
     }
@@ -82,11 +82,11 @@ fn ledgers_from(h: Head) -> Ledgers
 {
     Ledgers {
         rows: Run {
-            at: head::ledgers_at(h),
+            at: record_head::ledgers_at(h),
             left: h.ledgers as usize,
         },
         points: Run {
-            at: head::points_at(h),
+            at: record_head::points_at(h),
             left: h.points as usize,
         },
     }
@@ -96,7 +96,7 @@ fn strings_from(h: Head) -> Strings
     ensures { λ r. ⌜ r ≡ recordAt h .strings ⌝ }
 {
     Strings(Run {
-        at: head::strings_at(h),
+        at: record_head::strings_at(h),
         left: h.strings as usize,
     })
 }
@@ -109,12 +109,12 @@ pub fn open_record(s: &[u8]) -> Opened
     if number != 0 {
         return Opened::Refused(number);
     }
-    let h = head::read_head(s);
+    let h = record_head::read_head(s);
     let start = h.start;
     let current = h.current;
     Opened::Accepted(Record {
-        ironman: head::bit0(h.flags),
-        multiplayer: head::bit1(h.flags),
+        ironman: record_head::bit0(h.flags),
+        multiplayer: record_head::bit1(h.flags),
         start,
         current,
         countries: countries_from(h),

@@ -8,11 +8,11 @@ ghost use Rattle.format.specs.Refusal.{refusal};
 pub fn check(s: &[u8]) -> u32
     ensures { λ r. ⌜ r ≡ refusal (now (s .entry)) ⌝ }
 {
-    if !head::opens_record(s) {
+    if !record_head::opens_record(s) {
         return 1;
     }
-    let h = head::read_head(s);
-    if !head::version_known(h) {
+    let h = record_head::read_head(s);
+    if !record_head::version_known(h) {
         return 2;
     }
     if !sizes::sizes_agree(s, h) {
@@ -25,5 +25,5 @@ pub fn check(s: &[u8]) -> u32
     if repeats::repeated(s, h) {
         return 7;
     }
-    if head::ends_early(h) { 8 } else { 0 }
+    if record_head::ends_early(h) { 8 } else { 0 }
 }

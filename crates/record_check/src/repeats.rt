@@ -47,7 +47,7 @@ fn tag_twice(s: &[u8], at: usize, n: usize) -> bool
     let mut a = at;
     let mut left = n;
     while 0 < left {
-        let p = place(head::tag_at(s, a));
+        let p = place(record_head::tag_at(s, a));
         if bitset::marked(&seen, p) {
             return true;
         }
@@ -67,7 +67,7 @@ fn id_twice_or_above(s: &[u8], at: usize, n: usize) -> bool
     let mut a = at;
     let mut left = n;
     while 0 < left {
-        let id = head::u16_at(s, a) as usize;
+        let id = record_head::u16_at(s, a) as usize;
         if n < id {
             return true;
         }
@@ -86,6 +86,6 @@ pub(crate) fn repeated(s: &[u8], h: Head) -> bool
     requires { ⌜ (Laid (now s) h) × (firstIn countryNumber (countryRows (now s)) ≡ 0) ⌝ }
     ensures { λ r. ⌜ r ≡ tagTwice (now (s .entry)) || idTwiceOrAbove (now (s .entry)) ⌝ }
 {
-    tag_twice(s, head::COUNTRIES_AT, h.countries as usize)
-        | id_twice_or_above(s, head::provinces_at(h), h.provinces as usize)
+    tag_twice(s, record_head::COUNTRIES_AT, h.countries as usize)
+        | id_twice_or_above(s, record_head::provinces_at(h), h.provinces as usize)
 }

@@ -21,7 +21,7 @@ fn total(s: &[u8], at: usize, width: usize, k: usize, n: usize) -> usize
     let mut a = at;
     let mut left = n;
     while 0 < left {
-        sum += head::u16_at(s, a + k) as usize;
+        sum += record_head::u16_at(s, a + k) as usize;
         a += width;
         left -= 1;
     }
@@ -33,35 +33,35 @@ fn previous_total(s: &[u8], h: Head) -> usize
     requires { ⌜ Laid (now s) h ⌝ }
     ensures { λ r. ⌜ r ≡ sumOf (λ r. r .previous) (countryRows (now (s .entry))) ⌝ }
 {
-    total(s, head::COUNTRIES_AT, 12, 8, h.countries as usize)
+    total(s, record_head::COUNTRIES_AT, 12, 8, h.countries as usize)
 }
 
 fn switches_total(s: &[u8], h: Head) -> usize
     requires { ⌜ Laid (now s) h ⌝ }
     ensures { λ r. ⌜ r ≡ sumOf (λ r. r .switches) (countryRows (now (s .entry))) ⌝ }
 {
-    total(s, head::COUNTRIES_AT, 12, 10, h.countries as usize)
+    total(s, record_head::COUNTRIES_AT, 12, 10, h.countries as usize)
 }
 
 fn events_total(s: &[u8], h: Head) -> usize
     requires { ⌜ Laid (now s) h ⌝ }
     ensures { λ r. ⌜ r ≡ sumOf (λ r. r .events) (provinceRows (now (s .entry))) ⌝ }
 {
-    total(s, head::provinces_at(h), 7, 5, h.provinces as usize)
+    total(s, record_head::provinces_at(h), 7, 5, h.provinces as usize)
 }
 
 fn war_events_total(s: &[u8], h: Head) -> usize
     requires { ⌜ Laid (now s) h ⌝ }
     ensures { λ r. ⌜ r ≡ sumOf (λ n. n) (warRows (now (s .entry))) ⌝ }
 {
-    total(s, head::wars_at(h), 2, 0, h.wars as usize)
+    total(s, record_head::wars_at(h), 2, 0, h.wars as usize)
 }
 
 fn points_total(s: &[u8], h: Head) -> usize
     requires { ⌜ Laid (now s) h ⌝ }
     ensures { λ r. ⌜ r ≡ sumOf (λ r. r .points) (ledgerRows (now (s .entry))) ⌝ }
 {
-    total(s, head::ledgers_at(h), 5, 3, h.ledgers as usize)
+    total(s, record_head::ledgers_at(h), 5, 3, h.ledgers as usize)
 }
 
 // The rows that own others count as many as the head says.
@@ -87,7 +87,7 @@ fn length_agrees(s: &[u8], at: usize, n: usize) -> bool
         if s.len() <= a {
             return false;
         }
-        let len = head::byte(s, a) as usize;
+        let len = record_head::byte(s, a) as usize;
         if s.len() - a <= len {
             return false;
         }
@@ -102,10 +102,10 @@ pub(crate) fn sizes_agree(s: &[u8], h: Head) -> bool
     requires { ⌜ h ≡ headOf (now s) ⌝ }
     ensures { λ r. ⌜ r ≡ sizesAgree (now (s .entry)) ⌝ }
 {
-    if !head::within_limits(h) {
+    if !record_head::within_limits(h) {
         return false;
     }
-    let end = head::strings_at(h);
+    let end = record_head::strings_at(h);
     if s.len() < end {
         return false;
     }

@@ -52,7 +52,7 @@ fn country_number(tags: &[bool; 256], s: &[u8], at: usize) -> u32
     if !tables::good_tag_at(tags, s, at) {
         return 4;
     }
-    if head::country_flags_defined(bytes::byte(s, at + 3)) {
+    if record_head::country_flags_defined(bytes::byte(s, at + 3)) {
         0
     } else {
         6
@@ -112,7 +112,7 @@ fn war_event_number(tags: &[bool; 256], days: &[bool; 10000], s: &[u8], at: usiz
     if !tables::good_by(bytes::date_at(s, at), days) {
         return 5;
     }
-    if !head::kind_defined(bytes::byte(s, at + 4)) {
+    if !record_head::kind_defined(bytes::byte(s, at + 4)) {
         return 6;
     }
     tag_number(tags, s, at + 5)
@@ -140,56 +140,89 @@ fn countries_field(tags: &[bool; 256], s: &[u8], h: Head) -> u32
     requires { ⌜ (Laid (now s) h) × (TagTable (now tags)) ⌝ }
     ensures { λ r. ⌜ r ≡ firstIn countryNumber (countryRows (now (s .entry))) ⌝ }
 {
-    countries_number(tags, s, head::COUNTRIES_AT, h.countries as usize)
+    countries_number(tags, s, record_head::COUNTRIES_AT, h.countries as usize)
 }
 
 fn previous_field(tags: &[bool; 256], s: &[u8], h: Head) -> u32
     requires { ⌜ (Laid (now s) h) × (TagTable (now tags)) ⌝ }
     ensures { λ r. ⌜ r ≡ firstIn (λ t. tagNumber t) (previousTags (now (s .entry))) ⌝ }
 {
-    tags_number(tags, s, head::previous_at(h), 3, 0, h.previous as usize)
+    tags_number(
+        tags,
+        s,
+        record_head::previous_at(h),
+        3,
+        0,
+        h.previous as usize,
+    )
 }
 
 fn switches_field(tags: &[bool; 256], days: &[bool; 10000], s: &[u8], h: Head) -> u32
     requires { ⌜ (Laid (now s) h) × (TagTable (now tags)) × (DayTable (now days)) ⌝ }
     ensures { λ r. ⌜ r ≡ firstIn switchNumber (switchRows (now (s .entry))) ⌝ }
 {
-    dated_rows_number(tags, days, s, head::switches_at(h), h.switches as usize)
+    dated_rows_number(
+        tags,
+        days,
+        s,
+        record_head::switches_at(h),
+        h.switches as usize,
+    )
 }
 
 fn provinces_field(tags: &[bool; 256], s: &[u8], h: Head) -> u32
     requires { ⌜ (Laid (now s) h) × (TagTable (now tags)) ⌝ }
     ensures { λ r. ⌜ r ≡ firstIn (λ r. tagNumber (r .owner)) (provinceRows (now (s .entry))) ⌝ }
 {
-    tags_number(tags, s, head::provinces_at(h), 7, 2, h.provinces as usize)
+    tags_number(
+        tags,
+        s,
+        record_head::provinces_at(h),
+        7,
+        2,
+        h.provinces as usize,
+    )
 }
 
 fn events_field(tags: &[bool; 256], days: &[bool; 10000], s: &[u8], h: Head) -> u32
     requires { ⌜ (Laid (now s) h) × (TagTable (now tags)) × (DayTable (now days)) ⌝ }
     ensures { λ r. ⌜ r ≡ firstIn ownerEventNumber (ownerEvents (now (s .entry))) ⌝ }
 {
-    dated_rows_number(tags, days, s, head::events_at(h), h.events as usize)
+    dated_rows_number(tags, days, s, record_head::events_at(h), h.events as usize)
 }
 
 fn wars_field(tags: &[bool; 256], days: &[bool; 10000], s: &[u8], h: Head) -> u32
     requires { ⌜ (Laid (now s) h) × (TagTable (now tags)) × (DayTable (now days)) ⌝ }
     ensures { λ r. ⌜ r ≡ firstIn warEventNumber (warEvents (now (s .entry))) ⌝ }
 {
-    war_events_number(tags, days, s, head::war_events_at(h), h.war_events as usize)
+    war_events_number(
+        tags,
+        days,
+        s,
+        record_head::war_events_at(h),
+        h.war_events as usize,
+    )
 }
 
 fn ledgers_field(tags: &[bool; 256], s: &[u8], h: Head) -> u32
     requires { ⌜ (Laid (now s) h) × (TagTable (now tags)) ⌝ }
     ensures { λ r. ⌜ r ≡ firstIn (λ r. tagNumber (r .tag)) (ledgerRows (now (s .entry))) ⌝ }
 {
-    tags_number(tags, s, head::ledgers_at(h), 5, 0, h.ledgers as usize)
+    tags_number(
+        tags,
+        s,
+        record_head::ledgers_at(h),
+        5,
+        0,
+        h.ledgers as usize,
+    )
 }
 
 fn points_field(s: &[u8], h: Head) -> u32
     requires { ⌜ Laid (now s) h ⌝ }
     ensures { λ r. ⌜ r ≡ firstIn (λ p. yearNumber (p .year)) (points (now (s .entry))) ⌝ }
 {
-    years::points_number(s, head::points_at(h), h.points as usize)
+    years::points_number(s, record_head::points_at(h), h.points as usize)
 }
 
 // Each section's fields in the order of the file, behind a head that is not refused.
@@ -233,7 +266,7 @@ fn laid_number(s: &[u8], h: Head) -> u32
     requires { ⌜ Laid (now s) h ⌝ }
     ensures { λ r. ⌜ r ≡ fieldsNumber (now (s .entry)) ⌝ }
 {
-    let number = head::head_number(h);
+    let number = record_head::head_number(h);
     if number != 0 {
         return number;
     }
@@ -247,11 +280,11 @@ fn laid_number(s: &[u8], h: Head) -> u32
 pub fn fields_number(s: &[u8]) -> u32
     ensures { λ r. ⌜ (sizesAgree (now (s .entry)) ≡ true → r ≡ fieldsNumber (now (s .entry))) ⌝ }
 {
-    let h = head::read_head(s);
-    if !head::within_limits(h) {
+    let h = record_head::read_head(s);
+    if !record_head::within_limits(h) {
         return 0;
     }
-    let end = head::strings_at(h);
+    let end = record_head::strings_at(h);
     if s.len() < end {
         return 0;
     }

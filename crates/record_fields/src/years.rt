@@ -11,7 +11,7 @@ fn point_number(s: &[u8], at: usize) -> u32
     requires { ⌜ at + 6 ≤ length (now s) ⌝ }
     ensures { λ r. ⌜ r ≡ yearNumber (pointAt (now (s .entry)) at .year) ⌝ }
 {
-    if head::year_allowed(bytes::u16_at(s, at)) {
+    if record_head::year_allowed(bytes::u16_at(s, at)) {
         0
     } else {
         9
@@ -23,10 +23,10 @@ fn four_points_number(s: &[u8], at: usize) -> u32
     requires { ⌜ at + 24 ≤ length (now s) ⌝ }
     ensures { λ r. ⌜ r ≡ firstIn (λ p. yearNumber (p .year)) (rowsAt (pointAt (now (s .entry))) 6 (now (s .entry)) at 4) ⌝ }
 {
-    let good = head::year_allowed(bytes::u16_at(s, at))
-        & head::year_allowed(bytes::u16_at(s, at + 6))
-        & head::year_allowed(bytes::u16_at(s, at + 12))
-        & head::year_allowed(bytes::u16_at(s, at + 18));
+    let good = record_head::year_allowed(bytes::u16_at(s, at))
+        & record_head::year_allowed(bytes::u16_at(s, at + 6))
+        & record_head::year_allowed(bytes::u16_at(s, at + 12))
+        & record_head::year_allowed(bytes::u16_at(s, at + 18));
     if good { 0 } else { 9 }
 }
 
