@@ -1,13 +1,9 @@
 // The counts of nations, in a lent slice of their own.
 use nations::NationCounts;
 ghost use mathlib.Core.Path.{_≡_};
-ghost use Prim.Native.Nat.{_≤_};
 ghost use lib.Dec.{leb};
 ghost use lib.ListN.{length};
-ghost use Rattle.rules.specs.Lent.{written};
-ghost use Rattle.nations.specs.Cases.{countsIn};
-ghost use Rattle.host_answers.specs.Host.{countWords};
-ghost use Rattle.host_answers.specs.Inner.{FewCounts};
+ghost use Rattle.host_answers.specs.Inner.{countsPut};
 
 // How many counts there are.
 const COUNTS: usize = 5;
@@ -22,9 +18,9 @@ pub fn has_counts(out: &[u32]) -> bool
     COUNTS <= out.len()
 }
 
-// Writes the five counts, where there is room for them. Each fits a word, as those of every record do.
+// Writes the five counts, where there is room for them: their lowest 32 bits, which of every record are all.
 pub fn put_counts(counts: NationCounts, out: &mut [u32])
-    ensures { λ _. ⌜ (FewCounts counts → 5 ≤ length (now (out .entry)) → now (out .exit) ≡ written (countWords (countsIn counts)) (now (out .entry))) ⌝ }
+    ensures { λ _. ⌜ now (out .exit) ≡ countsPut counts (now (out .entry)) ⌝ }
 {
     if !has_counts(out) {
         return;

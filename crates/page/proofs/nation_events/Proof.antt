@@ -11,6 +11,7 @@ use Rattle.format.specs.Refusal.{firstOf}
 use Rattle.nations.specs.declared.nations.NationEvents.{NationEvents}
 use Rattle.rules.specs.Outcomes.{NationCells, callNationEvents}
 use Rattle.nations.specs.Cases.{nationsAnswer, nationCells}
+use Rattle.host_answers.proofs.CountLaws.{counts-told}
 use Rattle.page.proofs.HostLaws.{returns-of, slices-short, slices-refused, slices-given, counts-narrow}
 use borrow.Author.Needs.{needs}
 use Rattle.page.proofs.nation_events.Statement.{statement}
@@ -106,7 +107,7 @@ returns-2 c =
     let known : tie.After-slice-known11 = c .before .before .before .before .before .before .before in
     let given = told known _ (c .before .before .before .before .before .n .given .1) in
     let few = counts-narrow _ _ _ (ap (λ o. o .answer) given) in
-    rw (c .before .before .put-counts .ensures few (fits known)) (returns-of (slices-given _ _ (fits known) _ _ given) refl)
+    rw (c .before .before .put-counts .ensures ∙ counts-told _ _ few (fits known)) (returns-of (slices-given _ _ (fits known) _ _ given) refl)
 
 same-length-8 : tie.Need-same-length-8
 same-length-8 c = search needs

@@ -6,7 +6,7 @@ use native.Mathlib.Omega.{arith}
 use borrow.Author.Tests.{leb-true, leb-false, not-true, not-false}
 use lib.ListN.{length, length-set}
 use lib.Seq.{sets-eq}
-use Rattle.host_answers.proofs.CountLaws.{counts-told}
+use Rattle.host_answers.proofs.CountLaws.{counts-short, counts-long}
 use borrow.Author.Needs.{needs}
 use Rattle.host_answers.proofs.counts.put_counts.Statement.{statement}
 use Rattle.host_answers.proofs.counts.put_counts.Tie as tie
@@ -24,7 +24,7 @@ same-length c = search needs
 returns : tie.Need-returns
 returns c =
     let out = c .before .before .before .before .args .out .now in
-    λ few long. absurd (omega (arith, long, leb-false 5 (length out) (sym (c .before .has-counts .ensures) ∙ not-true _ (c .if1 .taken))))
+    counts-short _ out (leb-false 5 (length out) (sym (c .before .has-counts .ensures) ∙ not-true _ (c .if1 .taken)))
 
 cast-out : tie.Need-cast-out
 cast-out c = search needs
@@ -62,7 +62,8 @@ same-length-2 c = search needs
 returns-2 : tie.Need-returns-2
 returns-2 c =
     let a = c .before .before .before .before .before .before .before .before .before .args in
-    λ few long. counts-told (a .counts) (a .out .now) _ few (sets-eq (_ ∷ _ ∷ _ ∷ _ ∷ _ ∷ []) (a .out .now) 0 (omega (arith, long)))
+    let long = room (c .before .before .before .before .before) in
+    sets-eq (_ ∷ _ ∷ _ ∷ _ ∷ _ ∷ []) (a .out .now) 0 (omega (arith, long)) ∙ counts-long (a .counts) (a .out .now) long
 
 pub put-counts-spec : {M : Type 1} → statement M
 put-counts-spec =
