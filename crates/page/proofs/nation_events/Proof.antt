@@ -107,7 +107,8 @@ returns-2 c =
     let known : tie.After-slice-known11 = c .before .before .before .before .before .before .before in
     let given = told known _ (c .before .before .before .before .before .n .given .1) in
     let few = counts-narrow _ _ _ (ap (λ o. o .answer) given) in
-    rw (c .before .before .put-counts .ensures ∙ counts-told _ _ few (fits known)) (returns-of (slices-given _ _ (fits known) _ _ given) refl)
+    let put = c .before .before .put-counts .ensures ∙ counts-told (c .before .before .before .before .before .n .given .0 .0) (start known .args .counts .now) few (fits known) in
+    rw put (returns-of (slices-given _ _ (fits known) _ _ given) refl)
 
 same-length-8 : tie.Need-same-length-8
 same-length-8 c = search needs
