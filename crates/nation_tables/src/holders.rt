@@ -129,7 +129,7 @@ fn settle_changes(
     ensures { λ _. ⌜ take n (now (cells .exit)) ≡ map (holderCell (campaignOf (now (s .entry)) .countries)) (entered (now (s .entry))) ⌝ }
 {
     let mut starts = [0u16; STARTS];
-    settling::note_starts(settling_keys, &mut starts);
+    settling::note_starts(settling_keys, n, &mut starts);
     fill_holders(
         s,
         provinces,
