@@ -1,4 +1,4 @@
-// The head of a record. Crate head reads it and tests it.
+// The head of a record. Crate record_head reads it and tests it.
 use crate::date::Eu4Date;
 
 // The head's numbers: version, flags, dates, and the counts of C, P, A, B, E, N, W, V, G and Y.

@@ -1,4 +1,4 @@
-// The packed record's types, with the rules of dates and tags. What a record is stands in specs; crate head has the tests of its head and of single fields.
+// The packed record's types, with the rules of dates and tags. What a record is stands in specs; crate record_head has the tests of its head and of single fields.
 mod date;
 mod head;
 mod rows;

@@ -1,4 +1,4 @@
--- 01, Expected form: what each case of the answer stands for among the rules.
+-- What the cases of the answer stand for is said by arranging; and what the steps of the call start from.
 use mathlib.Core.Path.{_≡_}
 use mathlib.Core.List.{List}
 use Prim.Native.Nat.{ℕ}

@@ -9,7 +9,7 @@ ghost use Rattle.host_answers.specs.Host.{Returns, wordCells, foundCells
 ghost use Rattle.host_answers.specs.Resolving.{dataCells};
 ghost use Rattle.host_answers.specs.Playing.{startingWords};
 
-// Writes two words.
+// Writes two words, and gives 2; without room for them minus 10, and nothing is written.
 pub fn put_two(first: u32, second: u32, out: &mut [u32]) -> i64
     ensures { λ r. ⌜ Returns (wordCells (first ∷ second ∷ []) (now (out .entry))) r (now (out .exit)) ⌝ }
 {

@@ -17,8 +17,8 @@ const SECOND_BYTES: u64 = 78;
 // How many cells of 16 bits such a table has: one for each cell of tags, and one behind the last.
 pub(crate) const STARTS: usize = 6086;
 
-// For fewer changes the keys are searched without hints.
-const FEW_CHANGES: usize = 128;
+// From so many changes on it takes less time to make the hints than to search without them.
+const HINTS_FROM: usize = 128;
 
 // The cell of `--`, the first tag, comes to 0 where this is added.
 const FIRST_CELL: u64 = 61981;
@@ -60,7 +60,7 @@ fn raise_starts(starts: &mut [u16]) {
 
 // Makes the hints, but for few changes: their searches take less time than the table.
 pub(crate) fn note_starts(keys: &[u64], changes: usize, starts: &mut [u16]) {
-    if changes < FEW_CHANGES {
+    if changes < HINTS_FROM {
         return;
     }
     note_ends(keys, starts);

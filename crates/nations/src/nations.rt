@@ -17,7 +17,7 @@ ghost use Rattle.nations.specs.NationSteps.{smallRecord, RowsRoom, count
 // A record of no more bytes is small: its tables take less time to clear.
 const SMALL_RECORD: usize = 16384;
 
-// So many changes, and keys that changes settle by, a small record has at most: each takes seven bytes of it.
+// Room for the changes of a small record, and for the keys that they settle by: each takes seven bytes of it.
 const FEW_ROWS: usize = 2341;
 
 // How many rows of each kind there are.

@@ -16,7 +16,7 @@ pub fn heading_length(count: usize) -> usize
     decimal::decimal_length(count as u64) + 10
 }
 
-// Writes it where it has room, and gives how many bytes it has.
+// Writes it into a slice that has room, and gives how many bytes it has.
 fn write_heading(count: usize, out: &mut [u8]) -> usize
     requires { ⌜ length (heading count) ≤ length (now out) ⌝ }
     ensures { λ r. ⌜ (r ≡ length (heading count)) × (now (out .exit) ≡ written (heading count) (now (out .entry))) ⌝ }

@@ -1,5 +1,5 @@
 -- 01, Page: its limits and refusal numbers, the outcome of the page's call, and what the program prints. How an outcome becomes the one
--- number that a C function returns is said in the crate page.
+-- number that a C function returns is said in the crate host_answers.
 use mathlib.Core.Bool.{cond, _&&_}
 use mathlib.Core.List.{List, [], _∷_}
 use mathlib.Core.Option.{Option, none, some}

@@ -8,7 +8,7 @@ use chronicle_trial::pack::{Campaign, Date, OwnerEvent};
 pub type Order = (&'static str, fn(usize) -> Vec<usize>);
 
 /// Rising, falling, in runs, and such as part badly.
-pub const ALL: [Order; 11] = [
+pub const ALL: [Order; 12] = [
     ("rising", |n| (0..n).collect()),
     ("falling", |n| (0..n).rev().collect()),
     ("one day", |n| vec![0; n]),
@@ -19,6 +19,7 @@ pub const ALL: [Order; 11] = [
     ("a thousand runs", |n| runs(n, 1000)),
     ("up and down", |n| (0..n / 2).chain((n / 2..n).rev()).collect()),
     ("worst for a pivot of nine", worst_for_pivots),
+    ("turns that are not seen", unseen_turns),
     ("shuffled", shuffled),
 ];
 
@@ -56,6 +57,16 @@ fn worst_for_pivots(n: usize) -> Vec<usize> {
     }
     let mut others = shuffled(n - next).into_iter().map(|rank| rank + next);
     ranks.into_iter().map(|rank| rank.unwrap_or_else(|| others.next().unwrap())).collect()
+}
+
+/// The sort looks for turns at every 31st rank, with the two before it. Here these rise, and all else is shuffled: so
+/// halves are merged where the ranks had better be parted.
+fn unseen_turns(n: usize) -> Vec<usize> {
+    let mut ranks = shuffled(n);
+    for first in (0..n.saturating_sub(2)).step_by(31) {
+        ranks[first..first + 3].sort_unstable();
+    }
+    ranks
 }
 
 /// One province with an event for each rank, every one a change.
