@@ -14,5 +14,4 @@ pub use keys::change_in;
 pub use keys::change_key;
 pub use keys::fill_keys;
 pub use keys::fill_tags;
-pub use keys::smaller;
 pub use keys::tags_of;

@@ -37,6 +37,10 @@ pub record Bytes (w : ℕ) : Type 0 where
   pub second : Range (w / 256 % 256)
   pub third : Range (w % 256)
 
+-- A word is what its three bytes make.
+pub word-parts : (w : ℕ) → w ≡ w / 65536 * 65536 + w / 256 % 256 * 256 + w % 256
+word-parts w = omega arith
+
 pub tag-bytes : (t : CountryTag) → isTag t ≡ true → Bytes (t .0)
 unfolding isTag
 tag-bytes t h =

@@ -7,7 +7,7 @@ use Prim.Native.Nat.{ℕ}
 use lib.IntN.{ℤ, pos, negℤ}
 use lib.ListN.{length}
 use Rattle.rules.specs.Lent.{Answer, refused, gives, written, fits, roomNumber, Outcome, outcome}
-use Rattle.rules.specs.Changes.{Run}
+use Rattle.rules.specs.Changes.{DateRun}
 use Rattle.rules.specs.Outcomes.{callEventsOn, NationCells, Counts, callNationEvents}
 
 -- The number that is given, or minus the refusal number.
@@ -41,11 +41,11 @@ foundCells words (gives (some x)) before = wordCells (words x) before
 -- ## `events_on`, with the run in a lent slice
 
 -- Two words: where the run begins, and its length.
-abbrev pub runWords : Run → List ℕ
+abbrev pub runWords : DateRun → List ℕ
 runWords run = run .first ∷ run .count ∷ []
 
 -- Refused as before, or by 10.
-abbrev pub inCells : Answer Run → List ℕ → Outcome ℕ (List ℕ)
+abbrev pub inCells : Answer DateRun → List ℕ → Outcome ℕ (List ℕ)
 inCells (refused n) before = record { answer = refused n; memory = before }
 inCells (gives run) before = wordCells (runWords run) before
 

@@ -25,7 +25,7 @@ use Rattle.record.specs.Cursors.{pointsLeft, ledgersLeft, allPoints}
 use Rattle.record.proofs.PointLaws.{name-points}
 use Rattle.search.specs.declared.places.Place as Place
 use Rattle.search.specs.Places.{tagKey, tagKeysFrom, placeFrom, placeTold}
-use Rattle.search.proofs.PlaceLaws.{first-placed, place-inside}
+use Rattle.search.proofs.PlaceLaws.{tag-keys-nil, tag-keys-cons, length-tag-keys, first-placed, place-inside}
 use Rattle.ledger.specs.Index.{AtFirstLedger, nameKeys, placesFrom, FillsNames, Indexed, IndexesNames}
 
 -- ## Keys and places of names
@@ -36,26 +36,13 @@ tagsOf ls = map (λ l. l .tag) ls
 abbrev size : Ledger → ℕ
 size l = length (l .points)
 
-length-keys : (k : ℕ) (ts : List CountryTag) → length (tagKeysFrom k ts) ≡ length ts
-unfolding tagKeysFrom
-length-keys k [] = refl
-length-keys k (t ∷ ts) = ap suc (length-keys (k + 1) ts)
-
 length-names : (ls : List Ledger) → length (nameKeys ls) ≡ length ls
-length-names ls = length-keys 0 (tagsOf ls) ∙ length-map ls (λ l. l .tag)
+length-names ls = length-tag-keys 0 (tagsOf ls) ∙ length-map ls (λ l. l .tag)
 
 length-places : (first : ℕ) (ls : List Ledger) → length (placesFrom first ls) ≡ length ls
 unfolding placesFrom
 length-places first [] = refl
 length-places first (l ∷ ls) = ap suc (length-places (first + size l) ls)
-
-keys-cons : (k : ℕ) (l : Ledger) (ls : List Ledger) → tagKeysFrom k (tagsOf (l ∷ ls)) ≡ tagKey (l .tag) k ∷ tagKeysFrom (k + 1) (tagsOf ls)
-unfolding tagKeysFrom
-keys-cons k l ls = refl
-
-keys-nil : (k : ℕ) → tagKeysFrom k [] ≡ []
-unfolding tagKeysFrom
-keys-nil k = refl
 
 places-cons : (first : ℕ) (l : Ledger) (ls : List Ledger) → placesFrom first (l ∷ ls) ≡ (first * 4294967296 + size l) ∷ placesFrom (first + size l) ls
 unfolding placesFrom
@@ -107,7 +94,7 @@ naming-start xs c keys places a k p =
 module _ {all left : List Ledger} {first count : ℕ} {keys₀ keys places₀ places : List ℕ} (n : Naming all left first count keys₀ keys places₀ places) where
   module _ {l : Ledger} {rest : List Ledger} (e : left ≡ l ∷ rest) where
     keys-left : tagKeysFrom count (tagsOf left) ≡ tagKey (l .tag) count ∷ tagKeysFrom (count + 1) (tagsOf rest)
-    keys-left = ap (λ (ls : List Ledger). tagKeysFrom count (tagsOf ls)) e ∙ keys-cons count l rest
+    keys-left = ap (λ (ls : List Ledger). tagKeysFrom count (tagsOf ls)) e ∙ tag-keys-cons count (l .tag) (tagsOf rest)
 
     places-left : placesFrom first left ≡ (first * 4294967296 + size l) ∷ placesFrom (first + size l) rest
     places-left = ap (placesFrom first) e ∙ places-cons first l rest
@@ -136,7 +123,7 @@ pub naming-done : (xs : List ℕ) {left : List Ledger} {first count : ℕ} {keys
     → Naming (campaignOf xs .ledgers) left first count keys₀ keys places₀ places → left ≡ [] → FillsNames xs count keys₀ keys places₀ places
 naming-done xs {first = first} {count = count} n e =
     let ls = campaignOf xs .ledgers in
-    let k = ap (λ (l : List Ledger). tagKeysFrom count (tagsOf l)) e ∙ keys-nil count in
+    let k = ap (λ (l : List Ledger). tagKeysFrom count (tagsOf l)) e ∙ tag-keys-nil count in
     let p = ap (placesFrom first) e ∙ places-nil first in
     record {
       counted = filling-count _ _ _ _ _ (n .keys-so-far) k ∙ length-names ls;

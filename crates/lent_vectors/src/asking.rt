@@ -28,29 +28,29 @@ fn asked(nations: &[u32], entries: &[u32], row: &[u32]) -> Resolved
 }
 
 // An answer as a row stores it: the number of a refusal, else 0, and two tags, else zeros.
-struct Told {
+struct StoredAnswer {
     number: u32,
     current: u32,
     stored: u32,
 }
 
-fn row_of(answer: Resolved) -> Told {
+fn stored_answer(answer: Resolved) -> StoredAnswer {
     match answer {
         Resolved::Found(data) => {
             let current = data.current;
             let stored = data.stored;
-            Told {
+            StoredAnswer {
                 number: 0,
                 current: current.word(),
                 stored: stored.word(),
             }
         }
-        Resolved::Nothing => Told {
+        Resolved::Nothing => StoredAnswer {
             number: 0,
             current: 0,
             stored: 0,
         },
-        Resolved::Refused(number) => Told {
+        Resolved::Refused(number) => StoredAnswer {
             number,
             current: 0,
             stored: 0,
@@ -63,7 +63,7 @@ fn wrong_answer(nations: &[u32], entries: &[u32], row: &[u32]) -> u64
     requires { ⌜ 7 ≤ length (now row) ⌝ }
     ensures { λ r. ⌜ r ≤ 1 ⌝ }
 {
-    let found = row_of(asked(nations, entries, row));
+    let found = stored_answer(asked(nations, entries, row));
     if (found.number == row[4]) & (found.current == row[5]) & (found.stored == row[6]) {
         0
     } else {

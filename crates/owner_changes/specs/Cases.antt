@@ -4,7 +4,7 @@ use Prim.Native.Nat.{ℕ}
 use Rattle.owner_changes.specs.declared.answers.Owners as Owners
 use Rattle.owner_changes.specs.declared.answers.EventsOn as EventsOn
 use Rattle.rules.specs.Lent.{Answer, refused, gives, Outcome}
-use Rattle.rules.specs.Changes.{Run}
+use Rattle.rules.specs.Changes.{DateRun}
 
 -- `province_owners`: the number of changes.
 abbrev pub ownersAnswer : Owners.Owners → Answer ℕ
@@ -16,6 +16,6 @@ abbrev pub ownersOutcome : Owners.Owners → List ℕ → Outcome ℕ (List ℕ)
 ownersOutcome r after = record { answer = ownersAnswer r; memory = after }
 
 -- `events_on`: where the run begins, and its length.
-abbrev pub eventsOnAnswer : EventsOn.EventsOn → Answer Run
+abbrev pub eventsOnAnswer : EventsOn.EventsOn → Answer DateRun
 eventsOnAnswer (EventsOn.the-variants.Run first count) = gives (record { first = first; count = count })
 eventsOnAnswer (EventsOn.the-variants.Refused n) = refused n

@@ -1,10 +1,10 @@
 // What is asked of owner changes: all of them in order, and the run of a date.
 use crate::entering;
-use crate::entering::one;
 use crate::rows;
 use change_keys::CHANGE_WIDTH;
 use change_keys::NextChange;
 use change_keys::next_change;
+use lists::one;
 use record::Dated;
 use record::Eu4Date;
 use record::Opened;

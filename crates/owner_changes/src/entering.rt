@@ -5,12 +5,12 @@ use change_keys::MOST_CHANGES;
 use change_keys::NextChange;
 use change_keys::change_key;
 use change_keys::next_change;
+use lists::one;
 use record::Provinces;
 ghost use mathlib.Core.Path.{_≡_};
 ghost use Prim.Native.Nat.{_*_, _≤_};
 ghost use lib.Dec.{leb};
 ghost use lib.ListN.{length};
-ghost use Rattle.lists.specs.Lists.{one as oneOf};
 ghost use Rattle.rules.specs.Changes.{changeWidth};
 ghost use Rattle.change_keys.specs.ChangeSteps.{changesAhead, AtFirstProvince};
 ghost use Rattle.owner_changes.specs.RowSteps.{RowsEntered};
@@ -19,13 +19,6 @@ ghost use Rattle.owner_changes.specs.RowSteps.{RowsEntered};
 pub(crate) struct Walked {
     pub(crate) count: usize,
     pub(crate) falls: usize,
-}
-
-// 1 if it is so, else 0.
-pub(crate) fn one(b: bool) -> usize
-    ensures { λ r. ⌜ r ≡ oneOf b ⌝ }
-{
-    if b { 1 } else { 0 }
 }
 
 // Whether there are at most so many changes.

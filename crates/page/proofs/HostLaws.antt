@@ -12,7 +12,7 @@ use Rattle.format.specs.Refusal.{refusal, firstOf}
 use Rattle.format.proofs.FirstLaws.{first-stop, first-pass, first-one}
 use Rattle.nations.specs.declared.nations.NationCounts.{NationCounts}
 use Rattle.rules.specs.Lent.{refused, gives, written, fits, roomNumber, Outcome, outcome}
-use Rattle.rules.specs.Changes.{Run}
+use Rattle.rules.specs.Changes.{DateRun}
 use Rattle.rules.specs.Outcomes.{callEventsOn, answersOf, NationCells, cellsOf, allFit, allWritten, Counts, countsOf, callNationEvents}
 use Rattle.nations.specs.Cases.{countsIn}
 use Rattle.nations.proofs.answer.NationOutcomeLaws.{nations-given}
@@ -37,7 +37,7 @@ module _ (xs : List ℕ) (date : ℕ) (before : List ℕ) where
   cells-refused n e = ap (λ a. inCells a before) e
 
   -- What was written of a run is the call's.
-  pub cells-run : (run : Run) (r : ℤ) (after : List ℕ) → gives run ≡ callEventsOn xs date → Returns (wordCells (runWords run) before) r after
+  pub cells-run : (run : DateRun) (r : ℤ) (after : List ℕ) → gives run ≡ callEventsOn xs date → Returns (wordCells (runWords run) before) r after
       → Returns (callEventsOnCells xs date before) r after
   unfolding callEventsOnCells
   cells-run run r after e x = rw (← e) x

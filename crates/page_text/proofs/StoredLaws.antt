@@ -22,7 +22,7 @@ use Rattle.rules.specs.NationRows.{NationRow, nationRowsIn}
 use Rattle.chronicle_rows.specs.RowAt.{nationRowAt, storedTags, tagsStored}
 use Rattle.search.specs.declared.places.Place as Place
 use Rattle.search.specs.Places.{tagKey, tagKeysFrom, placeFrom, placeTold}
-use Rattle.search.proofs.PlaceLaws.{place-inside}
+use Rattle.search.proofs.PlaceLaws.{tag-keys-nil, tag-keys-cons, length-tag-keys, place-inside}
 use Rattle.page_lines.specs.Lines.{rowLine, absentLine}
 use Rattle.page_text.specs.Stored.{KeysSorted, LineTables, lineAt, lineOf}
 
@@ -41,36 +41,23 @@ module _ {A : Type 0} (f : ℕ → A) where
   pub numbered-start : (n : ℕ) (cells : List A) → n ≤ length cells → Filling (map f (numbersFrom 0 n)) (map f (numbersFrom 0 (n - 0))) cells 0 cells
   numbered-start n cells h = rw (sub-zero n) (filling-new (map f (numbersFrom 0 n)) cells (omega (arith, length-numbered 0 n, h)))
 
-length-keys : (k : ℕ) (ts : List CountryTag) → length (tagKeysFrom k ts) ≡ length ts
-unfolding tagKeysFrom
-length-keys k [] = refl
-length-keys k (t ∷ ts) = ap suc (length-keys (k + 1) ts)
-
-keys-cons : (k : ℕ) (t : CountryTag) (ts : List CountryTag) → tagKeysFrom k (t ∷ ts) ≡ tagKey t k ∷ tagKeysFrom (k + 1) ts
-unfolding tagKeysFrom
-keys-cons k t ts = refl
-
-keys-nil : (k : ℕ) → tagKeysFrom k [] ≡ []
-unfolding tagKeysFrom
-keys-nil k = refl
-
 -- The key of a row that was read.
 pub stored-key : (key : ℕ) (t u : CountryTag) (i : ℕ) → i < 65536 → key ≡ tagKey t (i % 65536) → t ≡ u → key ≡ tagKey u i
 stored-key key t u i h k e = k ∙ ap (tagKey t) (mod-eq-of-lt h) ∙ ap (λ (v : CountryTag). tagKey v i) e
 
 module _ (ws : List ℕ) where
   length-stored : (n : ℕ) → length (tagKeysFrom 0 (storedTags ws 0 n)) ≡ n
-  length-stored n = length-keys 0 (storedTags ws 0 n) ∙ length-numbered (λ (i : ℕ). nationRowAt ws i .stored) 0 n
+  length-stored n = length-tag-keys 0 (storedTags ws 0 n) ∙ length-numbered (λ (i : ℕ). nationRowAt ws i .stored) 0 n
 
   pub keys-start : (n : ℕ) (keys : List ℕ) → n ≤ length keys → Filling (tagKeysFrom 0 (storedTags ws 0 n)) (tagKeysFrom 0 (storedTags ws 0 (n - 0))) keys 0 keys
   keys-start n keys h = rw (sub-zero n) (filling-new (tagKeysFrom 0 (storedTags ws 0 n)) keys (omega (arith, length-stored n, h)))
 
   pub keys-next : (i n : ℕ) → i < n
       → tagKeysFrom i (storedTags ws i (n - i)) ≡ tagKey (nationRowAt ws i .stored) i ∷ tagKeysFrom (i + 1) (storedTags ws (i + 1) (n - (i + 1)))
-  keys-next i n h = ap (tagKeysFrom i) (numbered-next (λ (j : ℕ). nationRowAt ws j .stored) i n h) ∙ keys-cons i (nationRowAt ws i .stored) (storedTags ws (i + 1) (n - (i + 1)))
+  keys-next i n h = ap (tagKeysFrom i) (numbered-next (λ (j : ℕ). nationRowAt ws j .stored) i n h) ∙ tag-keys-cons i (nationRowAt ws i .stored) (storedTags ws (i + 1) (n - (i + 1)))
 
   pub keys-none : (i n : ℕ) → n ≤ i → tagKeysFrom i (storedTags ws i (n - i)) ≡ []
-  keys-none i n h = ap (tagKeysFrom i) (numbered-none (λ (j : ℕ). nationRowAt ws j .stored) i n h) ∙ keys-nil i
+  keys-none i n h = ap (tagKeysFrom i) (numbered-none (λ (j : ℕ). nationRowAt ws j .stored) i n h) ∙ tag-keys-nil i
 
   -- ## Sorted
 

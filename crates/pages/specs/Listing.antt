@@ -10,6 +10,6 @@ use Rattle.pages.specs.declared.listing.PageNations as PageNations
 use Rattle.pages.specs.Steps.{NationsListed}
 
 -- The nations stand at the front of the words, with their cells; or the record is past the limits.
-abbrev pub NationsTold : List ℕ → PageNations.PageNations → List ℕ → List Bool → Type 0
-NationsTold xs (PageNations.the-variants.Words n) ws cells = (n ≤ length ws) × NationsListed xs (take n ws) cells
-NationsTold xs PageNations.the-variants.OverLimits ws cells = limitsNumber (campaignOf xs) ≡ 10
+abbrev pub PageNationsTold : List ℕ → PageNations.PageNations → List ℕ → List Bool → Type 0
+PageNationsTold xs (PageNations.the-variants.Words n) ws cells = (n ≤ length ws) × NationsListed xs (take n ws) cells
+PageNationsTold xs PageNations.the-variants.OverLimits ws cells = limitsNumber (campaignOf xs) ≡ 10

@@ -7,7 +7,7 @@ use nations::nation_events;
 ghost use mathlib.Core.Path.{_≡_};
 ghost use lib.ListN.{length};
 ghost use Rattle.format.specs.Refusal.{refusal};
-ghost use Rattle.pages.specs.Listing.{NationsTold};
+ghost use Rattle.pages.specs.Listing.{PageNationsTold};
 
 // Words of the most entries and changes of a page; cells for 8,001 slots and 2,000 countries.
 const ENTRY_WORDS: usize = 15000;
@@ -28,7 +28,7 @@ pub(crate) enum PageNations {
 // page may have: so they are refused if there are more.
 pub(crate) fn list_nations(s: &[u8], nations: &mut [u32], living: &mut [bool]) -> PageNations
     requires { ⌜ (refusal (now s) ≡ 0) × (length (now nations) ≡ 10000) × (length (now living) ≡ 2000) ⌝ }
-    ensures { λ r. ⌜ NationsTold (now (s .entry)) r (now (nations .exit)) (now (living .exit)) ⌝ }
+    ensures { λ r. ⌜ PageNationsTold (now (s .entry)) r (now (nations .exit)) (now (living .exit)) ⌝ }
 {
     let mut entries = [0u32; ENTRY_WORDS];
     let mut holders = [0u32; SLOT_CELLS];

@@ -10,7 +10,7 @@ use Rattle.lists.proofs.BoolLaws.{cases}
 use Rattle.format.specs.declared.tag.CountryTag.{CountryTag}
 use Rattle.format.specs.declared.date.Eu4Date.{Eu4Date}
 use Rattle.format.specs.Tags.{isTag, sameTag}
-use Rattle.format.proofs.TagLaws.{Bytes, tag-bytes}
+use Rattle.format.proofs.TagLaws.{Bytes, word-parts, tag-bytes}
 use Rattle.resolver.specs.declared.claims.Claim.{Claim}
 use Rattle.resolver.specs.Claims.{isAsked, claimDay}
 use Rattle.questions.specs.Keys.{tagBits, lowestKey, isAskedKey, keyDay, keyNumber}
@@ -30,9 +30,6 @@ low-part w h = omega arith
 
 digits-apart : (a b c x y z : ℕ) → b < 128 → c < 128 → y < 128 → z < 128 → a * 16384 + b * 128 + c ≡ x * 16384 + y * 128 + z → (a ≡ x) × (b ≡ y) × (c ≡ z)
 digits-apart a b c x y z hb hc hy hz e = (omega arith, omega arith, omega arith)
-
-word-parts : (w : ℕ) → w ≡ w / 65536 * 65536 + w / 256 % 256 * 256 + w % 256
-word-parts w = omega arith
 
 bits-parts : (t : CountryTag) → Bytes (t .0) → tagBits t ≡ t .0 / 65536 * 16384 + t .0 / 256 % 256 * 128 + t .0 % 256
 unfolding tagBits

@@ -1,5 +1,6 @@
 // Blocks of claims as sorted keys. A key holds a claim's tag, date and number in the block, so that the claims to a tag stand together
 // in the order of their dates, those of one date in list order.
+use lists::least;
 use record::CountryTag;
 use record::Eu4Date;
 use resolver::NextClaim;
@@ -7,7 +8,7 @@ use resolver::Walk;
 use search::count_near;
 use sorting::sort_keys;
 ghost use mathlib.Core.Path.{_≡_};
-ghost use Prim.Native.Nat.{_+_, _<_, _≤_, min};
+ghost use Prim.Native.Nat.{_+_, _<_, _≤_};
 ghost use lib.Dec.{leb};
 ghost use Rattle.sorting.specs.Sort.{sortBy};
 ghost use Rattle.search.specs.Halving.{CountsBelow};
@@ -33,12 +34,6 @@ fn key_of(tag: CountryTag, date: Eu4Date) -> u64
     ensures { λ r. ⌜ (r ≡ lowestKey tag date) × (r + 65536 ≤ 18446744073709551616) ⌝ }
 {
     tag_bits(tag) * 8796093022208 + date.word() as u64 % 134217728 * 65536
-}
-
-fn least(a: usize, b: usize) -> usize
-    ensures { λ r. ⌜ r ≡ min a b ⌝ }
-{
-    if a < b { a } else { b }
 }
 
 // How many claims were taken, and where to go on.

@@ -1,6 +1,7 @@
 // A run of rows of one width, which is how a cursor holds its rows: the steps that all cursors share.
+use lists::least;
 ghost use mathlib.Core.Path.{_≡_};
-ghost use Prim.Native.Nat.{_-_, _+_, _*_, _<_, _≤_, min};
+ghost use Prim.Native.Nat.{_-_, _+_, _*_, _<_, _≤_};
 ghost use lib.ListN.{length};
 ghost use Rattle.record.specs.Runs.{hasRow, wholeLeft, firstRun, pastRun, skipRun};
 
@@ -8,12 +9,6 @@ ghost use Rattle.record.specs.Runs.{hasRow, wholeLeft, firstRun, pastRun
 pub struct Run {
     pub(crate) at: usize,
     pub(crate) left: usize,
-}
-
-pub(crate) fn least(a: usize, b: usize) -> usize
-    ensures { λ r. ⌜ r ≡ min a b ⌝ }
-{
-    if a < b { a } else { b }
 }
 
 pub(crate) fn difference(a: usize, b: usize) -> usize

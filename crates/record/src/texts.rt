@@ -2,6 +2,7 @@
 use crate::bytes;
 use crate::runs;
 use crate::runs::Run;
+use lists::least;
 ghost use mathlib.Core.Path.{_≡_};
 ghost use Rattle.record.specs.Cursors.{stringsLeft, stringTold, textOf};
 
@@ -20,7 +21,7 @@ impl Text {
         if s.len() < start {
             return &s[0..0];
         }
-        let len = runs::least(self.len, s.len() - start);
+        let len = least(self.len, s.len() - start);
         let end = start + len;
         &s[start..end]
     }

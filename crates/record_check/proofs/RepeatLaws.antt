@@ -14,7 +14,7 @@ use Rattle.lists.proofs.BoolLaws.{cases, clash, and-left, and-right}
 use Rattle.bitset.specs.Bitset.{isMarked, marking}
 use Rattle.bitset.proofs.BitsetLaws.{marked-after}
 use Rattle.format.specs.Tags.{isTag}
-use Rattle.format.proofs.TagLaws.{Range, Bytes, tag-bytes}
+use Rattle.format.proofs.TagLaws.{Range, Bytes, word-parts, tag-bytes}
 use Rattle.format.specs.declared.head.Head.{Head}
 use Rattle.format.specs.Bytes.{tagAt, idAt}
 use Rattle.format.specs.Head.{headOf, countriesAt, provincesAt}
@@ -89,9 +89,6 @@ place-small w h = omega (arith, h .first .most, h .second .most, h .third .most)
 -- three digits below 76 are told apart by their number
 digits-apart : (a b c x y z : ℕ) → b < 76 → c < 76 → y < 76 → z < 76 → a * 5776 + b * 76 + c ≡ x * 5776 + y * 76 + z → (a ≡ x) × (b ≡ y) × (c ≡ z)
 digits-apart a b c x y z hb hc hy hz e = (omega arith, omega arith, omega arith)
-
-word-parts : (w : ℕ) → w ≡ w / 65536 * 65536 + w / 256 % 256 * 256 + w % 256
-word-parts w = omega arith
 
 -- two tag bytes of one place are one byte: below 48 there is only 45
 places-same : (a b : ℕ) → Range a → Range b → a - 47 ≡ b - 47 → a ≡ b

@@ -36,12 +36,12 @@ unfoldable pub changesOf : Campaign → List Change
 changesOf c = sortBy byDateAndId (joinOf provinceChanges (c .provinces))
 
 -- `events_on`: where a run of changes begins, and its length.
-pub record Run : Type 0 where
+pub record DateRun : Type 0 where
   pub first : ℕ
   pub count : ℕ
 
 -- How many changes are dated before a day, and how many on it.
-unfoldable pub eventsOn : List Change → Eu4Date → Run
+unfoldable pub eventsOn : List Change → Eu4Date → DateRun
 eventsOn xs day =
     record { first = countOf (λ x. earlier (x .date) day) xs; count = countOf (λ x. sameDate (x .date) day) xs }
 

@@ -12,7 +12,7 @@ use Rattle.format.specs.Campaign.{Campaign, campaignOf}
 use Rattle.format.specs.Refusal.{refusal, firstOf}
 use Rattle.rules.specs.Chronicle.{Change, Nation}
 use Rattle.rules.specs.Lent.{Answer, answered, written, fits, roomNumber, Outcome, outcome}
-use Rattle.rules.specs.Changes.{changesOf, changeRows, Run, eventsOn}
+use Rattle.rules.specs.Changes.{changesOf, changeRows, DateRun, eventsOn}
 use Rattle.rules.specs.Nations.{nationsOf, holdersOf, heldOf}
 use Rattle.rules.specs.NationRows.{nationWords, entryWords, nationsIn, holderWord}
 use Rattle.rules.specs.Resolver.{TagData, resolve, initial, resolveOn, initialOn}
@@ -32,7 +32,7 @@ callProvinceOwners xs before =
 -- ## `events_on`: asked of a record and a date
 
 -- Refused by the record's number, or 12. It is lent nothing.
-unfoldable pub callEventsOn : List ℕ → ℕ → Answer Run
+unfoldable pub callEventsOn : List ℕ → ℕ → Answer DateRun
 callEventsOn xs date =
     answered (firstOf (refusal xs ∷ askedDateNumber date ∷ [])) (eventsOn (changesOf (campaignOf xs)) (askedDate date))
 

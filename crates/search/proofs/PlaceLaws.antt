@@ -20,6 +20,21 @@ use Rattle.format.specs.Tags.{sameTag}
 use Rattle.search.specs.Halving.{CountsBelow}
 use Rattle.search.specs.Places.{tagKey, tagKeysFrom, placeFrom}
 
+-- ## The keys of a list of tags
+
+pub tag-keys-nil : (k : ℕ) → tagKeysFrom k [] ≡ []
+unfolding tagKeysFrom
+tag-keys-nil k = refl
+
+pub tag-keys-cons : (k : ℕ) (t : CountryTag) (ts : List CountryTag) → tagKeysFrom k (t ∷ ts) ≡ tagKey t k ∷ tagKeysFrom (k + 1) ts
+unfolding tagKeysFrom
+tag-keys-cons k t ts = refl
+
+pub length-tag-keys : (k : ℕ) (ts : List CountryTag) → length (tagKeysFrom k ts) ≡ length ts
+unfolding tagKeysFrom
+length-tag-keys k [] = refl
+length-tag-keys k (t ∷ ts) = ap suc (length-tag-keys (k + 1) ts)
+
 -- ## The keys of one tag
 
 module _ (t : CountryTag) where

@@ -1,6 +1,7 @@
 // The points of a span, written as rows: as many as find room.
 use crate::counting;
 use crate::reading;
+use lists::least;
 use record::CountryTag;
 use record::Eu4Date;
 use record::NextPoint;
@@ -9,7 +10,7 @@ use record::Points;
 use spans::Span;
 ghost use mathlib.Core.Path.{_≡_};
 ghost use mathlib.Core.List.{[], _∷_, _++_};
-ghost use Prim.Native.Nat.{_≤_, min};
+ghost use Prim.Native.Nat.{_≤_};
 ghost use lib.ListN.{length, drop};
 ghost use Rattle.format.specs.Dates.{year as yearOf};
 ghost use Rattle.rules.specs.Ledger.{zeros, pointWords};
@@ -17,12 +18,6 @@ ghost use Rattle.span_points.specs.PointSteps.{pointOf, yearFilled, fill
 
 // How many words a ledger row has.
 pub const LEDGER_WIDTH: usize = 3;
-
-fn least(a: usize, b: usize) -> usize
-    ensures { λ r. ⌜ r ≡ min a b ⌝ }
-{
-    if a < b { a } else { b }
-}
 
 // Writes the row of a point: tag, year, value.
 fn put_point(tag: CountryTag, year: u32, value: u32, out: &mut [u32])

@@ -12,7 +12,7 @@ use Rattle.rules.specs.Table.{sevens}
 use Rattle.rules.specs.cases.CaseForms.{Case, case, spoiled, nation, turned, came, went, rows, wrote, kept}
 
 -- The words of a chronicle.
-record Told : Type 0 where
+record LentChronicle : Type 0 where
   nations : List ℕ
   entries : List ℕ
 
@@ -23,7 +23,7 @@ known current stored = gives (some (record { current = tagged current; stored = 
 -- ## Resolver
 
 -- Nations 0 and 1 have one initial; 1 and 2 became GBR on one day. The entries of nation 0 stand from the last to the first.
-abbrev mixed : Told
+abbrev mixed : LentChronicle
 mixed =
     record {
       nations = rows (nation "ENG" "LA0" "ST0" 0 3 ∷ nation "ENG" "LA1" "ST1" 3 2 ∷ nation "SCO" "LA2" "ST2" 5 2 ∷ []);
@@ -98,7 +98,7 @@ askedCases =
 -- ## Shape
 
 -- One nation and its one entry.
-abbrev told : List ℕ → List ℕ → Told
+abbrev told : List ℕ → List ℕ → LentChronicle
 told nations entries = record { nations = nations; entries = entries }
 
 abbrev soleNation : List ℕ
@@ -109,7 +109,7 @@ soleEntry = turned 14480601 "GBR"
 
 -- One thing wrong in each: a word over in either list; a word for each tag that is none; the date; the kind; the target of a switch and of
 -- another kind; a first entry other than 0; an entry that no nation has.
-abbrev misshapen : List Told
+abbrev misshapen : List LentChronicle
 misshapen =
     told (soleNation ++ (7 ∷ [])) soleEntry
     ∷ told soleNation (soleEntry ++ (7 ∷ []))
@@ -126,7 +126,7 @@ misshapen =
     ∷ []
 
 -- Nothing wrong: no rows at all; one nation; two with entries behind each other, one in between that has none.
-abbrev shapely : List Told
+abbrev shapely : List LentChronicle
 shapely =
     told [] []
     ∷ told soleNation soleEntry
@@ -211,7 +211,7 @@ accounts =
     ∷ [])
 
 -- Annexed, then a switch; Appeared, then Annexed; Annexed, then Appeared; a nation without a ledger row.
-abbrev owners : Told
+abbrev owners : LentChronicle
 owners =
     told
     (rows

@@ -10,7 +10,7 @@ use Rattle.format.specs.declared.tag.CountryTag.{CountryTag}
 use Rattle.format.specs.Campaign.{campaignOf}
 use Rattle.rules.specs.Chronicle.{Nation, isAppeared, isAnnexed}
 use Rattle.rules.specs.Lent.{Answer, gives, refused, Outcome}
-use Rattle.rules.specs.Changes.{Run}
+use Rattle.rules.specs.Changes.{DateRun}
 use Rattle.rules.specs.NationRows.{nationsIn}
 use Rattle.rules.specs.Holding.{holderOn, holdsOn, wears}
 use Rattle.rules.specs.Demand.{counted, isNamed}
@@ -63,7 +63,7 @@ changeCases =
     ∷ []
 
 -- Before all changes, on a day with one and on a day with three, between, and after all; a bad date; the record's number before that.
-unfoldable pub eventsOnCases : List (Case (Answer Run))
+unfoldable pub eventsOnCases : List (Case (Answer DateRun))
 eventsOnCases =
     case (callEventsOn tangled 14441231) (gives (record { first = 0; count = 0 }))
     ∷ case (callEventsOn tangled 14450101) (gives (record { first = 0; count = 1 }))

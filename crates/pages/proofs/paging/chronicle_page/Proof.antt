@@ -5,7 +5,7 @@ use Prim.Native.Nat.{ℕ}
 use borrow.Author.Needs.{needs, zero≤}
 use lib.ListN.{length-replicate}
 use Rattle.pages.specs.declared.listing.PageNations.{PageNations}
-use Rattle.pages.specs.Listing.{NationsTold}
+use Rattle.pages.specs.Listing.{PageNationsTold}
 use Rattle.pages.proofs.PageLaws.{page-over}
 use Rattle.pages.proofs.TextLaws.{listed-part}
 use Rattle.pages.proofs.paging.chronicle_page.Statement.{statement}
@@ -16,9 +16,9 @@ begun c = c .before .before .before .before .before .before
 
 -- What is listed, by its case.
 told : (c : tie.After-list-nations) (r : PageNations) → c .list-nations .result ≡ r
-    → NationsTold (begun c .args .s .now) r (c .list-nations .last .1 .0) (c .list-nations .last .1 .1 .0)
+    → PageNationsTold (begun c .args .s .now) r (c .list-nations .last .1 .0) (c .list-nations .last .1 .1 .0)
 told c r e =
-    subst (λ (x : PageNations). NationsTold (begun c .args .s .now) x (c .list-nations .last .1 .0) (c .list-nations .last .1 .1 .0)) e (c .list-nations .ensures)
+    subst (λ (x : PageNations). PageNationsTold (begun c .args .s .now) x (c .list-nations .last .1 .0) (c .list-nations .last .1 .1 .0)) e (c .list-nations .ensures)
 
 slice-aggregate-list-nations : tie.Need-slice-aggregate-list-nations
 slice-aggregate-list-nations c = sym (length-replicate {A = ℕ} 10000 0)
