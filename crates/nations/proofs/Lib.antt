@@ -1,2 +1,1 @@
-pub mod walks
 pub mod answer

@@ -1,29 +1,30 @@
 -- The steps of `nation_events` one after the other. Conditions and answers of inner steps; no public promise cites them.
 use mathlib.Core.Path.{_≡_}
-use mathlib.Core.Bool.{Bool, true, false, _&&_}
+use mathlib.Core.Bool.{Bool, true, _&&_}
 use mathlib.Core.List.{List}
-use Prim.Native.Nat.{ℕ, suc, _*_, _≤_, _<_}
+use Prim.Native.Nat.{ℕ, suc, _*_, _≤_}
 use lib.Dec.{leb}
 use lib.ListN.{length, take}
 use Rattle.sorting.specs.Sort.{sortBy}
 use Rattle.format.specs.Campaign.{campaignOf}
 use Rattle.record.specs.declared.cursors.Provinces.{Provinces}
-use Rattle.rules.specs.Chronicle.{Nation}
 use Rattle.rules.specs.Lent.{written, refused}
 use Rattle.rules.specs.Changes.{changeWidth, changesOf, changeRows}
 use Rattle.rules.specs.Nations.{nationsOf, holdersOf}
-use Rattle.rules.specs.NationRows.{nationWidth, entryWidth}
 use Rattle.rules.specs.Outcomes.{callNationEvents}
 use Rattle.change_keys.specs.ChangeSteps.{AtFirstProvince, entered, mostChanges, changeKeysFrom}
 use Rattle.nation_tables.specs.declared.gathering.TableSizes.{TableSizes}
-use Rattle.nation_tables.specs.Layout.{mostSettling, rowsWithin, wordSpan}
+use Rattle.nation_tables.specs.Layout.{mostSettling, rowsWithin}
 use Rattle.nation_tables.specs.Holders.{slotCells, SlotsPut}
-use Rattle.nations.specs.declared.listing.Listed.{Listed}
+use Rattle.nation_tables.specs.Gathering.{frontsOf}
+use Rattle.nation_listing.specs.declared.listing.Listed.{Listed}
 use Rattle.nations.specs.declared.nations.NationCounts.{NationCounts}
-use Rattle.nations.specs.declared.writing.Placed as Placed
+use Rattle.nation_listing.specs.declared.placing.Placed as Placed
 use Rattle.nations.specs.declared.telling.NationsTold as NationsTold
 use Rattle.nations.specs.Cases.{nationCells}
-use Rattle.nations.specs.Listing.{listedOf, NationsWritten}
+use Rattle.nation_listing.specs.Listing.{nationsAt}
+use Rattle.nation_listing.specs.Reading.{isReadable}
+use Rattle.nation_listing.specs.Placing.{PlacedRows, placedTold}
 
 -- ## Cells for the tables
 
@@ -43,17 +44,9 @@ pub record RowsRoom (bytes : ℕ) (runs₀ keys₀ cells₀ turns₀ : List ℕ)
 
 -- ## Room
 
--- Slices of these lengths have room for so many nations and entries, and for the slots, countries and changes.
-abbrev pub nationsFor : Listed → ℕ → ℕ → Bool
-nationsFor r nations entries = leb (nationWidth * r .nations) nations && leb (entryWidth * r .entries) entries
-
+-- Slices of these lengths have room for the slots, countries and changes.
 abbrev pub restFor : TableSizes → ℕ → ℕ → ℕ → Bool
 restFor z holders held changes = leb (z .slots) holders && leb (z .countries) held && leb (changeWidth * z .changes) changes
-
--- Nations and entries are few enough to be counted.
-pub record FewNations (ns : List Nation) : Type 0 where
-  pub nations : listedOf ns .nations < wordSpan
-  pub entries : listedOf ns .entries < wordSpan
 
 -- ## Nations
 
@@ -67,21 +60,17 @@ pub record FrontsInside (z : TableSizes) (words₀ initials₀ runs₀ targets�
   pub keys : z .changes ≤ length keys₀
   pub turns : z .changes ≤ length turns₀
 
--- The nations and their entries are written, and counted.
-pub record PlacedRows (ns : List Nation) (r : Listed) (rows₀ rows₁ entries₀ entries₁ : List ℕ) : Type 0 where
-  pub listed : r ≡ listedOf ns
-  pub room : nationsFor (listedOf ns) (length rows₀) (length entries₀) ≡ true
-  pub put : NationsWritten ns rows₀ rows₁ entries₀ entries₁
+-- Whether the fronts can be read.
+abbrev pub frontsReadable : TableSizes → List ℕ → List ℕ → List ℕ → List ℕ → List ℕ → List ℕ → List ℕ → Bool
+frontsReadable z words initials runs firsts started keys turns =
+    isReadable (take (z .countries) words) (take (z .countries) initials) (take (z .switches) runs) firsts (take (z .countries) started)
+    (take (z .changes) keys) (take (z .changes) turns)
 
--- A slice is too short, and none is written.
-pub record PlacedShort (ns : List Nation) (rows₀ rows₁ entries₀ entries₁ : List ℕ) : Type 0 where
-  pub short : nationsFor (listedOf ns) (length rows₀) (length entries₀) ≡ false
-  pub rows : rows₁ ≡ rows₀
-  pub entries : entries₁ ≡ entries₀
-
-abbrev pub placedTold : List Nation → Placed.Placed → List ℕ → List ℕ → List ℕ → List ℕ → Type 0
-placedTold ns (Placed.the-variants.Rows r) rows₀ rows₁ entries₀ entries₁ = PlacedRows ns r rows₀ rows₁ entries₀ entries₁
-placedTold ns Placed.the-variants.Short rows₀ rows₁ entries₀ entries₁ = PlacedShort ns rows₀ rows₁ entries₀ entries₁
+-- The nations that they tell, placed.
+abbrev pub frontsPlaced : TableSizes → List ℕ → List ℕ → List ℕ → List ℕ → List ℕ → List ℕ → List ℕ → List ℕ → Placed.Placed → List ℕ → List ℕ → List ℕ → List ℕ → Type 0
+frontsPlaced z words initials runs targets firsts started keys turns r rows₀ rows₁ entries₀ entries₁ =
+    placedTold (frontsReadable z words initials runs firsts started keys turns)
+    (nationsAt (frontsOf z words initials runs targets firsts started keys turns) (take (z .countries) initials)) r rows₀ rows₁ entries₀ entries₁
 
 -- ## Slots and changes
 
@@ -119,6 +108,12 @@ pub record RefusedBy (xs : List ℕ) (holders held changes n : ℕ) (rows₀ row
   pub refuses : (holders₀ held₀ changes₀ : List ℕ) → length holders₀ ≡ holders → length held₀ ≡ held → length changes₀ ≡ changes
       → record { answer = refused n; memory = nationCells rows₁ entries₁ holders₀ held₀ changes₀ }
       ≡ callNationEvents xs (nationCells rows₀ entries₀ holders₀ held₀ changes₀)
+
+-- What is told by what was placed, where the tables can be read.
+abbrev pub toldBy : TableSizes → Provinces → Placed.Placed → NationsTold.NationsTold
+toldBy z p (Placed.the-variants.Rows r) = NationsTold.the-variants.Rows z p r
+toldBy z p Placed.the-variants.Short = NationsTold.the-variants.Refused 10
+toldBy z p Placed.the-variants.Unread = NationsTold.the-variants.Refused 10
 
 abbrev pub nationsTold : List ℕ → ℕ → ℕ → ℕ → NationsTold.NationsTold → List ℕ → List ℕ → List ℕ → List ℕ → List ℕ → List ℕ → List ℕ → Type 0
 nationsTold xs holders held changes (NationsTold.the-variants.Rows z p r) slots keys cells rows₀ rows₁ entries₀ entries₁ =

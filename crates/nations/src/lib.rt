@@ -1,7 +1,4 @@
 // Nations.
-mod entries;
-mod listing;
-mod lives;
 mod nations;
 mod telling;
 mod writing;

@@ -1,9 +1,9 @@
 // Nations: who lived, under which tags.
-use crate::listing::Listed;
 use crate::telling;
 use crate::telling::NationsTold;
 use crate::writing;
 use change_keys::MOST_CHANGES;
+use nation_listing::Listed;
 use nation_tables::MOST_SETTLING;
 use nation_tables::MOST_SLOTS;
 use nation_tables::TableSizes;

@@ -5,12 +5,12 @@ use mathlib.Core.Bool.{Bool, true, false, not, _&&_}
 use mathlib.Core.List.{List, map}
 use Prim.Native.Nat.{ℕ, suc, _*_, _≤_, _<_}
 use native.Mathlib.Omega.{arith}
-use borrow.Author.Tests.{leb-true}
+use borrow.Author.Tests.{leb-true, not-true, not-false}
 use lib.Dec.{leb}
 use lib.ListN.{length, take, length-map}
 use lib.Seq.{length-take-le}
 use Rattle.lists.specs.Lists.{countOf}
-use Rattle.lists.proofs.BoolLaws.{and-left, and-right, and-false}
+use Rattle.lists.proofs.BoolLaws.{clash, and-left, and-right, and-false}
 use Rattle.record.specs.declared.cursors.Provinces.{Provinces}
 use Rattle.format.specs.Campaign.{Campaign, campaignOf}
 use Rattle.format.specs.Refusal.{refusal}
@@ -31,13 +31,16 @@ use Rattle.nation_tables.proofs.tables.SwitchLaws.{run-entries, targets-small}
 use Rattle.nation_tables.proofs.slots.HoldersLaws.{holder-words, held-counted}
 use Rattle.nation_tables.proofs.slots.RoomLaws.{settling-fit, switches-fit, changes-fit}
 use Rattle.change_keys.proofs.ChangeLaws.{changes-few}
-use Rattle.nations.specs.declared.listing.Listed.{Listed}
+use Rattle.nation_listing.specs.declared.listing.Listed.{Listed}
 use Rattle.nations.specs.declared.nations.NationCounts.{NationCounts}
+use Rattle.nation_listing.specs.declared.placing.Placed as Placed
+use Rattle.nations.specs.declared.telling.NationsTold as NationsTold
 use Rattle.nations.specs.Cases.{nationCells, countsIn}
-use Rattle.nations.specs.Listing.{nationsAt, listedOf, Readable}
-use Rattle.nations.specs.NationSteps.{nationsFor, restFor, countsFrom, FewNations, FrontsInside, PlacedRows, PlacedShort, RestReady, RestWritten, NationsPlaced, RefusedBy}
+use Rattle.nation_listing.specs.Listing.{nationsAt, listedOf}
+use Rattle.nations.specs.NationSteps.{restFor, countsFrom, RestReady, RestWritten, FrontsInside, frontsReadable, frontsPlaced, NationsPlaced, RefusedBy, toldBy, nationsTold}
+use Rattle.nation_listing.specs.Placing.{nationsFor, PlacedRows, PlacedShort, placedTold}
 use Rattle.nations.proofs.answer.NationsLaws.{cells-nations, cells-readable, runs-told}
-use Rattle.nations.proofs.answer.NationSizeLaws.{nations-few, entries-few}
+use Rattle.nation_listing.proofs.ReadingLaws.{readable-found}
 use Rattle.nations.proofs.answer.NationOutcomeLaws.{room-fits, nations-refused, nations-short, nations-rows}
 
 -- ## Cells of a campaign
@@ -56,15 +59,6 @@ regroup : (a b d e f : Bool) → (a && b && d && e && f) ≡ ((a && b) && (d && 
 regroup true true d e f = refl
 regroup true false d e f = refl
 regroup false b d e f = refl
-
--- A test that fails, and one that holds.
-negated : (b : Bool) → not b ≡ true → b ≡ false
-negated true h = sym h
-negated false h = refl
-
-affirmed : (b : Bool) → not b ≡ false → b ≡ true
-affirmed true h = refl
-affirmed false h = sym h
 
 -- Counts of equal numbers are the same.
 abbrev fiveCounts : ℕ → ℕ → ℕ → ℕ → ℕ → Counts
@@ -185,13 +179,14 @@ module _ (xs : List ℕ) (z : TableSizes) (provinces : Provinces) (words initial
         turns = omega (arith, changes-fit xs accepted (length turns) (room .turns));
       }
 
-  pub fronts-readable : Readable front
-  fronts-readable = cells-readable (campaignOf xs) front (q .cells)
+  -- So they can be read.
+  abbrev readable : Bool
+  readable = frontsReadable z words initials runs firsts started keys turns
 
-  pub nations-told-few : FewNations nations
-  nations-told-few =
-      rw told
-      (record { nations = omega (arith, nations-few xs accepted); entries = omega (arith, entries-few xs accepted) })
+  fronts-readable : readable ≡ true
+  fronts-readable =
+      readable-found (front .tags) (front .initials) (front .runs) (front .targets) firsts (front .started) (front .keys) (take (z .changes) turns)
+      (z .start) (cells-readable (campaignOf xs) front (q .cells))
 
   -- What is left for the rest.
   rest-ready : RestReady xs provinces z slots keys targets
@@ -212,12 +207,12 @@ module _ (xs : List ℕ) (z : TableSizes) (provinces : Provinces) (words initial
         record {
           refuses = λ holders₀ held₀ changes₀ h d l.
               rest-short xs accepted z (q .countries) (q .changes) (q .slotted) (nationCells rows₀ entries₀ holders₀ held₀ changes₀)
-              (rw (h, d, l) (sym e ∙ negated b f));
+              (rw (h, d, l) (sym e ∙ not-true b f));
         }
 
     module _ (rows₁ entries₁ : List ℕ) where
       -- The nations have none.
-      pub placed-refused : PlacedShort nations rows₀ rows₁ entries₀ entries₁ → RefusedBy xs holders held changes 10 rows₀ rows₁ entries₀ entries₁
+      placed-refused : PlacedShort nations rows₀ rows₁ entries₀ entries₁ → RefusedBy xs holders held changes 10 rows₀ rows₁ entries₀ entries₁
       placed-refused p =
           record {
             refuses = λ holders₀ held₀ changes₀ h d l.
@@ -227,7 +222,7 @@ module _ (xs : List ℕ) (z : TableSizes) (provinces : Provinces) (words initial
           }
 
       -- All has room.
-      pub placed-told : not b ≡ false → (r : Listed) → PlacedRows nations r rows₀ rows₁ entries₀ entries₁
+      placed-told : not b ≡ false → (r : Listed) → PlacedRows nations r rows₀ rows₁ entries₀ entries₁
           → NationsPlaced xs holders held changes z provinces r slots keys targets rows₀ rows₁ entries₀ entries₁
       placed-told t r p =
           record {
@@ -236,9 +231,21 @@ module _ (xs : List ℕ) (z : TableSizes) (provinces : Provinces) (words initial
             slotted = q .slotted;
             slots = q .slots;
             ready = rest-ready;
-            rest = sym e ∙ affirmed b t;
+            rest = sym e ∙ not-false b t;
             placed = subst (λ (ns : List Nation). PlacedRows ns r rows₀ rows₁ entries₀ entries₁) told p;
           }
+
+      -- Whatever the placing tells.
+      pub placing-told : not b ≡ false → (r : Placed.Placed) → frontsPlaced z words initials runs targets firsts started keys turns r rows₀ rows₁ entries₀ entries₁ → (t : NationsTold.NationsTold)
+          → t ≡ toldBy z provinces r → nationsTold xs holders held changes t slots keys targets rows₀ rows₁ entries₀ entries₁
+      placing-told f r p t e =
+          subst (λ (x : NationsTold.NationsTold). nationsTold xs holders held changes x slots keys targets rows₀ rows₁ entries₀ entries₁) (sym e) (go r p)
+        where
+          go : (r : Placed.Placed) → placedTold readable nations r rows₀ rows₁ entries₀ entries₁
+              → nationsTold xs holders held changes (toldBy z provinces r) slots keys targets rows₀ rows₁ entries₀ entries₁
+          go (Placed.the-variants.Rows l) p = placed-told f l (p .1)
+          go Placed.the-variants.Short p = placed-refused (p .1)
+          go Placed.the-variants.Unread p = clash readable fronts-readable (p .0)
 
 -- A record that is refused.
 pub record-refused : (xs : List ℕ) (holders held changes n : ℕ) (rows₀ entries₀ : List ℕ) → (0 < n) × (n ≡ refusal xs)

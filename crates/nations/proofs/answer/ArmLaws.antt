@@ -7,18 +7,15 @@ use native.Mathlib.Omega.{arith}
 use lib.ListN.{length, replicate, length-replicate}
 use Rattle.record.specs.declared.cursors.Provinces.{Provinces}
 use Rattle.format.specs.Refusal.{refusal}
-use Rattle.rules.specs.Chronicle.{Nation}
 use Rattle.change_keys.specs.ChangeSteps.{mostChanges}
 use Rattle.nation_tables.specs.declared.gathering.TableSizes.{TableSizes}
 use Rattle.nation_tables.specs.declared.gathering.TablesGathered.{TablesGathered}
 use Rattle.nation_tables.specs.declared.gathering.TablesGathered.the-variants.{Tables, Refused}
 use Rattle.nation_tables.specs.Layout.{mostCountries, mostSettling, mostSlots, rowsWithin}
 use Rattle.nation_tables.specs.Gathering.{TableRoom, Gathered, gatheredTold}
-use Rattle.nations.specs.declared.listing.Listed.{Listed}
+use Rattle.nation_listing.specs.declared.listing.Listed.{Listed}
 use Rattle.nations.specs.declared.telling.NationsTold as NationsTold
-use Rattle.nations.specs.declared.writing.Placed.{Placed}
-use Rattle.nations.specs.declared.writing.Placed.the-variants.{Rows, Short}
-use Rattle.nations.specs.NationSteps.{smallRecord, fewRows, RowsRoom, PlacedRows, PlacedShort, placedTold, NationsPlaced, RefusedBy, nationsTold}
+use Rattle.nations.specs.NationSteps.{smallRecord, fewRows, RowsRoom, NationsPlaced, RefusedBy, nationsTold}
 
 -- ## Room
 
@@ -90,13 +87,6 @@ module _ (xs words initials runs keys targets slots started turns firsts : List 
 
   pub tables-refused : {n : ℕ} → r ≡ Refused n → (0 < n) × (n ≡ refusal xs)
   tables-refused e = subst (λ (g : TablesGathered). gatheredTold xs g words initials runs keys targets slots started turns firsts) e told
-
-module _ (ns : List Nation) (rows₀ rows₁ entries₀ entries₁ : List ℕ) (r : Placed) (told : placedTold ns r rows₀ rows₁ entries₀ entries₁) where
-  pub rows-placed : {l : Listed} → r ≡ Rows l → PlacedRows ns l rows₀ rows₁ entries₀ entries₁
-  rows-placed e = subst (λ (p : Placed). placedTold ns p rows₀ rows₁ entries₀ entries₁) e told
-
-  pub none-placed : r ≡ Short → PlacedShort ns rows₀ rows₁ entries₀ entries₁
-  none-placed e = subst (λ (p : Placed). placedTold ns p rows₀ rows₁ entries₀ entries₁) e told
 
 module _ (xs : List ℕ) (holders held changes : ℕ) (slots keys cells rows₀ rows₁ entries₀ entries₁ : List ℕ) (r : NationsTold.NationsTold)
     (told : nationsTold xs holders held changes r slots keys cells rows₀ rows₁ entries₀ entries₁) where

@@ -26,7 +26,7 @@ use Rattle.rules.specs.NationRows.{targetWord}
 use Rattle.nation_tables.proofs.tables.SwitchLaws.{length-chain}
 use Rattle.change_keys.proofs.ChangeLaws.{changes-few}
 use Rattle.nation_tables.proofs.tables.KeyedLaws.{countries-few, switches-few}
-use Rattle.nations.proofs.walks.WalkLaws.{turn-short}
+use Rattle.nation_listing.proofs.WalkLaws.{turn-short}
 
 -- ## One country
 

@@ -27,16 +27,16 @@ use Rattle.nation_tables.specs.Layout.{keyRows, keyTags, rowKeySpan, half, noCh
 use Rattle.nation_tables.specs.Lookup.{rowIn, lastWithin}
 use Rattle.nation_tables.specs.Countries.{tagWords, initialWords, wordKeys, rowKeys}
 use Rattle.nation_tables.specs.Switches.{runsFrom, runKeys, targetWords, switchIn}
-use Rattle.nations.specs.Entries.{latestTag}
+use Rattle.nation_listing.specs.Entries.{latestTag}
 use Rattle.nation_tables.specs.Turning.{byDate, firstAt, rowTag, rowTurn, rowTurnsOf, Lived}
-use Rattle.nations.specs.Walks.{livedLeft, firstLives}
+use Rattle.nation_listing.specs.Walks.{livedLeft, firstLives}
 use Rattle.nation_tables.specs.Gathering.{Cells, CampaignCells}
-use Rattle.nations.specs.Listing.{runOf, livedOf, rowEntries, nationOfKey, keyNations, nationsAt, Readable}
+use Rattle.nation_listing.specs.Listing.{runOf, livedOf, rowEntries, nationOfKey, keyNations, nationsAt, Readable}
 use Rattle.rules.proofs.CampaignLaws.{length-start}
 use Rattle.nation_tables.proofs.tables.CountryLaws.{length-word-keys}
 use Rattle.nations.proofs.answer.EntryLaws.{turn-all, entries-merge}
 use Rattle.nation_tables.proofs.tables.KeyedLaws.{tag-small}
-use Rattle.nations.proofs.walks.LivesLaws.{count-turns, chained, walk-lives}
+use Rattle.nations.proofs.answer.LivesLaws.{count-turns, chained, walk-lives}
 use Rattle.rules.proofs.ShapeLaws.{initial-tag}
 use Rattle.nation_tables.proofs.slots.TurningLaws.{held-ever}
 use Rattle.nations.proofs.answer.ListedLaws.{countryIn, InitialKey, initial-keys, mapped-key, listed, nations-by-key}

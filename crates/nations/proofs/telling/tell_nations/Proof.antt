@@ -4,8 +4,8 @@ use mathlib.Core.Path.{sym, _∙_}
 use lib.ListN.{length}
 use Rattle.nation_tables.specs.Layout.{mostCountries}
 use Rattle.nation_tables.specs.Gathering.{Gathered, TableRoom}
-use Rattle.nations.proofs.answer.ArmLaws.{made, made-room, room-kept, tables-told, tables-refused, rows-placed, none-placed}
-use Rattle.nations.proofs.answer.AnswerLaws.{changes-small, fronts-inside, fronts-readable, nations-told-few, rest-refused, placed-refused, placed-told, record-refused}
+use Rattle.nations.proofs.answer.ArmLaws.{made, made-room, room-kept, tables-told, tables-refused}
+use Rattle.nations.proofs.answer.AnswerLaws.{changes-small, fronts-inside, rest-refused, placing-told, record-refused}
 use Rattle.nations.proofs.telling.tell_nations.Statement.{statement}
 use Rattle.nations.proofs.telling.tell_nations.Tie as tie
 
@@ -60,95 +60,68 @@ same-length-5 c = (c .before .before .before .before .before .before .before .be
 returns : tie.Need-returns
 returns c = rest-refused _ _ _ _ _ _ _ _ _ _ _ _ (gathered (c .before .before .before)) (roomy (c .before .before .before)) _ _ _ _ ((c .before) .rest-fits .ensures) _ _ (c .if1 .taken)
 
-slice-aggregate-place-nations : tie.Need-slice-aggregate-place-nations
-slice-aggregate-place-nations c = sym ((c .before .before .before .before .before .before .before .before .before .before .before .before .before .before .before .before .before .before .before .before) .gather-tables .kept .1 .0 ∙ made mostCountries)
+slice-aggregate-place-fronts : tie.Need-slice-aggregate-place-fronts
+slice-aggregate-place-fronts c = sym ((c .before .before .before .before .before .before .before .before .before .before .before .before .before .before .before .before .before .before .before .before) .gather-tables .kept .1 .0 ∙ made mostCountries)
 
-slice-aggregate-place-nations-2 : tie.Need-slice-aggregate-place-nations-2
-slice-aggregate-place-nations-2 c = sym ((c .before .before .before .before .before .before .before .before .before .before .before .before .before .before .before .before .before .before .before .before .before) .gather-tables .kept .1 .1 .0 ∙ made mostCountries)
+slice-aggregate-place-fronts-2 : tie.Need-slice-aggregate-place-fronts-2
+slice-aggregate-place-fronts-2 c = sym ((c .before .before .before .before .before .before .before .before .before .before .before .before .before .before .before .before .before .before .before .before .before) .gather-tables .kept .1 .1 .0 ∙ made mostCountries)
 
-slice-aggregate-place-nations-3 : tie.Need-slice-aggregate-place-nations-3
-slice-aggregate-place-nations-3 c = sym ((c .before .before .before .before .before .before .before .before .before .before .before .before .before .before .before .before .before .before .before .before .before .before .before .before) .gather-tables .kept .1 .1 .1 .1 .1 .1 .1 .1 .1 .0 ∙ made mostCountries)
+slice-aggregate-place-fronts-3 : tie.Need-slice-aggregate-place-fronts-3
+slice-aggregate-place-fronts-3 c = sym ((c .before .before .before .before .before .before .before .before .before .before .before .before .before .before .before .before .before .before .before .before .before .before .before .before) .gather-tables .kept .1 .1 .1 .1 .1 .1 .1 .1 .1 .0 ∙ made mostCountries)
 
-slice-aggregate-place-nations-4 : tie.Need-slice-aggregate-place-nations-4
-slice-aggregate-place-nations-4 c = sym ((c .before .before .before .before .before .before .before .before .before .before .before .before .before .before .before .before .before .before .before .before .before .before .before .before .before) .gather-tables .kept .1 .1 .1 .1 .1 .1 .1 .0 ∙ made mostCountries)
+slice-aggregate-place-fronts-4 : tie.Need-slice-aggregate-place-fronts-4
+slice-aggregate-place-fronts-4 c = sym ((c .before .before .before .before .before .before .before .before .before .before .before .before .before .before .before .before .before .before .before .before .before .before .before .before .before) .gather-tables .kept .1 .1 .1 .1 .1 .1 .1 .0 ∙ made mostCountries)
 
-place-nations-requires : tie.Need-place-nations-requires
-place-nations-requires c κs = (fronts-inside _ _ _ _ _ _ _ _ _ _ _ _ (gathered (c .before .before .before .before .before .before .before .before .before .before .before .before .before)) (roomy (c .before .before .before .before .before .before .before .before .before .before .before .before .before)), (fronts-readable _ _ _ _ _ _ _ _ _ _ _ _ (gathered (c .before .before .before .before .before .before .before .before .before .before .before .before .before)) (roomy (c .before .before .before .before .before .before .before .before .before .before .before .before .before)), nations-told-few _ _ _ _ _ _ _ _ _ _ _ _ (gathered (c .before .before .before .before .before .before .before .before .before .before .before .before .before)) (roomy (c .before .before .before .before .before .before .before .before .before .before .before .before .before))))
+place-fronts-requires : tie.Need-place-fronts-requires
+place-fronts-requires c κs = fronts-inside _ _ _ _ _ _ _ _ _ _ _ _ (gathered (c .before .before .before .before .before .before .before .before .before .before .before .before .before)) (roomy (c .before .before .before .before .before .before .before .before .before .before .before .before .before))
 
-enum-known-listed : tie.Need-enum-known-listed
-enum-known-listed c = c .match2 .keys1
-
-enum-told : tie.Need-enum-told
-enum-told c = c .match2 .keys2
+told-by-requires : tie.Need-told-by-requires
+told-by-requires c κs = tt
 
 enum-known-number : tie.Need-enum-known-number
 enum-known-number c = c .match .keys2
 
 same-length-6 : tie.Need-same-length-6
-same-length-6 c = (c .before .before .before .before .before .before .before .before .before .before .before .before .before .before .before .before .before .before .before .before .before .before .before .before .before .before .before .before .before .before .before .before .before .before .before .before .before) .gather-tables .kept .1 .1 .1 .0
+same-length-6 c = (c .before .before .before .before .before .before .before .before .before .before .before .before .before .before .before .before .before .before .before .before .before .before .before .before .before .before .before .before .before .before .before .before .before .before .before) .gather-tables .kept .1 .1 .1 .0
 
 same-length-7 : tie.Need-same-length-7
-same-length-7 c = (c .before .before .before .before .before .before .before .before .before .before .before .before .before .before .before .before .before .before .before .before .before .before .before .before .before .before .before .before .before .before .before .before .before .before .before .before .before) .gather-tables .kept .1 .1 .1 .1 .0
+same-length-7 c = (c .before .before .before .before .before .before .before .before .before .before .before .before .before .before .before .before .before .before .before .before .before .before .before .before .before .before .before .before .before .before .before .before .before .before .before) .gather-tables .kept .1 .1 .1 .1 .0
 
 same-length-8 : tie.Need-same-length-8
-same-length-8 c = (c .before .before .before .before .before .before .before .before .before .before .before .before .before .before .before .before .before .before .before .before .before .before .before .before .before .before .before .before .before .before .before .before .before .before .before .before .before) .gather-tables .kept .1 .1 .1 .1 .1 .0
+same-length-8 c = (c .before .before .before .before .before .before .before .before .before .before .before .before .before .before .before .before .before .before .before .before .before .before .before .before .before .before .before .before .before .before .before .before .before .before .before) .gather-tables .kept .1 .1 .1 .1 .1 .0
 
 same-length-9 : tie.Need-same-length-9
-same-length-9 c = (c .before .before .before .before .before .before .before .before .before .before .before .before .before .before .before .before .before .before .before .before .before .before .before .before .before .before .before .before .before .before .before .before .before .before .before .before .before) .gather-tables .kept .1 .1 .1 .1 .1 .1 .1 .1 .0
+same-length-9 c = (c .before .before .before .before .before .before .before .before .before .before .before .before .before .before .before .before .before .before .before .before .before .before .before .before .before .before .before .before .before .before .before .before .before .before .before) .gather-tables .kept .1 .1 .1 .1 .1 .1 .1 .1 .0
 
 same-length-10 : tie.Need-same-length-10
-same-length-10 c = (c .before .before .before .before .before .before .before .before .before .before .before .before .before .before .before .before .before .before .before .before .before .before .before .before .before .before .before .before .before .before .before .before .before .before .before .before .before) .gather-tables .kept .1 .1 .1 .1 .1 .1 .0
+same-length-10 c = (c .before .before .before .before .before .before .before .before .before .before .before .before .before .before .before .before .before .before .before .before .before .before .before .before .before .before .before .before .before .before .before .before .before .before .before) .gather-tables .kept .1 .1 .1 .1 .1 .1 .0
 
 same-length-11 : tie.Need-same-length-11
-same-length-11 c = (c .before .before .before .before .before .before .before) .place-nations .kept .1 .1 .1 .1 .1 .1 .1 .1 .1 .0
+same-length-11 c = (c .before .before .before .before .before) .place-fronts .kept .1 .1 .1 .1 .1 .1 .1 .1 .1 .0
 
 same-length-12 : tie.Need-same-length-12
-same-length-12 c = (c .before .before .before .before .before .before .before) .place-nations .kept .1 .1 .1 .1 .1 .1 .1 .1 .1 .1 .0
+same-length-12 c = (c .before .before .before .before .before) .place-fronts .kept .1 .1 .1 .1 .1 .1 .1 .1 .1 .1 .0
 
 returns-2 : tie.Need-returns-2
-returns-2 c = placed-told _ _ _ _ _ _ _ _ _ _ _ _ (gathered (c .before .before .before .before .before .before .before .before .before .before .before .before .before .before .before .before .before .before .before .before .before)) (roomy (c .before .before .before .before .before .before .before .before .before .before .before .before .before .before .before .before .before .before .before .before .before)) _ _ _ _ ((c .before .before .before .before .before .before .before .before .before .before .before .before .before .before .before .before .before .before .before) .rest-fits .ensures) _ _ _ _ ((c .before .before .before .before .before .before .before .before .before .before .before .before .before .before .before .before .before .before) .if1 .left) _ (rows-placed _ _ _ _ _ _ ((c .before .before .before .before .before .before .before) .place-nations .ensures) ((c .before) .listed .given .1))
+returns-2 c = placing-told _ _ _ _ _ _ _ _ _ _ _ _ (gathered (c .before .before .before .before .before .before .before .before .before .before .before .before .before .before .before .before .before .before .before)) (roomy (c .before .before .before .before .before .before .before .before .before .before .before .before .before .before .before .before .before .before .before)) _ _ _ _ ((c .before .before .before .before .before .before .before .before .before .before .before .before .before .before .before .before .before) .rest-fits .ensures) _ _ _ _ ((c .before .before .before .before .before .before .before .before .before .before .before .before .before .before .before .before) .if1 .left) ((c .before .before .before .before .before) .place-fronts .result) ((c .before .before .before .before .before) .place-fronts .ensures) _ (c .told-by .ensures)
 
 same-length-13 : tie.Need-same-length-13
-same-length-13 c = (c .before .before .before .before .before .before .before .before .before .before .before .before .before .before .before .before .before .before .before .before .before .before .before .before .before .before .before .before .before .before .before .before .before .before .before .before) .gather-tables .kept .1 .1 .1 .0
+same-length-13 c = (c .before .before .before .before .before .before .before .before .before .before .before .before .before .before .before .before .before) .gather-tables .kept .1 .1 .1 .0
 
 same-length-14 : tie.Need-same-length-14
-same-length-14 c = (c .before .before .before .before .before .before .before .before .before .before .before .before .before .before .before .before .before .before .before .before .before .before .before .before .before .before .before .before .before .before .before .before .before .before .before .before) .gather-tables .kept .1 .1 .1 .1 .0
+same-length-14 c = (c .before .before .before .before .before .before .before .before .before .before .before .before .before .before .before .before .before) .gather-tables .kept .1 .1 .1 .1 .0
 
 same-length-15 : tie.Need-same-length-15
-same-length-15 c = (c .before .before .before .before .before .before .before .before .before .before .before .before .before .before .before .before .before .before .before .before .before .before .before .before .before .before .before .before .before .before .before .before .before .before .before .before) .gather-tables .kept .1 .1 .1 .1 .1 .0
+same-length-15 c = (c .before .before .before .before .before .before .before .before .before .before .before .before .before .before .before .before .before) .gather-tables .kept .1 .1 .1 .1 .1 .0
 
 same-length-16 : tie.Need-same-length-16
-same-length-16 c = (c .before .before .before .before .before .before .before .before .before .before .before .before .before .before .before .before .before .before .before .before .before .before .before .before .before .before .before .before .before .before .before .before .before .before .before .before) .gather-tables .kept .1 .1 .1 .1 .1 .1 .1 .1 .0
+same-length-16 c = (c .before .before .before .before .before .before .before .before .before .before .before .before .before .before .before .before .before) .gather-tables .kept .1 .1 .1 .1 .1 .1 .1 .1 .0
 
 same-length-17 : tie.Need-same-length-17
-same-length-17 c = (c .before .before .before .before .before .before .before .before .before .before .before .before .before .before .before .before .before .before .before .before .before .before .before .before .before .before .before .before .before .before .before .before .before .before .before .before) .gather-tables .kept .1 .1 .1 .1 .1 .1 .0
-
-same-length-18 : tie.Need-same-length-18
-same-length-18 c = (c .before .before .before .before .before .before) .place-nations .kept .1 .1 .1 .1 .1 .1 .1 .1 .1 .0
-
-same-length-19 : tie.Need-same-length-19
-same-length-19 c = (c .before .before .before .before .before .before) .place-nations .kept .1 .1 .1 .1 .1 .1 .1 .1 .1 .1 .0
+same-length-17 c = (c .before .before .before .before .before .before .before .before .before .before .before .before .before .before .before .before .before) .gather-tables .kept .1 .1 .1 .1 .1 .1 .0
 
 returns-3 : tie.Need-returns-3
-returns-3 c = placed-refused _ _ _ _ _ _ _ _ _ _ _ _ (gathered (c .before .before .before .before .before .before .before .before .before .before .before .before .before .before .before .before .before .before .before .before)) (roomy (c .before .before .before .before .before .before .before .before .before .before .before .before .before .before .before .before .before .before .before .before)) _ _ _ _ ((c .before .before .before .before .before .before .before .before .before .before .before .before .before .before .before .before .before .before) .rest-fits .ensures) _ _ _ _ (none-placed _ _ _ _ _ _ ((c .before .before .before .before .before .before) .place-nations .ensures) (c .enum-told .given .1))
-
-same-length-20 : tie.Need-same-length-20
-same-length-20 c = (c .before .before .before .before .before .before .before .before .before .before .before .before .before .before .before .before .before) .gather-tables .kept .1 .1 .1 .0
-
-same-length-21 : tie.Need-same-length-21
-same-length-21 c = (c .before .before .before .before .before .before .before .before .before .before .before .before .before .before .before .before .before) .gather-tables .kept .1 .1 .1 .1 .0
-
-same-length-22 : tie.Need-same-length-22
-same-length-22 c = (c .before .before .before .before .before .before .before .before .before .before .before .before .before .before .before .before .before) .gather-tables .kept .1 .1 .1 .1 .1 .0
-
-same-length-23 : tie.Need-same-length-23
-same-length-23 c = (c .before .before .before .before .before .before .before .before .before .before .before .before .before .before .before .before .before) .gather-tables .kept .1 .1 .1 .1 .1 .1 .1 .1 .0
-
-same-length-24 : tie.Need-same-length-24
-same-length-24 c = (c .before .before .before .before .before .before .before .before .before .before .before .before .before .before .before .before .before) .gather-tables .kept .1 .1 .1 .1 .1 .1 .0
-
-returns-4 : tie.Need-returns-4
-returns-4 c = record-refused _ _ _ _ _ _ _ (tables-refused _ _ _ _ _ _ _ _ _ _ _ ((c .before .before .before .before .before .before .before .before .before .before .before .before .before .before .before .before .before) .gather-tables .ensures (made-room _ _ _ _ _ _ ((c .before .before .before .before .before .before .before .before .before .before .before .before .before .before .before .before .before .before .before .before .before .before .before .before .before .before .before .before .before .before .before .before .before .before .before) .pre))) ((c .before) .number .given .1))
+returns-3 c = record-refused _ _ _ _ _ _ _ (tables-refused _ _ _ _ _ _ _ _ _ _ _ ((c .before .before .before .before .before .before .before .before .before .before .before .before .before .before .before .before .before) .gather-tables .ensures (made-room _ _ _ _ _ _ ((c .before .before .before .before .before .before .before .before .before .before .before .before .before .before .before .before .before .before .before .before .before .before .before .before .before .before .before .before .before .before .before .before .before .before .before) .pre))) ((c .before) .number .given .1))
 
 pub tell-nations-spec : {M : Type 1} → statement M
 tell-nations-spec =
@@ -167,13 +140,12 @@ tell-nations-spec =
     same-length-4
     same-length-5
     returns
-    slice-aggregate-place-nations
-    slice-aggregate-place-nations-2
-    slice-aggregate-place-nations-3
-    slice-aggregate-place-nations-4
-    place-nations-requires
-    enum-known-listed
-    enum-told
+    slice-aggregate-place-fronts
+    slice-aggregate-place-fronts-2
+    slice-aggregate-place-fronts-3
+    slice-aggregate-place-fronts-4
+    place-fronts-requires
+    told-by-requires
     enum-known-number
     same-length-6
     same-length-7
@@ -188,12 +160,4 @@ tell-nations-spec =
     same-length-15
     same-length-16
     same-length-17
-    same-length-18
-    same-length-19
-    returns-3
-    same-length-20
-    same-length-21
-    same-length-22
-    same-length-23
-    same-length-24
-    returns-4)
+    returns-3)

@@ -1,0 +1,7 @@
+pub mod WalkLaws
+pub mod MergeEntryLaws
+pub mod ListingLaws
+pub mod CountNationsLaws
+pub mod WriteNationsLaws
+pub mod PlaceLaws
+pub mod ReadingLaws
