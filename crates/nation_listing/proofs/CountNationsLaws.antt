@@ -121,8 +121,7 @@ nations-short w q [] = (omega arith, omega arith)
 nations-short w q (key ∷ keys) =
     let here : List Nation = keyNations w key in
     let rest : List Nation = nationsAt w keys in
-    let r = nations-short w q keys in
-    (
+    let r = nations-short w q keys in (
       omega (arith, r .0, key-few w key, length-append here rest),
       omega (arith, r .1, key-short w q key, length-all-entries here rest),
     )

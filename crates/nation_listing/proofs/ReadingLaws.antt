@@ -185,7 +185,7 @@ module _ (words initials runs targets firsts started keys turns : List ℕ) (sta
       let p = five (allOf (leadsInside rows) initials) (allOf fewSlots started) (keysRise 0 initials) (keysRise 0 runs) (linksRise 0 turns) (t .1) in
       let leads = allOf-all (leadsInside rows) initials (p .0) in
       let at : (k : ℕ) → leadsInside rows k ≡ true → (rowIn k < rows) × (k < rowKeySpan) =
-          λ k t. let b = both (ltb (rowIn k) rows) (ltb k rowKeySpan) t in (ltb-true (rowIn k) rows (b .0), ltb-true k rowKeySpan (b .1)) in
+      λ k t. let b = both (ltb (rowIn k) rows) (ltb k rowKeySpan) t in (ltb-true (rowIn k) rows (b .0), ltb-true k rowKeySpan (b .1)) in
       let inside : (d : ℕ) → rows ≤ d → All (λ k. rowIn k < d) initials = λ d l. all-map (λ k t. omega (arith, at k t .0)) initials leads in
       let later = links-later 0 turns (p .4) in
       let long = eqb-true (length turns) (length keys) (q .3) in
@@ -224,14 +224,14 @@ module _ (words initials runs targets firsts started keys turns : List ℕ) (sta
         le-leb (length keys) noChange (q .chained .few),
         eq-eqb (length turns) (length keys) long,
         all-allOf
-        (λ k. ((rowIn k < length words) × (rowIn k < length started)) × ((rowIn k < length (highHalves firsts)) × (k < rowKeySpan)))
-        (leadsInside rows) (λ k t. leads-inside k (t .0 .0) (omega (arith, high, t .1 .0)) (t .0 .1) (t .1 .1)) initials
-        (all-both (λ k. (rowIn k < length words) × (rowIn k < length started)) (λ k. (rowIn k < length (highHalves firsts)) × (k < rowKeySpan))
-        initials pairs heads),
+            (λ k. ((rowIn k < length words) × (rowIn k < length started)) × ((rowIn k < length (highHalves firsts)) × (k < rowKeySpan)))
+            (leadsInside rows) (λ k t. leads-inside k (t .0 .0) (omega (arith, high, t .1 .0)) (t .0 .1) (t .1 .1)) initials
+            (all-both (λ k. (rowIn k < length words) × (rowIn k < length started)) (λ k. (rowIn k < length (highHalves firsts)) × (k < rowKeySpan))
+            initials pairs heads),
         all-allOf (λ k. k ≤ half) fewSlots (λ k t. le-leb k half t) started (q .started),
         sorted-rise initials (q .initials),
         sorted-rise runs (q .runs),
         later-links 0 turns (λ k l. omega (arith, q .chained .oldsRise k (omega (arith, long))))
-        (λ k l. omega (arith, q .chained .newsRise k (omega (arith, long)))),
+            (λ k l. omega (arith, q .chained .newsRise k (omega (arith, long)))),
       )
       refl

@@ -11,7 +11,7 @@ use change_keys::PER_ID;
 use record::CountryTag;
 use record::ProvinceId;
 use record::Provinces;
-use sorting::sort_keys;
+use spreading::spread_sort;
 ghost use mathlib.Core.Path.{_≡_};
 ghost use mathlib.Core.List.{map};
 ghost use Prim.Native.Nat.{suc, _+_, _*_, _≤_};
@@ -212,7 +212,7 @@ fn sort_steps(
     ensures { λ r. ⌜ Stepped (now (s .entry)) r (now (keys .exit)) (now (cells .exit)) ⌝ }
 {
     let n = change_keys::fill_keys(s, provinces, keys);
-    sort_keys(&mut keys[0..n], cells);
+    spread_sort(&mut keys[0..n], cells);
     settle_changes(s, provinces, tag_words, settling_keys, cells, n);
     n
 }

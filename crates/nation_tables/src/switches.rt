@@ -101,7 +101,7 @@ pub(crate) fn settling_keys(
     ensures { λ r. ⌜ Filled (settlingKeys (countriesLeft (now (s .entry)) countries)) r (now (cells .entry)) (now (cells .exit)) ⌝ }
 {
     let n = all_settling_keys(s, countries, cells);
-    sorting::sort_keys(&mut cells[0..n], scratch);
+    spreading::spread_sort(&mut cells[0..n], scratch);
     n
 }
 
@@ -139,7 +139,7 @@ pub(crate) fn run_keys(
     ensures { λ r. ⌜ Filled (runKeys (countriesLeft (now (s .entry)) countries)) r (now (keys .entry)) (now (keys .exit)) ⌝ }
 {
     let n = all_run_keys(s, countries, keys);
-    sorting::sort_keys(&mut keys[0..n], scratch);
+    spreading::spread_sort(&mut keys[0..n], scratch);
     n
 }
 

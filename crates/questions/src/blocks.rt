@@ -6,7 +6,7 @@ use record::Eu4Date;
 use resolver::NextClaim;
 use resolver::Walk;
 use search::count_near;
-use sorting::sort_keys;
+use spreading::spread_sort;
 ghost use mathlib.Core.Path.{_≡_};
 ghost use Prim.Native.Nat.{_+_, _<_, _≤_};
 ghost use lib.Dec.{leb};
@@ -87,7 +87,7 @@ pub fn sort_block(
 {
     let block = fill_block(nations, entries, walk, keys, owners);
     let n = block.count;
-    sort_keys(&mut keys[0..n], scratch);
+    spread_sort(&mut keys[0..n], scratch);
     block
 }
 

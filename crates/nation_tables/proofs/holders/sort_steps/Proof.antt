@@ -17,17 +17,17 @@ filled-all c = keys-filled _ _ (start c .pre .0) _ _ _ (start c .pre .1 .1 .0) (
 fill-keys-requires : tie.Need-fill-keys-requires
 fill-keys-requires c κs = search needs
 
-sub-sort-keys : tie.Need-sub-sort-keys
-sub-sort-keys c = zero≤
+sub-spread-sort : tie.Need-sub-spread-sort
+sub-spread-sort c = zero≤
 
-part-sort-keys-start : tie.Need-part-sort-keys-start
-part-sort-keys-start c = zero≤
+part-spread-sort-start : tie.Need-part-spread-sort-start
+part-spread-sort-start c = zero≤
 
-part-sort-keys-end : tie.Need-part-sort-keys-end
-part-sort-keys-end c = let filled = c .before .before in omega (arith, filled-all filled .counted, filled .fill-keys .kept .1 .1 .0, start filled .pre .1 .1)
+part-spread-sort-end : tie.Need-part-spread-sort-end
+part-spread-sort-end c = let filled = c .before .before in omega (arith, filled-all filled .counted, filled .fill-keys .kept .1 .1 .0, start filled .pre .1 .1)
 
-sort-keys-requires : tie.Need-sort-keys-requires
-sort-keys-requires c κs = search needs
+spread-sort-requires : tie.Need-spread-sort-requires
+spread-sort-requires c κs = search needs
 
 settle-changes-requires : tie.Need-settle-changes-requires
 settle-changes-requires c κs =
@@ -39,7 +39,7 @@ settle-changes-requires c κs =
       (
         (
           filled-all filled .counted,
-          omega (arith, filled-all filled .counted, sorted .sort-keys .kept .1 .0, p .1 .1 .1),
+          omega (arith, filled-all filled .counted, sorted .spread-sort .kept .1 .0, p .1 .1 .1),
         ),
         p .1 .0,
       ),
@@ -56,17 +56,17 @@ returns c =
     let settled = c .before .before in
     let sorted = settled .before .before .before .before .before .before in
     let filled = sorted .before .before .before .before .before in
-    stepped _ (start filled .pre .0 .accepted) _ _ _ _ _ (filled-all filled) (sorted .sort-keys .ensures .keys) (settled .settle-changes .ensures)
+    stepped _ (start filled .pre .0 .accepted) _ _ _ _ _ (filled-all filled) (sorted .spread-sort .ensures .keys) (settled .settle-changes .ensures)
 
 pub sort-steps-spec : {M : Type 1} → statement M
 sort-steps-spec =
     tie.close
     (tie.spec
     fill-keys-requires
-    sub-sort-keys
-    part-sort-keys-start
-    part-sort-keys-end
-    sort-keys-requires
+    sub-spread-sort
+    part-spread-sort-start
+    part-spread-sort-end
+    spread-sort-requires
     settle-changes-requires
     same-length
     same-length-2

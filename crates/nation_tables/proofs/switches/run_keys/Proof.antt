@@ -7,17 +7,17 @@ use Rattle.nation_tables.proofs.switches.run_keys.Tie as tie
 all-run-keys-requires : tie.Need-all-run-keys-requires
 all-run-keys-requires c κs = search needs
 
-sub-sort-keys : tie.Need-sub-sort-keys
-sub-sort-keys c = search needs
+sub-spread-sort : tie.Need-sub-spread-sort
+sub-spread-sort c = search needs
 
-part-sort-keys-start : tie.Need-part-sort-keys-start
-part-sort-keys-start c = search needs
+part-spread-sort-start : tie.Need-part-spread-sort-start
+part-spread-sort-start c = search needs
 
-part-sort-keys-end : tie.Need-part-sort-keys-end
-part-sort-keys-end c = filled-inside _ _ _ _ (c .before .before .all-run-keys .ensures)
+part-spread-sort-end : tie.Need-part-spread-sort-end
+part-spread-sort-end c = filled-inside _ _ _ _ (c .before .before .all-run-keys .ensures)
 
-sort-keys-requires : tie.Need-sort-keys-requires
-sort-keys-requires c κs = search needs
+spread-sort-requires : tie.Need-spread-sort-requires
+spread-sort-requires c κs = search needs
 
 same-length : tie.Need-same-length
 same-length c = search needs
@@ -28,17 +28,17 @@ same-length-2 c = search needs
 returns : tie.Need-returns
 returns c =
     let sorted = c .before .before .before .before in
-    sorted-filled _ _ _ _ _ (sorted .before .before .before .before .before .all-run-keys .ensures) (sorted .sort-keys .ensures .keys)
+    sorted-filled _ _ _ _ _ (sorted .before .before .before .before .before .all-run-keys .ensures) (sorted .spread-sort .ensures .keys)
 
 pub run-keys-spec : {M : Type 1} → statement M
 run-keys-spec =
     tie.close
     (tie.spec
     all-run-keys-requires
-    sub-sort-keys
-    part-sort-keys-start
-    part-sort-keys-end
-    sort-keys-requires
+    sub-spread-sort
+    part-spread-sort-start
+    part-spread-sort-end
+    spread-sort-requires
     same-length
     same-length-2
     returns)

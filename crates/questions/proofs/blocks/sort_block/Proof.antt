@@ -7,17 +7,17 @@ use Rattle.questions.proofs.blocks.sort_block.Tie as tie
 fill-block-requires : tie.Need-fill-block-requires
 fill-block-requires c κs = search needs
 
-sub-sort-keys : tie.Need-sub-sort-keys
-sub-sort-keys c = search needs
+sub-spread-sort : tie.Need-sub-spread-sort
+sub-spread-sort c = search needs
 
-part-sort-keys-start : tie.Need-part-sort-keys-start
-part-sort-keys-start c = search needs
+part-spread-sort-start : tie.Need-part-spread-sort-start
+part-spread-sort-start c = search needs
 
-part-sort-keys-end : tie.Need-part-sort-keys-end
-part-sort-keys-end c = block-inside _ _ _ _ _ _ _ _ (c .before .before .before .before .fill-block .ensures)
+part-spread-sort-end : tie.Need-part-spread-sort-end
+part-spread-sort-end c = block-inside _ _ _ _ _ _ _ _ (c .before .before .before .before .fill-block .ensures)
 
-sort-keys-requires : tie.Need-sort-keys-requires
-sort-keys-requires c κs = search needs
+spread-sort-requires : tie.Need-spread-sort-requires
+spread-sort-requires c κs = search needs
 
 same-length : tie.Need-same-length
 same-length c = search needs
@@ -32,17 +32,17 @@ returns : tie.Need-returns
 returns c =
     let filled = c .before .before .before .before .before .before .before .before .before .before .before in
     let f = filled .fill-block .ensures in
-    block-sorted _ _ _ _ _ _ _ _ _ _ _ f (block-inside _ _ _ _ _ _ _ _ f) (c .before .before .before .before .sort-keys .ensures)
+    block-sorted _ _ _ _ _ _ _ _ _ _ _ f (block-inside _ _ _ _ _ _ _ _ f) (c .before .before .before .before .spread-sort .ensures)
 
 pub sort-block-spec : {M : Type 1} → statement M
 sort-block-spec =
     tie.close
     (tie.spec
     fill-block-requires
-    sub-sort-keys
-    part-sort-keys-start
-    part-sort-keys-end
-    sort-keys-requires
+    sub-spread-sort
+    part-spread-sort-start
+    part-spread-sort-end
+    spread-sort-requires
     same-length
     same-length-2
     same-length-3
