@@ -220,7 +220,3 @@ row-asked ks n r f h =
       placed-all (KeyFits ByRow) (λ x. Unit {0}) (length ks) keyNumbers (λ row i x a b s. b) 0 0 ks (omega arith) (omega (arith, size))
           (all-each (λ k. all-each (λ x. tt) (k .switches)) ks),
     )
-
-pub row-filled : (ks : List Country) (n : ℕ) (before after : List ℕ) → Filled (sortBy leb (map (keyBy ByRow) (allPlaced 0 0 ks))) n before after
-    → Filled (runKeys ks) n before after
-row-filled ks n before after f = rw (row-keys 0 0 ks) f

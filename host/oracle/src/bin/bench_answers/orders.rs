@@ -7,8 +7,8 @@ use chronicle_trial::pack::{Campaign, Date, OwnerEvent};
 /// A name, and so many ranks in that order.
 pub type Order = (&'static str, fn(usize) -> Vec<usize>);
 
-/// Rising, falling, in runs, and such as part badly.
-pub const ALL: [Order; 12] = [
+/// Rising, falling, in runs, and out of order.
+pub const ALL: [Order; 11] = [
     ("rising", |n| (0..n).collect()),
     ("falling", |n| (0..n).rev().collect()),
     ("one day", |n| vec![0; n]),
@@ -18,7 +18,6 @@ pub const ALL: [Order; 12] = [
     ("a hundred runs", |n| runs(n, 100)),
     ("a thousand runs", |n| runs(n, 1000)),
     ("up and down", |n| (0..n / 2).chain((n / 2..n).rev()).collect()),
-    ("worst for a pivot of nine", worst_for_pivots),
     ("turns that are not seen", unseen_turns),
     ("shuffled", shuffled),
 ];
@@ -38,29 +37,8 @@ fn shuffled(n: usize) -> Vec<usize> {
     ranks
 }
 
-/// The sort takes its pivot from nine places, a median of three medians, and keeps the order of those
-/// that are not below it. Here four of the nine are always the least that have no rank yet: so three
-/// or four go below the pivot, and all others stay. What is left after so many pivots is shuffled.
-fn worst_for_pivots(n: usize) -> Vec<usize> {
-    let mut ranks: Vec<Option<usize>> = vec![None; n];
-    let mut left: Vec<usize> = (0..n).collect();
-    let mut next = 0;
-    for _ in 0..100 {
-        let step = (left.len() - 1) / 8;
-        for place in [0, step, 3 * step, 4 * step] {
-            if ranks[left[place]].is_none() {
-                ranks[left[place]] = Some(next);
-                next += 1;
-            }
-        }
-        left.retain(|&at| ranks[at].is_none_or(|rank| rank + 1 == next));
-    }
-    let mut others = shuffled(n - next).into_iter().map(|rank| rank + next);
-    ranks.into_iter().map(|rank| rank.unwrap_or_else(|| others.next().unwrap())).collect()
-}
-
 /// The sort looks for turns at every 31st rank, with the two before it. Here these rise, and all else is shuffled: so
-/// halves are merged where the ranks had better be parted.
+/// halves are merged where the ranks had better be spread first.
 fn unseen_turns(n: usize) -> Vec<usize> {
     let mut ranks = shuffled(n);
     for first in (0..n.saturating_sub(2)).step_by(31) {
@@ -80,6 +58,17 @@ pub fn one_province(ranks: &[usize]) -> Campaign {
         .enumerate()
         .map(|(at, rank)| OwnerEvent { date: nth_day(*rank), tag: turns[at % 2] })
         .collect();
+    campaign
+}
+
+/// Ten days, and one event as early and one as late as can be: the leading bits of the sort's keys tell the days
+/// apart, and hardly the provinces.
+pub fn few_days(mut campaign: Campaign) -> Campaign {
+    let mut events: Vec<&mut OwnerEvent> =
+        campaign.provinces.iter_mut().flat_map(|province| &mut province.events).collect();
+    events.iter_mut().enumerate().for_each(|(at, event)| event.date = nth_day(at % 10 * 1_000));
+    let last = events.len() - 1;
+    (events[0].date, events[last].date) = (10_101, 99_991_231);
     campaign
 }
 

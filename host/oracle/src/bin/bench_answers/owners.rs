@@ -34,6 +34,13 @@ pub fn all(rounds: usize) {
     for (order, made) in orders::ALL {
         race(order, &orders::one_province(&made(60_000)), 60_000, rounds);
     }
+    heading(
+        "province_owners: C = 2,000, P = 8,000, E = 60,000, ten days and one far to either side",
+    );
+    for (order, arranged) in ORDERS {
+        let campaign = orders::few_days(arranged(owners(60_000, 1)));
+        race(&format!("provinces {order}"), &campaign, 60_000, rounds);
+    }
     heading("province_owners: C = 800, P = 4,000, E = 15,000, as a game writes them");
     race("dates rising in a province", &game(), 15_000, rounds);
     heading("province_owners: small records");
