@@ -27,7 +27,7 @@ use Rattle.draft_parts.specs.Marks.{storedWord, markedFrom, cellAt}
 use Rattle.histories.specs.Tables.{tagsLeft}
 use Rattle.histories.specs.Drafts.{playedLeft, draftWith, draftFor, FillsDrafts, HoldsDrafts}
 use Rattle.draft_parts.proofs.MarkLaws.{stored-word, all-placed}
-use Rattle.histories.proofs.PlayerKeyLaws.{length-tag-keys}
+use Rattle.search.proofs.PlaceLaws.{length-tag-keys}
 use Rattle.history_rows.proofs.PutLaws.{length-rows}
 
 -- ## The tables

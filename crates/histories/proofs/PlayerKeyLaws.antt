@@ -1,8 +1,8 @@
 -- Keys of tags, and the players of a tag among sorted keys: they stand together, by rising name.
-use mathlib.Core.Path.{_≡_, refl, sym, ap, _∙_}
+use mathlib.Core.Path.{_≡_, sym, ap, _∙_}
 use mathlib.Core.Bool.{Bool}
 use mathlib.Core.List.{List, [], _∷_, _++_, map}
-use Prim.Native.Nat.{ℕ, suc, _+_, _-_, _*_, _/_, _%_, _≤_, _<_}
+use Prim.Native.Nat.{ℕ, _+_, _-_, _*_, _/_, _%_, _≤_, _<_}
 use native.Mathlib.Omega.{arith}
 use borrow.Author.Tests.{lt-ltb, ltb-true}
 use lib.Dec.{leb, ltb}
@@ -15,7 +15,7 @@ use Rattle.sorting.proofs.SortLaws.{length-sort}
 use Rattle.sorting.proofs.SortedKeyLaws.{sorted-front}
 use Rattle.format.specs.declared.tag.CountryTag.{CountryTag}
 use Rattle.search.specs.Halving.{CountsBelow}
-use Rattle.search.specs.Places.{tagKey, tagKeysFrom}
+use Rattle.search.specs.Places.{tagKey}
 use Rattle.rules.specs.Lent.{written}
 use Rattle.players.specs.declared.pairs.Pairs.{Pairs}
 use Rattle.players.specs.PlayerSteps.{playersLeft}
@@ -23,11 +23,6 @@ use Rattle.histories.specs.Tables.{playerKey, SortsPlayers}
 use Rattle.histories.specs.Drafts.{keysBefore, RunOf}
 
 -- ## Keys of tags
-
-pub length-tag-keys : (k : ℕ) (ts : List CountryTag) → length (tagKeysFrom k ts) ≡ length ts
-unfolding tagKeysFrom
-length-tag-keys k [] = refl
-length-tag-keys k (t ∷ ts) = ap suc (length-tag-keys (k + 1) ts)
 
 pub tag-key-small : (t : CountryTag) (n : ℕ) → n < 65536 → tagKey t (n % 65536) ≡ tagKey t n
 tag-key-small t n h = let e : n % 65536 ≡ n = omega arith in rw e

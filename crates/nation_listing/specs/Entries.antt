@@ -1,4 +1,4 @@
--- A country's switches by date, merged with its lives. No public promise cites these: they are how the nations are computed.
+-- A country's switches by date, merged with its lives. No call of 01 is promised by these: they are how the nations are computed.
 use mathlib.Core.Path.{_≡_}
 use mathlib.Core.Bool.{Bool, true, false}
 use mathlib.Core.List.{List, [], _∷_, map}

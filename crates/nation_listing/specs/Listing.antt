@@ -1,4 +1,4 @@
--- The listed nations in the order of the keys of initials, as they are read from cells. No public promise cites these: they are how the
+-- The listed nations in the order of the keys of initials, as they are read from cells. No call of 01 is promised by these: they are how the
 -- nations are computed.
 use mathlib.Core.Path.{_≡_}
 use mathlib.Core.Bool.{Bool, cond, _&&_, _||_}

@@ -1,4 +1,4 @@
--- What a walk over a country's two chains tells: its lives. No public promise cites these: they are how the nations are computed.
+-- What a walk over a country's two chains tells: its lives. No call of 01 is promised by these: they are how the nations are computed.
 use mathlib.Core.Path.{_≡_}
 use mathlib.Core.Bool.{Bool, cond}
 use mathlib.Core.List.{List, [], _∷_}

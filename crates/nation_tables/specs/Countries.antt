@@ -1,4 +1,4 @@
--- Tables of the countries, and keys by which a country's row is found. No public promise cites these: they are how the nations are
+-- Tables of the countries, and keys by which a country's row is found. No call of 01 is promised by these: they are how the nations are
 -- computed. A row is a country's number in the record, from 0.
 use mathlib.Core.Path.{_≡_}
 use mathlib.Core.Bool.{Bool, true, cond, _&&_}

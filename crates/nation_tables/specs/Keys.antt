@@ -1,4 +1,4 @@
--- Sort keys. No public promise cites these: they are how the nations are computed. A row is a country's number in the record,
+-- Sort keys. No call of 01 is promised by these: they are how the nations are computed. A row is a country's number in the record,
 -- from 0.
 use Prim.Native.Nat.{ℕ, _+_, _*_, _/_, _%_}
 use Rattle.nation_tables.specs.Layout.{keyRows, keyDates, keyNumbers}

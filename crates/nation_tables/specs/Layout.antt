@@ -1,4 +1,4 @@
--- How numbers share keys and cells, and how many of each a record has at most. No public promise cites these: they are how the nations are
+-- How numbers share keys and cells, and how many of each a record has at most. No call of 01 is promised by these: they are how the nations are
 -- computed. A key of 64 bits has room for a row of 11 bits, a date of 27 and the number of a switch of 15, or for a tag of 24, a date and a
 -- row; a cell of 32 bits for two numbers of 16.
 use Prim.Native.Nat.{ℕ, _/_, min}

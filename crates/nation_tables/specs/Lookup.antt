@@ -1,4 +1,4 @@
--- Keys of country rows and how they are looked up. No public promise cites these: they are how the nations are computed.
+-- Keys of country rows and how they are looked up. No call of 01 is promised by these: they are how the nations are computed.
 -- A key ends with the row of a country.
 use mathlib.Core.Path.{_≡_}
 use mathlib.Core.Bool.{Bool, _&&_}

@@ -1,4 +1,4 @@
--- Whom a change settles to, by rows. No public promise cites these: they are how the nations are computed.
+-- Whom a change settles to, by rows. No call of 01 is promised by these: they are how the nations are computed.
 use mathlib.Core.Path.{_≡_}
 use mathlib.Core.Bool.{false}
 use mathlib.Core.List.{List}

@@ -1,4 +1,4 @@
--- The holders of the slots at the start, by rows. No public promise cites these: they are how the nations are computed.
+-- The holders of the slots at the start, by rows. No call of 01 is promised by these: they are how the nations are computed.
 use mathlib.Core.Path.{_≡_}
 use mathlib.Core.Bool.{true, false}
 use mathlib.Core.List.{List, [], _∷_, map}

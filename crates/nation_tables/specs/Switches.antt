@@ -1,4 +1,4 @@
--- The switches of each country by date, and their targets. No public promise cites these: they are how the nations are computed.
+-- The switches of each country by date, and their targets. No call of 01 is promised by these: they are how the nations are computed.
 use mathlib.Core.List.{List, [], _∷_, _++_, map}
 use Prim.Native.Nat.{ℕ, suc, _+_, _*_, _%_, _<_}
 use lib.Dec.{leb, ltb}

@@ -109,11 +109,11 @@ pub record RefusedBy (xs : List ℕ) (holders held changes n : ℕ) (rows₀ row
       → record { answer = refused n; memory = nationCells rows₁ entries₁ holders₀ held₀ changes₀ }
       ≡ callNationEvents xs (nationCells rows₀ entries₀ holders₀ held₀ changes₀)
 
--- What is told by what was placed, where the tables can be read.
-abbrev pub toldBy : TableSizes → Provinces → Placed.Placed → NationsTold.NationsTold
-toldBy z p (Placed.the-variants.Rows r) = NationsTold.the-variants.Rows z p r
-toldBy z p Placed.the-variants.Short = NationsTold.the-variants.Refused 10
-toldBy z p Placed.the-variants.Unread = NationsTold.the-variants.Refused 10
+-- What is told by what was placed; tables that cannot be read, which no record has, are told as too short a slice.
+abbrev pub placingTold : TableSizes → Provinces → Placed.Placed → NationsTold.NationsTold
+placingTold z p (Placed.the-variants.Rows r) = NationsTold.the-variants.Rows z p r
+placingTold z p Placed.the-variants.Short = NationsTold.the-variants.Refused 10
+placingTold z p Placed.the-variants.Unread = NationsTold.the-variants.Refused 10
 
 abbrev pub nationsTold : List ℕ → ℕ → ℕ → ℕ → NationsTold.NationsTold → List ℕ → List ℕ → List ℕ → List ℕ → List ℕ → List ℕ → List ℕ → Type 0
 nationsTold xs holders held changes (NationsTold.the-variants.Rows z p r) slots keys cells rows₀ rows₁ entries₀ entries₁ =

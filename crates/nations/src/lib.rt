@@ -1,4 +1,4 @@
-// Nations.
+// nation_events: memory for the tables, the nations placed by nation_listing, and the rest written.
 mod nations;
 mod telling;
 mod writing;

@@ -10,7 +10,7 @@ ghost use mathlib.Core.Path.{_≡_};
 ghost use Prim.Native.Nat.{_≤_};
 ghost use lib.ListN.{length};
 ghost use Rattle.nation_tables.specs.Layout.{mostSlots};
-ghost use Rattle.nations.specs.NationSteps.{FrontsInside, frontsPlaced, toldBy, RowsRoom, nationsTold};
+ghost use Rattle.nations.specs.NationSteps.{FrontsInside, frontsPlaced, placingTold, RowsRoom, nationsTold};
 
 // The sizes of the tables, the first province and what is listed; or the number of the refusal.
 pub(crate) enum NationsTold {
@@ -55,7 +55,7 @@ fn place_fronts(
 
 // What the placing of the nations tells. The tables of a record can always be read, so that its third case does not come.
 fn told_by(sizes: TableSizes, provinces: Provinces, placed: Placed) -> NationsTold
-    ensures { λ r. ⌜ r ≡ toldBy sizes provinces placed ⌝ }
+    ensures { λ r. ⌜ r ≡ placingTold sizes provinces placed ⌝ }
 {
     match placed {
         Placed::Rows(listed) => NationsTold::Rows(sizes, provinces, listed),

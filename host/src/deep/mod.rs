@@ -9,7 +9,7 @@ use crate::refusal::{Lacking, Shortage};
 use crate::Refusal;
 
 /// Bytes of stack that a call must find left: more than include/chronicle.h names for it, and than a
-/// thread was measured to need, which is the same for every record.
+/// thread was measured to need on records at the limits.
 #[derive(Clone, Copy, Debug)]
 pub(crate) enum Depth {
     /// `check`, for which 68 KiB were enough.

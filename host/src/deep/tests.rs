@@ -61,7 +61,7 @@ fn enough() -> Enough {
     Counts::read(record().first_chunk().expect("it has a head")).enough()
 }
 
-/// How deep a call goes is the same for every record, so that a small one will do.
+/// A small record, which takes the small arrays: that the large ones fit is tried in host/trial, tests/c_header/stacks.
 #[cfg(all(target_os = "linux", target_arch = "x86_64"))]
 #[test]
 fn each_depth_is_enough() {

@@ -37,7 +37,7 @@ use Rattle.nation_listing.specs.declared.placing.Placed as Placed
 use Rattle.nations.specs.declared.telling.NationsTold as NationsTold
 use Rattle.nations.specs.Cases.{nationCells, countsIn}
 use Rattle.nation_listing.specs.Listing.{nationsAt, listedOf}
-use Rattle.nations.specs.NationSteps.{restFor, countsFrom, RestReady, RestWritten, FrontsInside, frontsReadable, frontsPlaced, NationsPlaced, RefusedBy, toldBy, nationsTold}
+use Rattle.nations.specs.NationSteps.{restFor, countsFrom, RestReady, RestWritten, FrontsInside, frontsReadable, frontsPlaced, NationsPlaced, RefusedBy, placingTold, nationsTold}
 use Rattle.nation_listing.specs.Placing.{nationsFor, PlacedRows, PlacedShort, placedTold}
 use Rattle.nations.proofs.answer.NationsLaws.{cells-nations, cells-readable, runs-told}
 use Rattle.nation_listing.proofs.ReadingLaws.{readable-found}
@@ -237,12 +237,12 @@ module _ (xs : List ℕ) (z : TableSizes) (provinces : Provinces) (words initial
 
       -- Whatever the placing tells.
       pub placing-told : not b ≡ false → (r : Placed.Placed) → frontsPlaced z words initials runs targets firsts started keys turns r rows₀ rows₁ entries₀ entries₁ → (t : NationsTold.NationsTold)
-          → t ≡ toldBy z provinces r → nationsTold xs holders held changes t slots keys targets rows₀ rows₁ entries₀ entries₁
+          → t ≡ placingTold z provinces r → nationsTold xs holders held changes t slots keys targets rows₀ rows₁ entries₀ entries₁
       placing-told f r p t e =
           subst (λ (x : NationsTold.NationsTold). nationsTold xs holders held changes x slots keys targets rows₀ rows₁ entries₀ entries₁) (sym e) (go r p)
         where
           go : (r : Placed.Placed) → placedTold readable nations r rows₀ rows₁ entries₀ entries₁
-              → nationsTold xs holders held changes (toldBy z provinces r) slots keys targets rows₀ rows₁ entries₀ entries₁
+              → nationsTold xs holders held changes (placingTold z provinces r) slots keys targets rows₀ rows₁ entries₀ entries₁
           go (Placed.the-variants.Rows l) p = placed-told f l (p .1)
           go Placed.the-variants.Short p = placed-refused (p .1)
           go Placed.the-variants.Unread p = clash readable fronts-readable (p .0)

@@ -10,7 +10,8 @@ use Rattle.format.specs.Campaign.{Country}
 use Rattle.record.specs.Cursors.{countriesLeft, countryOf, countryTold}
 use Rattle.search.specs.Places.{tagKey, tagKeysFrom}
 use Rattle.histories.specs.Tables.{tagsLeft}
-use Rattle.histories.proofs.PlayerKeyLaws.{length-tag-keys, tag-key-small}
+use Rattle.histories.proofs.PlayerKeyLaws.{tag-key-small}
+use Rattle.search.proofs.PlaceLaws.{length-tag-keys}
 use borrow.Author.Needs.{needs}
 use Rattle.histories.proofs.tables.fill_countries.Statement.{statement}
 use Rattle.histories.proofs.tables.fill_countries.Tie as tie

@@ -22,6 +22,8 @@ pub fn all(rounds: usize) {
     for events in GROWTH {
         race(&format!("{events} events"), &with_switches(20_000, events), events, rounds);
     }
+    heading("province_owners + nation_events: no switches");
+    race("60000 events", &with_switches(0, 60_000), 60_000, rounds);
     heading("province_owners + nation_events: growth in switches");
     for switches in SWITCHES {
         let campaign = with_switches(switches, 60_000);
