@@ -22,14 +22,15 @@ use Rattle.format.specs.Tags.{sameTag}
 use Rattle.format.specs.Head.{headOf, eventsAt}
 use Rattle.format.specs.Rows.{ownerEventAt}
 use Rattle.format.specs.Campaign.{Province, provinceRows, ownerEvents, campaignOf}
-use Rattle.record.specs.Cursors.{ownerEventsLeft, ownerEventTold, provincesLeft, provinceTold}
+use Rattle.record.specs.Cursors.{ownerEventsLeft, ownerEventTold, provincesLeft, provinceTold, allOwnerEvents}
+use Rattle.record.proofs.SharedLaws.{events-shared}
 use Rattle.format.specs.Refusal.{refusal}
 use Rattle.format.proofs.AcceptLaws.{accepted, accepted-laid}
 use Rattle.format.proofs.RowLaws.{rows-counted}
 use Rattle.format.proofs.CampaignLaws.{told-row, told-end, events-owned}
 use Rattle.format.proofs.BoundLaws.{small-provinces, few-events}
 use Rattle.rules.specs.Changes.{changesFrom, provinceChanges, byDateAndId, changesOf}
-use Rattle.change_keys.specs.ChangeSteps.{changesLeft, entered, mostChanges}
+use Rattle.change_keys.specs.ChangeSteps.{changesLeft, changesAhead, entered, mostChanges}
 pub use Rattle.change_keys.specs.ChangeSteps.{Narrow}
 use Rattle.rules.proofs.CampaignLaws.{all-changes}
 
@@ -87,6 +88,12 @@ all-few : (ps : List Province) → length (joinOf provinceChanges ps) ≤ sumOf 
 all-few [] = omega arith
 all-few (p ∷ ps) =
     omega (arith, length-append (provinceChanges p) (joinOf provinceChanges ps), slot-few (p .id) (p .owner) (p .events), all-few ps)
+
+-- No more changes are ahead than the provinces left share owner events.
+pub ahead-within : (xs : List ℕ) (c : Provinces) → length (changesAhead xs c) ≤ length (allOwnerEvents xs c)
+ahead-within xs c =
+    let left = provincesLeft xs c in
+    omega (arith, all-few left, length-joined (λ (p : Province). p .events) left, events-shared xs c)
 
 pub entered-few : (xs : List ℕ) → refusal xs ≡ 0 → length (entered xs) ≤ mostChanges
 entered-few xs h = omega (arith, all-few (campaignOf xs .provinces), few-events xs h)

@@ -1,7 +1,6 @@
 // Changes written in entry order, before any is sorted.
 use crate::writing;
 use change_keys::CHANGE_WIDTH;
-use change_keys::MOST_CHANGES;
 use change_keys::NextChange;
 use change_keys::change_key;
 use change_keys::next_change;
@@ -12,7 +11,7 @@ ghost use Prim.Native.Nat.{_*_, _≤_};
 ghost use lib.Dec.{leb};
 ghost use lib.ListN.{length};
 ghost use Rattle.rules.specs.Changes.{changeWidth};
-ghost use Rattle.change_keys.specs.ChangeSteps.{changesAhead, AtFirstProvince};
+ghost use Rattle.change_keys.specs.ChangeSteps.{changesAhead};
 ghost use Rattle.owner_changes.specs.RowSteps.{RowsEntered};
 
 // How many changes were entered, and how many of them go before the one that was entered before them.
@@ -43,12 +42,11 @@ fn at_most(s: &[u8], provinces: Provinces, most: usize) -> bool
     }
 }
 
-// Whether so many rows are enough for all changes: they are counted only where there is not room for as many as there can be.
+// Whether so many rows are enough for all changes: they are counted only where there is not room for as many as there are owner events.
 pub(crate) fn has_room(s: &[u8], provinces: Provinces, room: usize) -> bool
-    requires { ⌜ AtFirstProvince (now s) provinces ⌝ }
     ensures { λ r. ⌜ r ≡ leb (length (changesAhead (now (s .entry)) provinces)) room ⌝ }
 {
-    if MOST_CHANGES <= room {
+    if provinces.events_left(s) <= room {
         return true;
     }
     at_most(s, provinces, room)

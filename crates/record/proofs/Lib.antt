@@ -3,3 +3,4 @@ pub mod StepLaws
 pub mod OpenedLaws
 pub mod ToldLaws
 pub mod PointLaws
+pub mod SharedLaws

@@ -112,6 +112,10 @@ abbrev pub provinceTold : List ℕ → NextProvince.NextProvince → List Provin
 provinceTold xs (NextProvince.the-variants.Row r c) = provinceOf xs r ∷ provincesLeft xs c
 provinceTold xs NextProvince.the-variants.End = []
 
+-- The owner events that the provinces left share.
+abbrev pub allOwnerEvents : List ℕ → Provinces → List OwnerEvent
+allOwnerEvents xs c = runRows (ownerEventAt xs) 7 xs (c .events)
+
 abbrev pub warsLeft : List ℕ → Wars → List (List WarEvent)
 warsLeft xs c = groupWars (runRows (le16 xs) 2 xs (c .rows)) (runRows (warEventAt xs) 8 xs (c .events))
 

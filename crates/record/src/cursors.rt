@@ -11,7 +11,7 @@ ghost use mathlib.Core.Path.{_≡_};
 ghost use lib.ListN.{length};
 ghost use Rattle.record.specs.Cursors.{previousLeft, previousTold, switchesLeft, switchTold};
 ghost use Rattle.record.specs.Cursors.{ownerEventsLeft, ownerEventTold, warEventsLeft, warEventTold};
-ghost use Rattle.record.specs.Cursors.{countriesLeft, countryTold, provincesLeft, provinceTold, warsLeft, warTold};
+ghost use Rattle.record.specs.Cursors.{countriesLeft, countryTold, provincesLeft, provinceTold, allOwnerEvents, warsLeft, warTold};
 
 // A country's previous tags.
 pub struct PreviousTags(Run);
@@ -223,6 +223,14 @@ impl Provinces {
     {
         let rows = self.rows;
         rows.count(s, 7)
+    }
+
+    // How many owner events the provinces left share.
+    pub fn events_left(self, s: &[u8]) -> usize
+        ensures { λ r. ⌜ r ≡ length (allOwnerEvents (now (s .entry)) self) ⌝ }
+    {
+        let events = self.events;
+        events.count(s, 7)
     }
 }
 
