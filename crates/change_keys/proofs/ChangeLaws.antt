@@ -19,16 +19,12 @@ use Rattle.record.specs.declared.cursors.NextProvince as NextProvince
 use Rattle.record.specs.declared.cursors.OwnerEvents.{OwnerEvents}
 use Rattle.record.specs.declared.cursors.NextOwnerEvent as NextOwnerEvent
 use Rattle.format.specs.Tags.{sameTag}
-use Rattle.format.specs.Head.{headOf, eventsAt}
-use Rattle.format.specs.Rows.{ownerEventAt}
-use Rattle.format.specs.Campaign.{Province, provinceRows, ownerEvents, campaignOf}
+use Rattle.format.specs.Campaign.{Province, campaignOf}
 use Rattle.record.specs.Cursors.{ownerEventsLeft, ownerEventTold, provincesLeft, provinceTold, allOwnerEvents}
 use Rattle.record.proofs.SharedLaws.{events-shared}
 use Rattle.format.specs.Refusal.{refusal}
-use Rattle.format.proofs.AcceptLaws.{accepted, accepted-laid}
-use Rattle.format.proofs.RowLaws.{rows-counted}
-use Rattle.format.proofs.CampaignLaws.{told-row, told-end, events-owned}
-use Rattle.format.proofs.BoundLaws.{small-provinces, few-events}
+use Rattle.format.proofs.CampaignLaws.{told-row, told-end}
+use Rattle.format.proofs.BoundLaws.{small-provinces, few-events, events-bytes}
 use Rattle.rules.specs.Changes.{changesFrom, provinceChanges, byDateAndId, changesOf}
 use Rattle.change_keys.specs.ChangeSteps.{changesLeft, changesAhead, entered, mostChanges}
 pub use Rattle.change_keys.specs.ChangeSteps.{Narrow}
@@ -100,13 +96,7 @@ entered-few xs h = omega (arith, all-few (campaignOf xs .provinces), few-events 
 
 -- An owner event takes 7 bytes of the record, and a change is of one.
 pub entered-bytes : (xs : List ℕ) → refusal xs ≡ 0 → 7 * length (entered xs) ≤ length xs
-unfolding campaignOf
-entered-bytes xs h =
-    let events = all-few (campaignOf xs .provinces) in
-    let joined = length-joined (λ (p : Province). p .events) (campaignOf xs .provinces) in
-    let owned = events-owned (provinceRows xs) (ownerEvents xs) in
-    let counted = rows-counted (ownerEventAt xs) 7 xs (eventsAt (headOf xs)) (headOf xs .events) in
-    omega (arith, accepted-laid xs (accepted xs h) .inside)
+entered-bytes xs h = omega (arith, all-few (campaignOf xs .provinces), events-bytes xs h)
 
 pub changes-few : (xs : List ℕ) → refusal xs ≡ 0 → length (changesOf (campaignOf xs)) ≤ mostChanges
 unfolding changesOf

@@ -2,14 +2,14 @@
 use mathlib.Core.Path.{_≡_, refl}
 use mathlib.Core.Bool.{_&&_}
 use mathlib.Core.List.{List}
-use Prim.Native.Nat.{ℕ, _/_, _%_, _<_, _≤_}
+use Prim.Native.Nat.{ℕ, _+_, _*_, _/_, _%_, _<_, _≤_}
 use native.Mathlib.Nat.{div-div-eq-div-mul, div-add-mod}
 use native.Mathlib.Decide.{decLe}
 use native.Mathlib.Omega.{arith}
 use borrow.Author.Tests.{leb-true}
 use lib.Dec.{leb}
 use lib.ListN.{length, List·getD-eq-default}
-use Rattle.lists.specs.Lists.{All, sumOf}
+use Rattle.lists.specs.Lists.{All, joinOf, sumOf}
 use Rattle.lists.proofs.BoolLaws.{both}
 use Rattle.lists.proofs.ListLaws.{all-map, length-joined}
 use Rattle.lists.proofs.TableLaws.{entry}
@@ -17,9 +17,14 @@ use Rattle.format.specs.declared.tag.CountryTag.{CountryTag}
 use Rattle.format.specs.declared.date.Eu4Date.{Eu4Date}
 use Rattle.format.specs.declared.rows.OwnerEvent.{OwnerEvent}
 use Rattle.format.specs.Dates.{goodDate, year, month, day, monthTable, monthDays}
-use Rattle.format.specs.Campaign.{Province, campaignOf}
+use Rattle.format.specs.Head.{headOf, countriesAt, switchesAt, eventsAt}
+use Rattle.format.specs.Rows.{countryAt, switchAt, ownerEventAt}
+use Rattle.format.specs.Campaign.{Province, countryRows, previousTags, switchRows, provinceRows, ownerEvents, campaignOf}
 use Rattle.format.specs.Refusal.{refusal}
 use Rattle.format.specs.Sound.{GoodTag, GoodDate, GoodOwnerEvent, GoodProvince}
+use Rattle.format.proofs.AcceptLaws.{accepted, accepted-laid}
+use Rattle.format.proofs.RowLaws.{rows-counted}
+use Rattle.format.proofs.CampaignLaws.{countries-length, switches-owned, events-owned}
 use Rattle.format.proofs.TagLaws.{tag-bytes}
 use Rattle.format.proofs.SoundLaws.{sound}
 
@@ -84,3 +89,25 @@ small-provinces xs h = let s = sound xs h in all-map (province-small _ (s .fewPr
 -- At most 60,000 owner events in all.
 pub few-events : (xs : List ℕ) → refusal xs ≡ 0 → sumOf (λ p. length (p .events)) (campaignOf xs .provinces) ≤ 60000
 few-events xs h = omega (arith, length-joined (λ (p : Province). p .events) (campaignOf xs .provinces), sound xs h .fewEvents)
+
+-- ## How many bytes rows take
+
+-- An owner event takes 7 bytes of the record.
+pub events-bytes : (xs : List ℕ) → refusal xs ≡ 0 → 7 * sumOf (λ p. length (p .events)) (campaignOf xs .provinces) ≤ length xs
+unfolding campaignOf
+events-bytes xs h =
+    let joined = length-joined (λ (p : Province). p .events) (campaignOf xs .provinces) in
+    let owned = events-owned (provinceRows xs) (ownerEvents xs) in
+    let counted = rows-counted (ownerEventAt xs) 7 xs (eventsAt (headOf xs)) (headOf xs .events) in
+    omega (arith, accepted-laid xs (accepted xs h) .inside)
+
+-- A switch takes 7 of them, and a country more.
+pub switches-bytes : (xs : List ℕ) → refusal xs ≡ 0
+    → 7 * (length (campaignOf xs .countries) + length (joinOf (λ k. k .switches) (campaignOf xs .countries))) ≤ length xs
+unfolding campaignOf
+switches-bytes xs h =
+    let owned = switches-owned (countryRows xs) (previousTags xs) (switchRows xs) in
+    let switches = rows-counted (switchAt xs) 7 xs (switchesAt (headOf xs)) (headOf xs .switches) in
+    let grouped = countries-length (countryRows xs) (previousTags xs) (switchRows xs) in
+    let countries = rows-counted (countryAt xs) 12 xs (countriesAt (headOf xs)) (headOf xs .countries) in
+    omega (arith, accepted-laid xs (accepted xs h) .inside)

@@ -21,7 +21,7 @@ pub(crate) struct Walked {
 }
 
 // Whether there are at most so many changes.
-fn at_most(s: &[u8], provinces: Provinces, most: usize) -> bool
+fn changes_at_most(s: &[u8], provinces: Provinces, most: usize) -> bool
     ensures { λ r. ⌜ r ≡ leb (length (changesAhead (now (s .entry)) provinces)) most ⌝ }
 {
     let mut at = provinces.next(s);
@@ -49,7 +49,7 @@ pub(crate) fn has_room(s: &[u8], provinces: Provinces, room: usize) -> bool
     if provinces.events_left(s) <= room {
         return true;
     }
-    at_most(s, provinces, room)
+    changes_at_most(s, provinces, room)
 }
 
 // Writes the row of each change in entry order, and counts on the way how often one goes before the one in front of it: their keys tell.

@@ -13,13 +13,13 @@ use Rattle.record.specs.declared.runs.Run.{Run}
 use Rattle.format.specs.Bytes.{byteAt}
 use Rattle.format.specs.Rows.{stringsFrom}
 use Rattle.record.specs.Cursors.{runRows}
-use Rattle.record.specs.Runs.{hasRow, wholeLeft, pastRun, firstRun, skipRun}
+use Rattle.record.specs.Runs.{hasRow, standingRows, pastRun, firstRun, skipRun}
 use Rattle.format.proofs.RowLaws.{rows-end, rows-past, rows-more, rows-take, rows-drop, rows-drop-past, rows-length}
 
 -- ## The test of a run
 
 -- A run's first row is left, and stands whole.
-pub record Whole (size width : ℕ) (c : Run) : Type 0 where
+pub record WholeRow (size width : ℕ) (c : Run) : Type 0 where
   pub some : 0 < c .left
   pub inside : c .at + width ≤ size
 
@@ -28,7 +28,7 @@ both-true true b e = (refl, e)
 both-true false b e = (e, absurd (false≢true e))
 
 module _ (size width : ℕ) (c : Run) where
-  pub has-whole : Whole size width c → hasRow size width c ≡ true
+  pub has-whole : WholeRow size width c → hasRow size width c ≡ true
   unfolding hasRow
   has-whole w = simp (lt-ltb _ _ (w .some), le-leb _ _ (w .inside))
 
@@ -45,7 +45,7 @@ module _ (size width : ℕ) (c : Run) where
       ]
 
   -- a cursor's test found a row
-  pub whole : {b : Bool} → b ≡ hasRow size width c → not b ≡ false → Whole size width c
+  pub whole : {b : Bool} → b ≡ hasRow size width c → not b ≡ false → WholeRow size width c
   unfolding hasRow
   whole e h =
       let tests = both-true (ltb 0 (c .left)) (leb (c .at + width) size) (sym e ∙ not-false _ h) in
@@ -82,7 +82,7 @@ module _ {A : Type 0} (row : ℕ → A) (width : ℕ) (xs : List ℕ) (c : Run) 
       let w = whole (length xs) width c e h in
       rows-more row width xs (c .at) (c .left) (w .some) (w .inside)
 
-  pub run-length : 0 < width → length (runRows row width xs c) ≡ wholeLeft (length xs) width c
+  pub run-length : 0 < width → length (runRows row width xs c) ≡ standingRows (length xs) width c
   run-length p = rows-length row width xs p (c .at) (c .left)
 
   pub run-take : (n : ℕ) → take n (runRows row width xs c) ≡ runRows row width xs (firstRun n c)

@@ -9,8 +9,8 @@ unfoldable pub hasRow : ℕ → ℕ → Run → Bool
 hasRow size width c = ltb 0 (c .left) && leb (c .at + width) size
 
 -- How many rows are left and stand whole in so many bytes.
-abbrev pub wholeLeft : ℕ → ℕ → Run → ℕ
-wholeLeft size width c = min (c .left) ((size - c .at) / width)
+abbrev pub standingRows : ℕ → ℕ → Run → ℕ
+standingRows size width c = min (c .left) ((size - c .at) / width)
 
 -- Behind the first row; the first n rows; behind the first n rows.
 abbrev pub pastRun : ℕ → Run → Run

@@ -3,7 +3,7 @@ use lists::least;
 ghost use mathlib.Core.Path.{_≡_};
 ghost use Prim.Native.Nat.{_-_, _+_, _*_, _<_, _≤_};
 ghost use lib.ListN.{length};
-ghost use Rattle.record.specs.Runs.{hasRow, wholeLeft, firstRun, pastRun, skipRun};
+ghost use Rattle.record.specs.Runs.{hasRow, standingRows, firstRun, pastRun, skipRun};
 
 // Rows of one width: where the next one stands, and how many are left.
 pub struct Run {
@@ -34,7 +34,7 @@ impl Run {
     // How many rows of this width are left and stand whole in the bytes.
     pub(crate) fn count(self, s: &[u8], width: usize) -> usize
         requires { ⌜ 0 < width ⌝ }
-        ensures { λ r. ⌜ r ≡ wholeLeft (length (now (s .entry))) width self ⌝ }
+        ensures { λ r. ⌜ r ≡ standingRows (length (now (s .entry))) width self ⌝ }
     {
         least(self.left, difference(s.len(), self.at) / width)
     }

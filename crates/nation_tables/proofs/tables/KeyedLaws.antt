@@ -10,17 +10,12 @@ use lib.ListN.{length, length-append, length-map}
 use Rattle.lists.specs.Lists.{allOf, joinOf}
 use Rattle.lists.proofs.ListLaws.{all-map, all-allOf}
 use Rattle.format.specs.declared.rows.Switch.{Switch}
-use Rattle.format.specs.Head.{headOf, countriesAt, switchesAt}
-use Rattle.format.specs.Rows.{countryAt, switchAt}
-use Rattle.format.specs.Campaign.{Country, countryRows, previousTags, switchRows, campaignOf}
+use Rattle.format.specs.Campaign.{Country, campaignOf}
 use Rattle.format.specs.Refusal.{refusal}
 use Rattle.format.specs.Sound.{GoodSwitch, GoodCountry, GoodProvince}
-use Rattle.format.proofs.AcceptLaws.{accepted, accepted-laid}
-use Rattle.format.proofs.RowLaws.{rows-counted}
-use Rattle.format.proofs.CampaignLaws.{countries-length, switches-owned}
 use Rattle.format.proofs.SoundLaws.{sound}
 pub use Rattle.format.proofs.BoundLaws.{tag-small, date-small}
-use Rattle.format.proofs.BoundLaws.{date-most}
+use Rattle.format.proofs.BoundLaws.{date-most, switches-bytes}
 use Rattle.nation_tables.proofs.tables.OwnKeyLaws.{settling-count}
 use Rattle.nation_tables.specs.Layout.{mostCountries, mostSwitches, mostSettling, keyDates, keyTags}
 use Rattle.nation_tables.specs.Countries.{switchKey, switchKeysFrom, settlingKeysFrom, smallSwitch, Keyed, OwnLast}
@@ -74,15 +69,9 @@ module _ (xs : List ℕ) (h : refusal xs ≡ 0) where
 
   -- A switch takes 7 bytes of the record, and a country 12.
   pub settling-bytes : 7 * length (settlingKeysFrom 0 (campaignOf xs .countries)) ≤ length xs
-  unfolding campaignOf
   settling-bytes =
       let count = settling-count 0 (campaignOf xs .countries) in
-      let keys = keys-length 0 (campaignOf xs .countries) in
-      let owned = switches-owned (countryRows xs) (previousTags xs) (switchRows xs) in
-      let switches = rows-counted (switchAt xs) 7 xs (switchesAt (headOf xs)) (headOf xs .switches) in
-      let grouped = countries-length (countryRows xs) (previousTags xs) (switchRows xs) in
-      let countries = rows-counted (countryAt xs) 12 xs (countriesAt (headOf xs)) (headOf xs .countries) in
-      omega (arith, accepted-laid xs (accepted xs h) .inside)
+      omega (arith, keys-length 0 (campaignOf xs .countries), switches-bytes xs h)
 
   pub accepted-slotted : (slots : ℕ) → length (campaignOf xs .provinces) < slots → Slotted slots (campaignOf xs .provinces)
   accepted-slotted slots l =

@@ -10,15 +10,15 @@ use Rattle.rules.specs.Lent.{gives}
 use Rattle.change_keys.specs.ChangeSteps.{changeOf, changesLeft, changeTold, entered}
 use Rattle.change_keys.proofs.ChangeLaws.{entered-few}
 use Rattle.change_keys.proofs.EnteringLaws.{all-entered}
-use Rattle.owner_changes.proofs.CountLaws.{Counting, counting-none, counting-more, counting-small, counting-done, run-counted}
+use Rattle.owner_changes.proofs.CountLaws.{CountingChanges, counting-none, counting-more, counting-small, counting-done, run-counted}
 use borrow.Author.Needs.{needs}
 use Rattle.owner_changes.proofs.answers.count_on.Statement.{statement}
 use Rattle.owner_changes.proofs.answers.count_on.Tie as tie
 
 abbrev Inv-loop : tie.InvT-loop
 Inv-loop s day at₀ first₀ count₀ at first count =
-    Counting (λ x. earlier (x .date) day) (entered s) (changesLeft s at) first
-    × Counting (λ x. sameDate (x .date) day) (entered s) (changesLeft s at) count
+    CountingChanges (λ x. earlier (x .date) day) (entered s) (changesLeft s at) first
+    × CountingChanges (λ x. sameDate (x .date) day) (entered s) (changesLeft s at) count
 
 abbrev μ-loop : tie.MeasureT-loop
 μ-loop s day at₀ first₀ count₀ at first count = length (changesLeft s at)

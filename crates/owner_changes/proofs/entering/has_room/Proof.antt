@@ -10,11 +10,11 @@ events-left-requires c κs = tt
 returns : tie.Need-returns
 returns c = room-for-events _ _ _ (c .before .events-left .ensures) (c .if1 .taken)
 
-at-most-requires : tie.Need-at-most-requires
-at-most-requires c κs = search needs
+changes-at-most-requires : tie.Need-changes-at-most-requires
+changes-at-most-requires c κs = search needs
 
 returns-2 : tie.Need-returns-2
 returns-2 c = search needs
 
 pub has-room-spec : {M : Type 1} → statement M
-has-room-spec = tie.close (tie.spec events-left-requires returns at-most-requires returns-2)
+has-room-spec = tie.close (tie.spec events-left-requires returns changes-at-most-requires returns-2)

@@ -9,7 +9,7 @@ use mir.Facts.{toZ-ofZ}
 use mir.Syntax.{w32}
 use Rattle.format.specs.Rows.{countryAt}
 use Rattle.format.specs.Campaign.{groupCountries}
-use Rattle.record.proofs.RunLaws.{Whole, whole, run-end}
+use Rattle.record.proofs.RunLaws.{WholeRow, whole, run-end}
 use Rattle.record.proofs.StepLaws.{country-step}
 use Rattle.record.proofs.cursors.Countries.next.Statement.{statement}
 use Rattle.record.proofs.cursors.Countries.next.Tie as tie
@@ -22,7 +22,7 @@ unfolding groupCountries
 returns c = rw (run-end (countryAt _) _ _ _ (c .before .has .ensures) (c .if1 .taken))
 
 -- the row that the test found
-row-whole : (c : tie.Else1) → Whole (length (c .before .before .before .before .args .s .now)) 12 (c .before .before .before .before .args .self .rows)
+row-whole : (c : tie.Else1) → WholeRow (length (c .before .before .before .before .args .s .now)) 12 (c .before .before .before .before .args .self .rows)
 row-whole c = whole _ _ _ (c .before .has .ensures) (c .if1 .left)
 
 add-byte : tie.Need-add-byte

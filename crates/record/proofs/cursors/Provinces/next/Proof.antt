@@ -5,7 +5,7 @@ use borrow.Author.Needs.{needs}
 use lib.ListN.{length}
 use Rattle.format.specs.Rows.{provinceAt}
 use Rattle.format.specs.Campaign.{groupProvinces}
-use Rattle.record.proofs.RunLaws.{Whole, whole, run-end}
+use Rattle.record.proofs.RunLaws.{WholeRow, whole, run-end}
 use Rattle.record.proofs.StepLaws.{province-step}
 use Rattle.record.proofs.cursors.Provinces.next.Statement.{statement}
 use Rattle.record.proofs.cursors.Provinces.next.Tie as tie
@@ -18,7 +18,7 @@ unfolding groupProvinces
 returns c = rw (run-end (provinceAt _) _ _ _ (c .before .has .ensures) (c .if1 .taken))
 
 -- the row that the test found
-row-whole : (c : tie.Else1) → Whole (length (c .before .before .before .before .args .s .now)) 7 (c .before .before .before .before .args .self .rows)
+row-whole : (c : tie.Else1) → WholeRow (length (c .before .before .before .before .args .s .now)) 7 (c .before .before .before .before .args .self .rows)
 row-whole c = whole _ _ _ (c .before .has .ensures) (c .if1 .left)
 
 add-u16-at : tie.Need-add-u16-at

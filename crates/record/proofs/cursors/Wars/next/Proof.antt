@@ -5,7 +5,7 @@ use borrow.Author.Needs.{needs}
 use lib.ListN.{length}
 use Rattle.format.specs.Bytes.{le16}
 use Rattle.format.specs.Campaign.{groupWars}
-use Rattle.record.proofs.RunLaws.{Whole, whole, run-end}
+use Rattle.record.proofs.RunLaws.{WholeRow, whole, run-end}
 use Rattle.record.proofs.StepLaws.{war-step}
 use Rattle.record.proofs.cursors.Wars.next.Statement.{statement}
 use Rattle.record.proofs.cursors.Wars.next.Tie as tie
@@ -18,7 +18,7 @@ unfolding groupWars
 returns c = rw (run-end (le16 _) _ _ _ (c .before .has .ensures) (c .if1 .taken))
 
 -- the row that the test found
-row-whole : (c : tie.Else1) → Whole (length (c .before .before .before .before .args .s .now)) 2 (c .before .before .before .before .args .self .rows)
+row-whole : (c : tie.Else1) → WholeRow (length (c .before .before .before .before .args .s .now)) 2 (c .before .before .before .before .args .self .rows)
 row-whole c = whole _ _ _ (c .before .has .ensures) (c .if1 .left)
 
 u16-at-requires : tie.Need-u16-at-requires

@@ -5,7 +5,7 @@ use borrow.Author.Needs.{needs}
 use lib.ListN.{length}
 use Rattle.format.specs.Rows.{ledgerAt}
 use Rattle.format.specs.Campaign.{groupLedgers}
-use Rattle.record.proofs.RunLaws.{Whole, whole, run-end}
+use Rattle.record.proofs.RunLaws.{WholeRow, whole, run-end}
 use Rattle.record.proofs.StepLaws.{ledger-step}
 use Rattle.record.proofs.ledger.Ledgers.next.Statement.{statement}
 use Rattle.record.proofs.ledger.Ledgers.next.Tie as tie
@@ -18,7 +18,7 @@ unfolding groupLedgers
 returns c = rw (run-end (ledgerAt _) _ _ _ (c .before .has .ensures) (c .if1 .taken))
 
 -- the row that the test found
-row-whole : (c : tie.Else1) → Whole (length (c .before .before .before .before .args .s .now)) 5 (c .before .before .before .before .args .self .rows)
+row-whole : (c : tie.Else1) → WholeRow (length (c .before .before .before .before .args .s .now)) 5 (c .before .before .before .before .args .self .rows)
 row-whole c = whole _ _ _ (c .before .has .ensures) (c .if1 .left)
 
 add-u16-at : tie.Need-add-u16-at

@@ -3,7 +3,7 @@
 use native.Mathlib.Omega.{arith}
 use lib.ListN.{length}
 use Rattle.format.specs.Rows.{pointAt}
-use Rattle.record.proofs.RunLaws.{Whole, whole, run-end, run-more}
+use Rattle.record.proofs.RunLaws.{WholeRow, whole, run-end, run-more}
 use Rattle.record.proofs.ledger.Points.next.Statement.{statement}
 use Rattle.record.proofs.ledger.Points.next.Tie as tie
 
@@ -14,7 +14,7 @@ returns : tie.Need-returns
 returns c = run-end (pointAt _) _ _ _ (c .before .has .ensures) (c .if1 .taken)
 
 -- the row that the test found
-row-whole : (c : tie.Else1) → Whole (length (c .before .before .before .before .args .s .now)) 6 (c .before .before .before .before .args .self .0)
+row-whole : (c : tie.Else1) → WholeRow (length (c .before .before .before .before .args .s .now)) 6 (c .before .before .before .before .args .self .0)
 row-whole c = whole _ _ _ (c .before .has .ensures) (c .if1 .left)
 
 u16-at-requires : tie.Need-u16-at-requires

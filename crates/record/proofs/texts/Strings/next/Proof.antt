@@ -3,7 +3,7 @@
 use native.Mathlib.Omega.{arith}
 use borrow.Author.Needs.{needs}
 use lib.ListN.{length}
-use Rattle.record.proofs.RunLaws.{Whole, whole, no-whole, strings-end, strings-more}
+use Rattle.record.proofs.RunLaws.{WholeRow, whole, no-whole, strings-end, strings-more}
 use Rattle.record.proofs.texts.Strings.next.Statement.{statement}
 use Rattle.record.proofs.texts.Strings.next.Tie as tie
 
@@ -14,7 +14,7 @@ returns : tie.Need-returns
 returns c = strings-end _ _ _ (λ p. omega (arith, no-whole _ _ _ (c .before .has .ensures) (c .if1 .taken) p))
 
 -- the byte of the length, which the test found
-length-whole : (c : tie.Else1) → Whole (length (c .before .before .before .before .args .s .now)) 1 (c .before .before .before .before .args .self .0)
+length-whole : (c : tie.Else1) → WholeRow (length (c .before .before .before .before .args .s .now)) 1 (c .before .before .before .before .args .self .0)
 length-whole c = whole _ _ _ (c .before .has .ensures) (c .if1 .left)
 
 byte-requires : tie.Need-byte-requires

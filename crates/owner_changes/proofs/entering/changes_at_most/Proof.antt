@@ -10,8 +10,8 @@ use Rattle.format.proofs.CampaignLaws.{told-row, told-end}
 use Rattle.rules.specs.Changes.{provinceChanges}
 use Rattle.change_keys.specs.ChangeSteps.{changeOf, changesAhead, changesLeft, changeTold}
 use borrow.Author.Needs.{needs}
-use Rattle.owner_changes.proofs.entering.at_most.Statement.{statement}
-use Rattle.owner_changes.proofs.entering.at_most.Tie as tie
+use Rattle.owner_changes.proofs.entering.changes_at_most.Statement.{statement}
+use Rattle.owner_changes.proofs.entering.changes_at_most.Tie as tie
 
 abbrev Inv-loop : tie.InvT-loop
 Inv-loop s most at₀ left₀ at left = length (changesLeft s at) + most ≡ length (changesLeft s at₀) + left
@@ -68,8 +68,8 @@ returns-2 c =
     let end = told-end (changeTold _) (c .before .before .next-change .ensures) (c .enum-told .given .1) refl in
     sym (le-leb (length (changesAhead (start .args .s .now) (start .args .provinces))) (start .args .most) (omega (arith, at .loop .inv, ap length end, ahead)))
 
-pub at-most-spec : {M : Type 1} → statement M
-at-most-spec =
+pub changes-at-most-spec : {M : Type 1} → statement M
+changes-at-most-spec =
     tie.close
     (tie.spec
     Inv-loop
