@@ -2,9 +2,13 @@
 //!
 //! `bench [ROUNDS]`: best and median over so many rounds (default 201), the two taking turns; then
 //! the stack that `check` and the functions beside it need.
+//!
+//! `bench --records FOLDER`: writes the first two records into it, for trial/c/plain_check.c.
 
 use std::env;
+use std::fs;
 use std::hint::black_box;
+use std::path::Path;
 use std::process::{exit, Command, Stdio};
 use std::thread;
 use std::time::{Duration, Instant};
@@ -12,7 +16,7 @@ use std::time::{Duration, Instant};
 use chronicle::layout::{Counts, HEAD_COUNTS};
 use chronicle::raw::check;
 use chronicle_trial::generate::{about_600_kb, at_limits, counts_of, sized};
-use chronicle_trial::pack::pack;
+use chronicle_trial::pack::{pack, Campaign};
 use chronicle_trial::told::Told;
 use chronicle_trial::{number, reference};
 
@@ -20,12 +24,20 @@ use chronicle_trial::{number, reference};
 const ROUND: Duration = Duration::from_micros(200);
 
 const STACK_ARGUMENT: &str = "--within-stack";
+const RECORDS_ARGUMENT: &str = "--records";
+
+/// A record's name, and what it holds.
+type Named = (&'static str, fn() -> Campaign);
+
+/// The two records the ratio is asked for.
+const RECORDS: [Named; 2] = [("at limits", at_limits), ("600 KB", about_600_kb)];
 
 fn main() {
     let arguments: Vec<String> = env::args().skip(1).collect();
     match arguments.iter().map(String::as_str).collect::<Vec<_>>()[..] {
         [] => run(201),
         [STACK_ARGUMENT, function, kib] => within_stack(parsed(function), parsed(kib)),
+        [RECORDS_ARGUMENT, folder] => write_records(Path::new(folder)),
         [rounds] => run(parsed(rounds)),
         _ => usage(),
     }
@@ -36,7 +48,7 @@ fn parsed(text: &str) -> usize {
 }
 
 fn usage() -> ! {
-    eprintln!("usage: bench [ROUNDS]");
+    eprintln!("usage: bench [ROUNDS] | bench --records FOLDER");
     exit(2)
 }
 
@@ -49,12 +61,22 @@ fn run(rounds: usize) {
     stack();
 }
 
-/// The two records the ratio is asked for.
+fn write_records(folder: &Path) {
+    for (name, campaign) in RECORDS {
+        let path = folder.join(name.replace(' ', "_")).with_extension("atl");
+        if let Err(error) = fs::write(&path, pack(&campaign())) {
+            eprintln!("{}: {error}", path.display());
+            exit(1)
+        }
+        println!("{}", path.display());
+    }
+}
+
 fn compare(rounds: usize) {
     println!("times in µs, {rounds} rounds");
     println!("record        bytes | check: best   median | reference: best   median | ratio: best median");
-    for (name, campaign) in [("at limits", at_limits()), ("600 KB", about_600_kb())] {
-        let record = pack(&campaign);
+    for (name, campaign) in RECORDS {
+        let record = pack(&campaign());
         let [proved, independent] = measure(&record, rounds);
         println!(
             "{name:<10} {:>8} | {:>11.1} {:>8.1} | {:>15.1} {:>8.1} | {:>11.2} {:>6.2}",
