@@ -1,6 +1,6 @@
 -- The parts of a draft, one by one.
 use mathlib.Core.Path.{_≡_, refl, ap, _∙_}
-use mathlib.Core.Bool.{Bool, true, false, _&&_}
+use mathlib.Core.Bool.{Bool, _&&_}
 use mathlib.Core.List.{List, [], _∷_}
 use mathlib.Core.Option.{Option}
 use Prim.Native.Nat.{ℕ, zero, suc, _+_, _-_, _*_, _≤_}
@@ -10,6 +10,7 @@ use lib.IntN.{ℤ, pos, negsuc}
 use lib.Signed.{ltZ}
 use lib.ListN.{length, getD}
 use Rattle.lists.specs.Lists.{one}
+use Rattle.lists.proofs.BoolLaws.{one-small}
 use Rattle.format.specs.declared.tag.CountryTag.{CountryTag}
 use Rattle.format.specs.Tags.{sameTag}
 use Rattle.rules.specs.NationRows.{NationRow, nationRowsIn, wellShaped}
@@ -60,11 +61,7 @@ released-told human switched cities n count same z e f = rw (e, f, above-zero ci
 
 -- The word of two flags is small.
 pub flags-small : (a b : Bool) (x y : ℕ) → x ≡ one a → y ≡ one b → x + 2 * y ≤ 3
-flags-small a b x y p q = omega (arith, p, q, few a, few b)
-  where
-    few : (c : Bool) → one c ≤ 1
-    few true = omega arith
-    few false = omega arith
+flags-small a b x y p q = omega (arith, p, q, one-small a, one-small b)
 
 -- ## Which chronicles are taken
 

@@ -1,6 +1,9 @@
--- Case distinction on a test, with the equation in hand.
+-- Case distinction on a test, with the equation in hand; tests that are joined, and a test as a number.
 use mathlib.Core.Path.{_≡_, refl, sym, _∙_}
 use mathlib.Core.Bool.{Bool, true, false, _&&_, _||_, true≢false}
+use Prim.Native.Nat.{_≤_}
+use native.Mathlib.Omega.{arith}
+use Rattle.lists.specs.Lists.{one}
 
 pub cases : {C : Type 0} (b : Bool) → (b ≡ true → C) → (b ≡ false → C) → C
 cases true f g = f refl
@@ -31,3 +34,7 @@ neither false b p = (refl, p)
 
 pub both : (a b : Bool) → (a && b) ≡ true → (a ≡ true) × (b ≡ true)
 both a b p = (and-left a b p, and-right a b p)
+
+pub one-small : (b : Bool) → one b ≤ 1
+one-small true = omega arith
+one-small false = omega arith

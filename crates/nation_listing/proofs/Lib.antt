@@ -3,5 +3,5 @@ pub mod MergeEntryLaws
 pub mod ListingLaws
 pub mod CountNationsLaws
 pub mod WriteNationsLaws
-pub mod PlaceLaws
+pub mod PlacingLaws
 pub mod ReadingLaws

@@ -9,11 +9,10 @@ use borrow.Author.Tests.{ltb-true, lt-ltb}
 use lib.Dec.{ltb}
 use lib.ListN.{length, getD, take, drop, length-append, length-drop, length-map, drop-of-length-le}
 use lib.Seq.{drop-cons, length-take-le}
-use Rattle.lists.specs.Lists.{countOf}
 use Rattle.lists.proofs.BoolLaws.{cases}
 use Rattle.lists.proofs.ElementLaws.{all-inside}
 use Rattle.lists.proofs.ListLaws.{count-le, count-more, join-append}
-use Rattle.lists.proofs.WriteLaws.{Behind}
+use Rattle.sorting.proofs.SortLaws.{length-merge}
 use Rattle.format.specs.declared.tag.CountryTag.{CountryTag}
 use Rattle.nation_tables.specs.Layout.{keyRows, rowKeySpan, rowSpan, half}
 use Rattle.nation_listing.specs.declared.lives.Lives.{Lives}
@@ -21,7 +20,7 @@ use Rattle.nation_listing.specs.declared.lives.LivesCount.{LivesCount}
 use Rattle.rules.specs.Chronicle.{Entry, Nation}
 use Rattle.rules.specs.NationRows.{nationRowsFrom, entryWords, nationWidth, entryWidth}
 use Rattle.nation_tables.specs.Lookup.{rowIn}
-use Rattle.nation_tables.specs.Turning.{highHalves}
+use Rattle.nation_tables.specs.Turning.{highHalves, byDate}
 use Rattle.nation_listing.specs.Walks.{livedLeft, livesCount, Light}
 use Rattle.nation_tables.specs.Switches.{runStart, switchIn}
 use Rattle.nation_listing.specs.Entries.{mergedEntries, latestTag, EntriesWritten}
@@ -30,7 +29,6 @@ use Rattle.nation_listing.specs.Listing.{walkOf, livedOf, runOf, rowEntr
 use Rattle.nation_listing.specs.Listing.{Readable, NationsRoom, NationsPut}
 use Rattle.rules.proofs.RowLaws.{allEntries, length-nationWords, length-entryWords}
 use Rattle.nation_listing.proofs.WalkLaws.{lived-short}
-use Rattle.nation_listing.proofs.MergeEntryLaws.{length-merge}
 
 -- ## Runs of switches
 
@@ -62,7 +60,7 @@ module _ (w : Cells) where
       let run : List Entry = map (switchIn (w .targets)) (runOf (w .runs) row) in
       omega (
         arith,
-        length-merge run (livedOf w row .entries),
+        length-merge byDate run (livedOf w row .entries),
         length-map (runOf (w .runs) row) (switchIn (w .targets)),
         length-run (w .runs) row,
       )

@@ -7,7 +7,7 @@ use native.Mathlib.Omega.{arith}
 use lib.ListN.{length, getD, drop, length-drop}
 use lib.Seq.{getD-drop, drop-drop}
 use Rattle.lists.specs.Lists.{lastOr}
-use Rattle.lists.proofs.BoolLaws.{cases, clash}
+use Rattle.lists.proofs.BoolLaws.{clash}
 use Rattle.lists.proofs.ListLaws.{length-join}
 use Rattle.lists.proofs.WriteLaws.{Behind, Writing, writing-none, writing-more, writing-done}
 use Rattle.sorting.specs.Steps.{into, mergeBy}
@@ -57,22 +57,6 @@ merge-first a b xs ys h = simp h
 merge-second : (a b : Entry) (xs ys : List Entry) → byDate a b ≡ false → mergeBy byDate (a ∷ xs) (b ∷ ys) ≡ b ∷ mergeBy byDate (a ∷ xs) ys
 unfolding into mergeBy
 merge-second a b xs ys h = simp h
-
--- A list that is merged behind its first element.
-length-into : (x : Entry) (f : List Entry → List Entry) (n : ℕ) → ((zs : List Entry) → length (f zs) ≡ n + length zs)
-    → (ys : List Entry) → length (into byDate x f ys) ≡ suc n + length ys
-unfolding into
-length-into x f n g [] = omega (arith, g [])
-length-into x f n g (y ∷ ys) =
-    cases (byDate x y)
-    (λ h. simp h (omega (arith, g (y ∷ ys))))
-    (λ h. simp h (omega (arith, length-into x f n g ys)))
-
--- A merge has the elements of both.
-pub length-merge : (xs ys : List Entry) → length (mergeBy byDate xs ys) ≡ length xs + length ys
-unfolding into mergeBy
-length-merge [] ys = omega arith
-length-merge (x ∷ xs) ys = length-into x (mergeBy byDate xs) (length xs) (length-merge xs) ys
 
 -- A life told on the way may be walked on from.
 abbrev pub Lightly : NextLife → Type 0

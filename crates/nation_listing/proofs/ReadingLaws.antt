@@ -5,7 +5,7 @@ use mathlib.Core.List.{List, [], _∷_}
 use Prim.Native.Nat.{ℕ, zero, suc, _+_, _/_, _%_, _≤_, _<_, min}
 use native.Mathlib.Numerals.{add-one}
 use native.Mathlib.Omega.{arith}
-use borrow.Author.Tests.{leb-true, ltb-true, eqb-true, le-leb, lt-ltb, eq-eqb, not-true, not-false}
+use borrow.Author.Tests.{leb-true, ltb-true, eqb-true, le-leb, le-ltb, lt-ltb, eq-eqb, not-true, not-false}
 use lib.Dec.{leb, ltb, eqb}
 use lib.ListN.{length, drop, getD, length-map, drop-of-length-le}
 use Rattle.lists.specs.Lists.{All, allOf}
@@ -14,7 +14,8 @@ use Rattle.lists.proofs.EachLaws.{allOf-all}
 use Rattle.lists.proofs.ListLaws.{InOrder, all-map, all-both, all-allOf}
 use Rattle.lists.proofs.StepLaws.{next}
 use Rattle.sorting.specs.Sort.{sortBy}
-use Rattle.sorting.proofs.SortLaws.{Ordered, sort-ordered, leb-trans}
+use Rattle.sorting.specs.Steps.{fallsFrom}
+use Rattle.sorting.proofs.FallLaws.{falls-none}
 use Rattle.sorting.proofs.SortedKeyLaws.{sorted-up}
 use Rattle.format.specs.declared.date.Eu4Date.{Eu4Date}
 use Rattle.nation_tables.specs.Layout.{keyRows, keyNumbers, rowKeySpan, half, noChange}
@@ -72,16 +73,16 @@ module _ (xs : List ℕ) (good : Bool) (k : ℕ) (found : good && linksRise k (d
 
 -- ## What each test says
 
--- Keys that pass are in order, and such keys pass.
-rise-ordered : (last : ℕ) (xs : List ℕ) → keysRise last xs ≡ true → Ordered leb (last ∷ xs)
-rise-ordered last [] h = (tt, tt)
-rise-ordered last (x ∷ xs) h =
+-- Keys that pass have no fall, so they are in order; and keys in order pass.
+rise-falls : (last : ℕ) (xs : List ℕ) → keysRise last xs ≡ true → fallsFrom last xs ≡ 0
+unfolding fallsFrom
+rise-falls last [] h = refl
+rise-falls last (x ∷ xs) h =
     let b = both (leb last x) (keysRise x xs) h in
-    let behind = rise-ordered x xs (b .1) in
-    ((b .0, all-map (λ j g. leb-trans last x j (b .0) g) xs (behind .0)), behind)
+    rw (le-ltb x last (leb-true last x (b .0)), rise-falls x xs (b .1)) refl
 
 rise-sorted : (xs : List ℕ) → keysRise 0 xs ≡ true → sortBy leb xs ≡ xs
-rise-sorted xs h = sort-ordered leb xs (rise-ordered 0 xs h .1)
+rise-sorted xs h = falls-none xs (rise-falls 0 xs h)
 
 order-rise : (last : ℕ) (xs : List ℕ) → All (λ x. last ≤ x) xs → InOrder (λ (k : ℕ). k) xs → keysRise last xs ≡ true
 order-rise last [] q o = refl

@@ -5,16 +5,13 @@ use nation_tables::HALF;
 use nation_tables::KEY_NUMBERS;
 use nation_tables::KEY_ROWS;
 use nation_tables::NO_CHANGE;
-use nation_tables::WORD_SPAN;
+use nation_tables::ROW_KEY_SPAN;
 ghost use mathlib.Core.Path.{_≡_};
 ghost use Prim.Native.Nat.{_≤_};
 ghost use lib.ListN.{length};
 ghost use Rattle.lists.specs.Lists.{allOf};
 ghost use Rattle.nation_tables.specs.Layout.{noChange};
 ghost use Rattle.nation_listing.specs.Reading.{countsFit, leadsInside, fewSlots, keysRise, linksRise, readableBy};
-
-// The key of any word with a row is below this.
-const ROW_KEY_SPAN: u64 = WORD_SPAN * KEY_ROWS;
 
 // Whether so many initials, switches and changes are few enough, with a link for each change.
 fn counts_fit(initials: usize, runs: usize, keys: usize, turns: usize) -> bool

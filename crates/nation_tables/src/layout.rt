@@ -37,6 +37,9 @@ pub(crate) const LAST_DATE: u32 = 134217727;
 // What a word of 32 bits has room in.
 pub const WORD_SPAN: u64 = 4294967296;
 
+// The key of any word with a row is below this.
+pub const ROW_KEY_SPAN: u64 = WORD_SPAN * KEY_ROWS;
+
 // So many numbers lie between the settling keys of one tag and those of the next, and between the run keys of one row and those of the next.
 pub(crate) const TAG_SPAN: u64 = KEY_DATES * KEY_ROWS;
 

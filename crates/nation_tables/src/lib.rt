@@ -22,6 +22,7 @@ pub use layout::MOST_COUNTRIES;
 pub use layout::MOST_SETTLING;
 pub use layout::MOST_SLOTS;
 pub use layout::NO_CHANGE;
+pub use layout::ROW_KEY_SPAN;
 pub use layout::ROW_SPAN;
 pub use layout::WORD_SPAN;
 pub use lookup::last_within;

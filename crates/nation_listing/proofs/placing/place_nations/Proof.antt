@@ -1,5 +1,5 @@
 -- Tables that pass the test are counted, and where there is room they are written.
-use Rattle.nation_listing.proofs.PlaceLaws.{place-unread, place-counted, place-few, place-short, place-asked, place-put}
+use Rattle.nation_listing.proofs.PlacingLaws.{place-unread, place-counted, place-few, place-short, place-asked, place-put}
 use Rattle.nation_listing.proofs.placing.place_nations.Statement.{statement}
 use Rattle.nation_listing.proofs.placing.place_nations.Tie as tie
 

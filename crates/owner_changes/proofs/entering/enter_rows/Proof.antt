@@ -6,11 +6,12 @@ use Prim.Native.Nat.{_*_}
 use lib.Dec.{ltb}
 use lib.ListN.{length, length-take, length-drop}
 use Rattle.lists.specs.Lists.{joinOf}
+use Rattle.lists.proofs.BoolLaws.{one-small}
 use Rattle.lists.proofs.WriteLaws.{behind}
 use Rattle.format.proofs.CampaignLaws.{told-row, told-end}
 use Rattle.rules.specs.Changes.{provinceChanges, changeWidth, changeWords}
 use Rattle.change_keys.specs.ChangeSteps.{changeOf, changesLeft, changeTold}
-use Rattle.owner_changes.proofs.EnterRowLaws.{EnteringRows, one-small, enter-start, enter-room, enter-more, enter-done, rows-entered}
+use Rattle.owner_changes.proofs.EnterRowLaws.{EnteringRows, enter-start, enter-room, enter-more, enter-done, rows-entered}
 use borrow.Author.Needs.{needs}
 use Rattle.owner_changes.proofs.entering.enter_rows.Statement.{statement}
 use Rattle.owner_changes.proofs.entering.enter_rows.Tie as tie
