@@ -19,7 +19,7 @@ use Rattle.format.specs.Tags.{sameTag}
 use Rattle.format.specs.Campaign.{Country}
 use Rattle.rules.specs.Nations.{initialOf, mapsTo}
 use Rattle.nation_tables.specs.Layout.{keyRows}
-use Rattle.nation_tables.specs.Lookup.{noRow, rowIn, inRange, rowsWithin, lastWithin}
+use Rattle.nation_tables.specs.Lookup.{noRow, rowIn, inRange, rowsBetween, lastWithin}
 use Rattle.nation_tables.proofs.tables.LookupLaws.{begins-with}
 use Rattle.nation_tables.specs.Countries.{tagAtRow, tagWords, initialWords, placesOf, rowOf, mappedRow, wordKeys, rowKeys, RowMapped}
 
@@ -67,7 +67,7 @@ module _ (word : ℕ) where
       simp (k, g) (all-map (λ j l. le-leb (w * keyRows + row) j (omega arith)) (keep own (wordKeys (suc row) ws)) (own-from (suc row) ws (omega arith)), rest))
       (λ g. simp (k, g) rest)
 
-  pub places-within : (ws : List ℕ) → length ws ≤ keyRows → rowsWithin (word * keyRows) (word * keyRows + keyRows) (rowKeys ws) ≡ placesOf word 0 ws
+  pub places-within : (ws : List ℕ) → length ws ≤ keyRows → rowsBetween (word * keyRows) (word * keyRows + keyRows) (rowKeys ws) ≡ placesOf word 0 ws
   places-within ws h =
       ap (map rowIn)
       (keep-sort leb leb-total leb-trans own (wordKeys 0 ws) ∙ sort-ordered leb (keep own (wordKeys 0 ws)) (word-keys-order 0 ws (omega arith)))
