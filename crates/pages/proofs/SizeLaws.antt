@@ -149,9 +149,9 @@ text-short ns tags h few =
       length-append (line (ascii "selected" ∷ count ∷ [])) (joinOf one tags),
     )
 
-within : (b : Bool) → cond {A = ℕ} b 0 10 ≡ 0 → b ≡ true
-within true e = refl
-within false e = absurd (omega (arith, e))
+no-ten : (b : Bool) → cond {A = ℕ} b 0 10 ≡ 0 → b ≡ true
+no-ten true e = refl
+no-ten false e = absurd (omega (arith, e))
 
 module _ (xs selection : List ℕ) where
   pub page-length : bytesNumber xs selection ≡ 0 → limitsNumber (campaignOf xs) ≡ 0 → length (pageOf xs selection) ≤ 409615
@@ -159,8 +159,8 @@ module _ (xs selection : List ℕ) where
   page-length few limits =
       let c = campaignOf xs in
       let all = joinOf (λ n. n .entries) (nationsOf c) in
-      let b = both (leb (length xs) 65536) (leb (length selection) 65536) (within (leb (length xs) 65536 && leb (length selection) 65536) few) in
-      let l = both (leb (length (changesOf c)) 4000) (leb (length all) 5000) (within (leb (length (changesOf c)) 4000 && leb (length all) 5000) limits) in
+      let b = both (leb (length xs) 65536) (leb (length selection) 65536) (no-ten (leb (length xs) 65536 && leb (length selection) 65536) few) in
+      let l = both (leb (length (changesOf c)) 4000) (leb (length all) 5000) (no-ten (leb (length (changesOf c)) 4000 && leb (length all) 5000) limits) in
       text-short (nationsOf c) (tagsRead (selectionOf selection))
       (omega (arith, tags-few selection, leb-true (length selection) 65536 (b .1)))
       (leb-true (length all) 5000 (l .1))

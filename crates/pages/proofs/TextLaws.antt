@@ -55,7 +55,7 @@ module _ (xs : List ℕ) (z : refusal xs ≡ 0) {ws : List ℕ} (nations : ws �
         → cells ≡ livingCells ws es 0 (length (nationRowsIn ws)) ++ drop (length (nationRowsIn ws)) cells₀ → NationsListed xs ws cells
     cells-listed w cells₀ cells e =
         record {
-          within = w;
+          limits = w;
           nations = nations;
           long = living-inside ws es cells₀ cells e;
           living = living-all ws es cells₀ cells e shaped ∙ ap (map isLiving) told;
@@ -90,4 +90,4 @@ module _ (xs selection before : List ℕ) (begun : PageBegun xs selection) {ws :
 
   pub text-called : callText ws cells selection before ≡ callPage xs selection before
   text-called =
-      sym (tags-taken ws selection before cells rows-taken (begun .tags)) ∙ ap (λ t. callLines t before) same-text ∙ page-left xs selection before begun (l .within)
+      sym (tags-taken ws selection before cells rows-taken (begun .tags)) ∙ ap (λ t. callLines t before) same-text ∙ page-left xs selection before begun (l .limits)
