@@ -30,7 +30,7 @@ fn tag_bits(tag: CountryTag) -> u64
 }
 
 // The lowest key of a tag and a date: the tag's 21 bits, the date's 27, and 16 for a number.
-fn key_of(tag: CountryTag, date: Eu4Date) -> u64
+fn lowest_key(tag: CountryTag, date: Eu4Date) -> u64
     ensures { λ r. ⌜ (r ≡ lowestKey tag date) × (r + 65536 ≤ 18446744073709551616) ⌝ }
 {
     tag_bits(tag) * 8796093022208 + date.word() as u64 % 134217728 * 65536
@@ -60,7 +60,7 @@ fn fill_block(
             NextClaim::Row(claim, behind) => {
                 let tag = claim.tag;
                 let date = claim.date;
-                keys[count] = key_of(tag, date) + count as u64;
+                keys[count] = lowest_key(tag, date) + count as u64;
                 owners[count] = claim.nation as u64;
                 count += 1;
                 rest = behind;
@@ -106,7 +106,7 @@ fn key_before(keys: &[u64], i: usize, tag: CountryTag, date: Eu4Date) -> Looked
         return Looked::Nothing;
     }
     let key = keys[i - 1];
-    if key < key_of(tag, Eu4Date::kept(0)) {
+    if key < lowest_key(tag, Eu4Date::kept(0)) {
         Looked::Nothing
     } else {
         Looked::Key(key)
@@ -118,6 +118,6 @@ fn key_before(keys: &[u64], i: usize, tag: CountryTag, date: Eu4Date) -> Looked
 pub fn look_up_near(keys: &[u64], starts: &[u64], tag: CountryTag, date: Eu4Date) -> Looked
     ensures { λ r. ⌜ (sortBy leb (now (keys .entry)) ≡ now (keys .entry) → lookedTold r ≡ lastAsked tag date (now (keys .entry))) ⌝ }
 {
-    let i = count_near(keys, starts, key_of(tag, date) + 65535);
+    let i = count_near(keys, starts, lowest_key(tag, date) + 65535);
     key_before(keys, i, tag, date)
 }
