@@ -22,7 +22,7 @@ pub struct Words {
 }
 
 // Writes row i.
-pub(crate) fn put_row(out: &mut [u32], i: usize, row: Words)
+pub(crate) fn put_words(out: &mut [u32], i: usize, row: Words)
     requires { ⌜ 2 * i + 1 < length (now out) ⌝ }
     ensures { λ _. ⌜ now (out .exit) ≡ rowSet (now (out .entry)) i (row .first ∷ row .second ∷ []) ⌝ }
 {
