@@ -4,28 +4,20 @@ use mathlib.Core.Bool.{true, _&&_}
 use mathlib.Core.List.{List, [], _∷_, map}
 use Prim.Native.Nat.{ℕ, zero, suc, _-_, _<_}
 use native.Mathlib.Omega.{arith}
-use borrow.Author.Tests.{leb-true}
-use lib.Dec.{leb}
 use lib.ListN.{length}
 use Rattle.lists.specs.Lists.{All, numbersFrom}
 use Rattle.lists.proofs.BoolLaws.{and-left, and-right}
 use Rattle.lists.proofs.ListLaws.{all-map, all-append, all-join}
 use Rattle.format.specs.declared.date.Eu4Date.{Eu4Date}
 use Rattle.format.specs.Tags.{isTag}
-use Rattle.format.specs.Dates.{goodDate, year}
+use Rattle.format.specs.Dates.{goodDate}
+use Rattle.format.proofs.BoundLaws.{date-small}
 use Rattle.rules.specs.NationRows.{nationRowsIn, entryRowsIn, kindOf, kindShaped, wellShaped}
 use Rattle.chronicle_rows.specs.RowAt.{nationRowAt, entryRowAt, entryAt}
 use Rattle.chronicle_rows.proofs.NumberedLaws.{numbers-range, nation-inside, nation-tags, entry-good}
 use Rattle.resolver.specs.declared.claims.Claim.{Claim}
 use Rattle.resolver.specs.Claims.{kindClaims, switchClaims, nationClaims, claimsIn}
 use Rattle.questions.proofs.KeyLaws.{GoodClaim}
-
--- 27 bits hold a good date.
-pub date-small : (d : Eu4Date) → goodDate d ≡ true → d .0 < 134217728
-unfolding goodDate
-date-small d h =
-    let y = leb-true (year d) 9999 (and-right (leb 1 (year d)) (leb (year d) 9999) (and-left (leb 1 (year d) && leb (year d) 9999) _ h)) in
-    omega arith
 
 -- A good claim of a nation that is there.
 pub record SoundClaim (n : ℕ) (c : Claim) : Type 0 where

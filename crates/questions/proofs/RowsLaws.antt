@@ -18,6 +18,7 @@ use Rattle.format.specs.declared.tag.CountryTag.{CountryTag}
 use Rattle.format.specs.declared.date.Eu4Date.{Eu4Date}
 use Rattle.format.specs.Tags.{isTag}
 use Rattle.format.specs.Dates.{goodDate}
+use Rattle.format.proofs.BoundLaws.{date-small}
 use Rattle.rules.specs.NationRows.{nationRowsIn, nationsIn, wellShaped}
 use Rattle.rules.specs.Resolver.{plainData, resolvedNation, resolve}
 use Rattle.rules.specs.Questions.{Question, questionsIn, questionShaped, answerWords, answerRows}
@@ -33,7 +34,7 @@ use Rattle.questions.proofs.KeyLaws.{GoodClaim}
 use Rattle.questions.proofs.AskedLaws.{questions-next}
 use Rattle.questions.proofs.AnsweredLaws.{block-words, greatest-has, Has}
 use Rattle.questions.proofs.BestLaws.{block-best}
-use Rattle.questions.proofs.GoodLaws.{SoundClaim, date-small, claims-sound}
+use Rattle.questions.proofs.GoodLaws.{SoundClaim, claims-sound}
 
 -- ## Rows of two words
 
