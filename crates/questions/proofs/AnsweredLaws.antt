@@ -22,6 +22,7 @@ use Rattle.format.specs.Dates.{notAfter}
 use Rattle.resolver.specs.declared.claims.Claim.{Claim}
 use Rattle.resolver.specs.Claims.{isAsked, claimDay, bestOf}
 use Rattle.resolver.proofs.ResolvedLaws.{greatest-map}
+use Rattle.questions.specs.Layout.{claimDates, claimNumbers}
 use Rattle.questions.specs.Keys.{lowestKey, keysFrom, isAskedKey, lastAsked}
 use Rattle.questions.specs.Passes.{claimWords, keyWords}
 use Rattle.questions.proofs.KeyLaws.{GoodClaim, key-day, key-number, key-same-tag, asked-key}
@@ -111,10 +112,10 @@ claims-numbered k (c ∷ cs) = ap (λ (l : List Claim). c ∷ l) (claims-numbere
 -- A claim with its number in a block: it is good, and the number is small and leads to its nation.
 record KeyedClaim (owners : List ℕ) (z : Numbered) : Type 0 where
   good : GoodClaim (z .claim)
-  small : z .number < 65536
+  small : z .number < claimNumbers
   owner : getD owners (z .number) 0 ≡ z .claim .nation
 
-keyed-from : (front : List ℕ) (k : ℕ) (cs : List Claim) (back : List ℕ) → length front ≡ k → k + length cs ≤ 65536 → All GoodClaim cs
+keyed-from : (front : List ℕ) (k : ℕ) (cs : List Claim) (back : List ℕ) → length front ≡ k → k + length cs ≤ claimNumbers → All GoodClaim cs
     → All (KeyedClaim (front ++ (map (λ c. c .nation) cs ++ back))) (numberedFrom k cs)
 keyed-from front k [] back h l q = tt
 keyed-from front k (c ∷ cs) back h l q =
@@ -129,7 +130,7 @@ numbers-grow : (k : ℕ) (cs : List Claim) → All (λ z. k ≤ z .number) (numb
 numbers-grow k [] = tt
 numbers-grow k (c ∷ cs) = (omega arith, all-map (λ z h. omega arith) (numberedFrom (k + 1) cs) (numbers-grow (k + 1) cs))
 
-module _ (owners : List ℕ) (tag : CountryTag) (date : Eu4Date) (t : isTag tag ≡ true) (d : date .0 < 134217728) where
+module _ (owners : List ℕ) (tag : CountryTag) (date : Eu4Date) (t : isTag tag ≡ true) (d : date .0 < claimDates) where
   abbrev asks : Numbered → Bool
   asks z = isAsked tag date (z .claim)
 
@@ -186,6 +187,6 @@ module _ (owners : List ℕ) (tag : CountryTag) (date : Eu4Date) (t : isTag tag 
         go (some z) h = simp (key-day (z .claim) (h .good) (z .number) (h .small), key-number (z .claim) (h .good) (z .number) (h .small), h .owner)
 
 -- In a block whose claims are good, with their nation numbers in front of the owners.
-pub block-words : (tag : CountryTag) (date : Eu4Date) → isTag tag ≡ true → date .0 < 134217728 → (cs : List Claim) (back : List ℕ) → All GoodClaim cs → length cs ≤ 65536
+pub block-words : (tag : CountryTag) (date : Eu4Date) → isTag tag ≡ true → date .0 < claimDates → (cs : List Claim) (back : List ℕ) → All GoodClaim cs → length cs ≤ claimNumbers
     → claimWords (bestOf tag date cs) ≡ keyWords (map (λ c. c .nation) cs ++ back) (lastAsked tag date (sortBy leb (keysFrom 0 cs)))
 block-words tag date t d cs back q l = looked-words (map (λ c. c .nation) cs ++ back) tag date t d cs (keyed-from [] 0 cs back refl (omega arith) q)

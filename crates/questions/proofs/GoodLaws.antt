@@ -17,6 +17,7 @@ use Rattle.chronicle_rows.specs.RowAt.{nationRowAt, entryRowAt, entryAt}
 use Rattle.chronicle_rows.proofs.NumberedLaws.{numbers-range, nation-inside, nation-tags, entry-good}
 use Rattle.resolver.specs.declared.claims.Claim.{Claim}
 use Rattle.resolver.specs.Claims.{kindClaims, switchClaims, nationClaims, claimsIn}
+use Rattle.questions.specs.Layout.{claimDates}
 use Rattle.questions.proofs.KeyLaws.{GoodClaim}
 
 -- A good claim of a nation that is there.
@@ -24,7 +25,7 @@ pub record SoundClaim (n : ℕ) (c : Claim) : Type 0 where
   pub good : GoodClaim c
   pub there : c .nation < n
 
-kind-sound : (n i : ℕ) (date : Eu4Date) (kind target : ℕ) → i < n → date .0 < 134217728 → kindShaped kind target ≡ true → All (SoundClaim n) (kindClaims i date (kindOf kind target))
+kind-sound : (n i : ℕ) (date : Eu4Date) (kind target : ℕ) → i < n → date .0 < claimDates → kindShaped kind target ≡ true → All (SoundClaim n) (kindClaims i date (kindOf kind target))
 unfolding kindShaped
 kind-sound n i date zero target h d k = (record { good = record { tag = k; date = d }; there = h }, tt)
 kind-sound n i date (suc zero) target h d k = tt

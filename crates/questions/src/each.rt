@@ -2,6 +2,7 @@
 use crate::asked;
 use crate::blocks;
 use crate::blocks::BLOCK;
+use crate::layout::ROW_OWNERS;
 use crate::words;
 use crate::words::Words;
 use chronicle_rows::is_well_shaped;
@@ -136,7 +137,7 @@ fn answer_all(nations: &[u32], entries: &[u32], questions: &[u32], out: &mut [u3
     requires { ⌜ QuestionsReady (now nations) (now entries) (now questions) (now out) ⌝ }
     ensures { λ _. ⌜ now (out .exit) ≡ rowsWith (claimRow (now (nations .entry)) (now (entries .entry)) (now (questions .entry))) (length (questionsIn (now (questions .entry)))) (now (out .entry)) ⌝ }
 {
-    if 4294967295 <= nation_count(nations) {
+    if ROW_OWNERS <= nation_count(nations) {
         answer_each(nations, entries, questions, out);
         return;
     }
