@@ -37,27 +37,27 @@ length-finished first [] = refl
 length-finished first (d ∷ ds) = ap suc (length-finished (first + d .count) ds)
 
 -- The words of so many of the drafts left, of n in all.
-abbrev pub wordsLeft : ℕ → ℕ → ℕ → List HistoryRow → List ℕ
-wordsLeft first n k left = joinOf historyRowWords (historiesFrom first (take (n - k) left))
+abbrev pub wordsToCome : ℕ → ℕ → ℕ → List HistoryRow → List ℕ
+wordsToCome first n k left = joinOf historyRowWords (historiesFrom first (take (n - k) left))
 
 pub length-words : (first n : ℕ) (left : List HistoryRow) → length (joinOf historyRowWords (historiesFrom first (take n left))) ≤ 7 * n
 length-words first n left =
     omega (arith, length-rows (historiesFrom first (take n left)), length-finished first (take n left), length-take n left)
 
 pub words-new : (first n : ℕ) (out : List ℕ) (ds : List HistoryRow) → 7 * n ≤ length out
-    → Filling (joinOf historyRowWords (historiesFrom first (take n ds))) (wordsLeft first n 0 ds) out (7 * 0) out
+    → Filling (joinOf historyRowWords (historiesFrom first (take n ds))) (wordsToCome first n 0 ds) out (7 * 0) out
 words-new first n out ds h =
     let z : n - 0 ≡ n = omega arith in
     rw z (filling-new (joinOf historyRowWords (historiesFrom first (take n ds))) out (omega (arith, length-words first n ds)))
 
 pub words-next : (first n k : ℕ) {left : List HistoryRow} (d : HistoryRow) (rest : List HistoryRow) → k < n → left ≡ d ∷ rest
-    → wordsLeft first n k left ≡ historyRowWords (historyFrom d first) ++ wordsLeft (first + d .count) n (k + 1) rest
+    → wordsToCome first n k left ≡ historyRowWords (historyFrom d first) ++ wordsToCome (first + d .count) n (k + 1) rest
 unfolding historiesFrom
 words-next first n k d rest h e =
     let z : n - k ≡ suc (n - (k + 1)) = omega arith in
     rw (e, z) refl
 
-pub words-none : (first n k : ℕ) {left : List HistoryRow} → left ≡ [] → wordsLeft first n k left ≡ []
+pub words-none : (first n k : ℕ) {left : List HistoryRow} → left ≡ [] → wordsToCome first n k left ≡ []
 unfolding historiesFrom
 words-none first n k e = rw e (go (n - k))
   where
@@ -65,7 +65,7 @@ words-none first n k e = rw e (go (n - k))
     go zero = refl
     go (suc m) = refl
 
-pub words-done : (first n k : ℕ) (left : List HistoryRow) → n ≤ k → wordsLeft first n k left ≡ []
+pub words-done : (first n k : ℕ) (left : List HistoryRow) → n ≤ k → wordsToCome first n k left ≡ []
 unfolding historiesFrom
 words-done first n k left h = let z : n - k ≡ 0 = omega arith in rw z refl
 

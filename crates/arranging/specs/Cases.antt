@@ -16,9 +16,9 @@ historiesAnswer (PlayerHistories.the-variants.Rows n) = gives (countsTold n)
 historiesAnswer (PlayerHistories.the-variants.Refused n) = refused n
 
 -- Two lent slices.
-abbrev pub lentCells : List ℕ → List ℕ → R.HistoryCells
-lentCells rows names = record { rows = rows; names = names }
+abbrev pub historyCells : List ℕ → List ℕ → R.HistoryCells
+historyCells rows names = record { rows = rows; names = names }
 
 -- The answer with the lent slices after the call.
 abbrev pub historiesOutcome : PlayerHistories.PlayerHistories → List ℕ → List ℕ → Outcome R.HistoryCounts R.HistoryCells
-historiesOutcome r rows names = record { answer = historiesAnswer r; memory = lentCells rows names }
+historiesOutcome r rows names = record { answer = historiesAnswer r; memory = historyCells rows names }

@@ -6,7 +6,7 @@ use history_rows::HISTORY_WIDTH;
 use history_rows::history_count;
 ghost use mathlib.Core.Path.{_≡_};
 ghost use Rattle.rules.specs.HistoryRows.{historyRowsIn};
-ghost use Rattle.arranging.specs.Cases.{historiesOutcome, lentCells};
+ghost use Rattle.arranging.specs.Cases.{historiesOutcome, historyCells};
 ghost use Rattle.arranging.specs.Arranging.{isReady, ArrangeReady, draftedOutcome, arrangedOutcome};
 
 // The most drafts that are taken: no record has more countries.
@@ -45,7 +45,7 @@ fn put_drafts(
     names: &mut [u32],
 ) -> PlayerHistories
     requires { ⌜ ArrangeReady (historyRowsIn (now drafts)) (now keys) ⌝ }
-    ensures { λ r. ⌜ historiesOutcome r (now (histories .exit)) (now (names .exit)) ≡ draftedOutcome ironman (historyRowsIn (now (drafts .entry))) (now (keys .entry)) (lentCells (now (histories .entry)) (now (names .entry))) ⌝ }
+    ensures { λ r. ⌜ historiesOutcome r (now (histories .exit)) (now (names .exit)) ≡ draftedOutcome ironman (historyRowsIn (now (drafts .entry))) (now (keys .entry)) (historyCells (now (histories .entry)) (now (names .entry))) ⌝ }
 {
     let played = walk::count_drafts(drafts, true);
     let idle = walk::count_drafts(drafts, false);
@@ -73,7 +73,7 @@ pub fn arrange_drafts(
     histories: &mut [u32],
     names: &mut [u32],
 ) -> PlayerHistories
-    ensures { λ r. ⌜ historiesOutcome r (now (histories .exit)) (now (names .exit)) ≡ arrangedOutcome ironman (historyRowsIn (now (drafts .entry))) (now (keys .entry)) (lentCells (now (histories .entry)) (now (names .entry))) ⌝ }
+    ensures { λ r. ⌜ historiesOutcome r (now (histories .exit)) (now (names .exit)) ≡ arrangedOutcome ironman (historyRowsIn (now (drafts .entry))) (now (keys .entry)) (historyCells (now (histories .entry)) (now (names .entry))) ⌝ }
 {
     if !is_ready(drafts, keys) {
         return PlayerHistories::Refused(11);

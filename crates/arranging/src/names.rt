@@ -10,7 +10,7 @@ ghost use Rattle.rules.specs.Lent.{written};
 ghost use Rattle.rules.specs.HistoryRows.{historyRowsIn};
 ghost use Rattle.arranging.specs.Arranging.{nameIn, namesAt, NamesFit, leadsWithin};
 
-// The numbers of names that a key can hold.
+// The numbers of names that a key can hold: as many as `search::KEYS_PER_TAG`, of a crate that is not below this one.
 const NAME_NUMBERS: u64 = 65536;
 
 // Whether each draft leads to keys that there are.

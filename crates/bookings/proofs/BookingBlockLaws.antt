@@ -16,6 +16,7 @@ use Rattle.rules.specs.Bookings.{Joining}
 use Rattle.resolver.specs.declared.claims.Claim.{Claim}
 use Rattle.resolver.specs.declared.claims.Walk.{Walk}
 use Rattle.resolver.specs.Claims.{claimsIn, claimsLeft, walkStart, bestOf, isAsked, claimDay}
+use Rattle.questions.specs.Layout.{rowOwners}
 use Rattle.questions.specs.Keys.{SortsBlock, blockRoom}
 use Rattle.questions.specs.Passes.{claimWords}
 use Rattle.questions.proofs.AnsweredLaws.{Has, greatest-has}
@@ -71,11 +72,11 @@ blocks-next ws es js before walk out keys owners scratch t rest count keys₁ ow
 
 -- ## In the end
 
-module _ (ws es : List ℕ) (shaped : wellShaped ws es ≡ true) (few : length (nationRowsIn ws) < 4294967295) where
+module _ (ws es : List ℕ) (shaped : wellShaped ws es ≡ true) (few : length (nationRowsIn ws) < rowOwners) where
   turn : (j : Joining) (o : Option Claim) → Has claimDay claimDay (SoundClaim (length (nationRowsIn ws))) o
       → ownerStored ws (j .tag) (getD (0 ∷ claimWords o) 2 0) ≡ claimStored ws (j .tag) o
   turn j none h = refl
-  turn j (some c) h = let small : c .nation < 4294967295 = let t = h .there in omega arith in rw (mod-eq-of-lt small, add-one (c .nation))
+  turn j (some c) h = let small : c .nation < rowOwners = let t = h .there in omega arith in rw (mod-eq-of-lt small, add-one (c .nation))
 
   pub final-rows : (js : List Joining) (before out new : List ℕ) → out ≡ rowsBy (λ j _. bestBookingRow (claimsIn ws es) j) js before → new ≡ rowsBy (finalRow ws) js out
       → new ≡ rowsBy (λ j _. claimedRow ws es j) js before

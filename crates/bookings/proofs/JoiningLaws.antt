@@ -30,8 +30,8 @@ use Rattle.bookings.specs.Passes.{GoodJoining}
 -- ## One step of the walk
 
 -- A walk at a war takes a step for each event that it has left, and one more; so it does for each war behind it.
-abbrev pub steps : List (List WarEvent) → ℕ
-steps ws = sumOf (λ es. length es + 1) ws
+abbrev pub warSteps : List (List WarEvent) → ℕ
+warSteps ws = sumOf (λ es. length es + 1) ws
 
 module _ (xs : List ℕ) (war : ℕ) (events : WarEvents) (wars : Wars) {at : NextWar.NextWar} (here : at ≡ NextWar.the-variants.Row events wars)
     {r : NextWarEvent.NextWarEvent} (told : warEventsLeft xs events ≡ warEventTold xs r) where
@@ -44,7 +44,7 @@ module _ (xs : List ℕ) (war : ℕ) (events : WarEvents) (wars : Wars) {at : Ne
     unfolding joiningsFrom
     walk-on = let e : war + 1 ≡ suc war = omega arith in rw (here, none, e)
 
-    pub walk-on-less : steps (warsLeft xs wars) < steps (warTold xs at)
+    pub walk-on-less : warSteps (warsLeft xs wars) < warSteps (warTold xs at)
     walk-on-less = rw here (omega arith)
 
     pub walk-on-few : war + length (warTold xs at) ≤ 4294967295 → war + 1 + length (warsLeft xs wars) ≤ 4294967295
@@ -66,7 +66,7 @@ module _ (xs : List ℕ) (war : ℕ) (events : WarEvents) (wars : Wars) {at : Ne
     unfolding joiningsFrom
     walk-joining h = rw (here, first) (simp (le-leb (e .kind) 1 h))
 
-    pub walk-less : steps (warTold xs passed) < steps (warTold xs at)
+    pub walk-less : warSteps (warTold xs passed) < warSteps (warTold xs at)
     walk-less = rw here (omega (arith, ap length first))
 
     pub walk-few : war + length (warTold xs at) ≤ 4294967295 → war + length (warTold xs passed) ≤ 4294967295

@@ -14,6 +14,7 @@ use Rattle.rules.specs.Bookings.{Joining}
 use Rattle.chronicle_rows.specs.RowAt.{nationRowAt}
 use Rattle.resolver.specs.declared.claims.Claim.{Claim}
 use Rattle.resolver.specs.Claims.{claimsIn, bestOf}
+use Rattle.questions.specs.Layout.{claimDates}
 use Rattle.questions.specs.Keys.{lastAsked}
 use Rattle.questions.specs.Passes.{claimWords, updated}
 use Rattle.bookings.specs.declared.joinings.JoiningWalk.{JoiningWalk}
@@ -76,7 +77,7 @@ pub record Room (xs : List ℕ) (w : JoiningWalk) (out : List ℕ) : Type 0 wher
 -- A joining that a key can be asked for.
 pub record GoodJoining (j : Joining) : Type 0 where
   pub tag : isTag (j .tag) ≡ true
-  pub date : j .date .0 < 134217728
+  pub date : j .date .0 < claimDates
 
 -- n good joinings, a well-shaped chronicle, and room.
 pub record BookingReady (xs : List ℕ) (w : JoiningWalk) (n : ℕ) (ws es out : List ℕ) : Type 0 where

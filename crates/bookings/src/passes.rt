@@ -5,6 +5,7 @@ use crate::joinings::NextJoining;
 use crate::rows;
 use chronicle_rows::nation_count;
 use questions::BLOCK;
+use questions::ROW_OWNERS;
 use questions::sort_block;
 use resolver::Walk;
 use search::CELLS;
@@ -152,7 +153,7 @@ pub(crate) fn book_rows(
     requires { ⌜ BookingReady (now s) start n (now nations) (now entries) (now out) ⌝ }
     ensures { λ _. ⌜ now (out .exit) ≡ rowsBy (λ j _. claimedRow (now (nations .entry)) (now (entries .entry)) j) (joiningsLeft (now (s .entry)) start) (now (out .entry)) ⌝ }
 {
-    if 4294967295 <= nation_count(nations) {
+    if ROW_OWNERS <= nation_count(nations) {
         claim_rows(s, start, nations, entries, out);
         return;
     }

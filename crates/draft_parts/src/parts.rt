@@ -4,13 +4,13 @@ use chronicle_rows::is_well_shaped;
 use chronicle_rows::nation_at;
 use chronicle_rows::nation_count;
 use history_rows::History;
+use lists::one;
 use record::CountryRow;
 use record::CountryTag;
 ghost use mathlib.Core.Path.{_≡_};
 ghost use mathlib.Core.Bool.{_&&_};
 ghost use lib.Dec.{leb};
 ghost use lib.ListN.{length};
-ghost use Rattle.lists.specs.Lists.{one as oneOf};
 ghost use Rattle.rules.specs.NationRows.{nationRowsIn, wellShaped};
 ghost use Rattle.chronicle_rows.specs.Cases.{nationTold};
 ghost use Rattle.history_rows.specs.Cases.{historyTold};
@@ -42,13 +42,6 @@ pub fn nation_of(nations: &[u32], tag: CountryTag, word: u32) -> Nation
     nation_at(nations, word as usize - 1)
 }
 
-// 1 if it is so, else 0.
-fn one(b: bool) -> u32
-    ensures { λ r. ⌜ r ≡ oneOf b ⌝ }
-{
-    if b { 1 } else { 0 }
-}
-
 // Whether a country with so many players was released and is played on.
 fn is_released(human: bool, switched: bool, cities: i32, n: Nation, count: u32) -> bool
     ensures { λ r. ⌜ r ≡ releasedBy human switched cities (nationTold n) count ⌝ }
@@ -71,7 +64,7 @@ pub fn draft_of(row: CountryRow, n: Nation, word: u32, first: u32, count: u32) -
         latest,
         stored,
         nation: word,
-        human: one(human) + 2 * one(released),
+        human: (one(human) + 2 * one(released)) as u32,
         first,
         count,
     }

@@ -230,9 +230,6 @@ module _ (keys : List ℕ) where
     abbrev isOut : Bool
     isOut = isPopped ironman (map draft hs)
 
-    popped-same : isOut ≡ pops ironman (keep hasPlayers hs) (keep (λ h. not (hasPlayers h)) hs)
-    popped-same = rw (named-drafts hs, idle-drafts hs)
-
     pub words-same : draftWords isOut (map draft hs) ≡ historyWords whole
     words-same =
         sym

@@ -62,8 +62,8 @@ players-rising c few =
 
 -- ## The keys of one tag
 
-within : (a b m : ℕ) → m < 65536 → (leb (b * 65536) (a * 65536 + m) && ltb (a * 65536 + m) (b * 65536 + 65536)) ≡ eqb a b
-within a b m h =
+own-key : (a b m : ℕ) → m < 65536 → (leb (b * 65536) (a * 65536 + m) && ltb (a * 65536 + m) (b * 65536 + 65536)) ≡ eqb a b
+own-key a b m h =
     cases (eqb a b)
     (λ e. let q = eqb-true a b e in simp (e, le-leb (b * 65536) (a * 65536 + m) (omega arith), lt-ltb (a * 65536 + m) (b * 65536 + 65536) (omega arith)))
     (λ e. cases (leb (b * 65536) (a * 65536 + m))
@@ -83,7 +83,7 @@ module _ (ps : List Player) (tag : CountryTag) (rising : Rising 0 65536 ps) wher
   keys-own : keep isOwn (map playerKey ps) ≡ map playerKey own
   keys-own =
       keep-map isOwn playerKey ps
-      ∙ ap (map playerKey) (keep-same (λ p. isOwn (playerKey p)) (λ p. sameTag (p .tag) tag) ps (all-each (λ p. within (p .tag .0) (tag .0) (p .name % 65536) (omega arith)) ps))
+      ∙ ap (map playerKey) (keep-same (λ p. isOwn (playerKey p)) (λ p. sameTag (p .tag) tag) ps (all-each (λ p. own-key (p .tag .0) (tag .0) (p .name % 65536) (omega arith)) ps))
 
   ordered : (qs : List Player) → All (λ q. (sameTag (q .tag) tag ≡ true) × (q .name < 65536)) qs → InOrder (λ (q : Player). q .name) qs → Ordered leb (map playerKey qs)
   ordered [] a o = tt

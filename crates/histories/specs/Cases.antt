@@ -5,7 +5,7 @@ use Prim.Native.Nat.{ℕ}
 use Rattle.format.specs.Refusal.{refusal}
 use Rattle.record.specs.declared.opened.Record.{Record}
 use Rattle.record.specs.Opened.{Tells}
-pub use Rattle.arranging.specs.Cases.{countsTold, historiesAnswer, lentCells, historiesOutcome}
+pub use Rattle.arranging.specs.Cases.{countsTold, historiesAnswer, historyCells, historiesOutcome}
 
 -- An accepted record, opened.
 pub record AcceptedRecord (xs : List ℕ) (r : Record) : Type 0 where

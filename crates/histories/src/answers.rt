@@ -15,7 +15,7 @@ ghost use Prim.Native.Nat.{ℕ, _≤_};
 ghost use lib.ListN.{length};
 ghost use Rattle.rules.specs.NationRows.{nationRowsIn, wellShaped};
 ghost use Rattle.rules.specs.PlayerOutcomes.{callPlayerHistories};
-ghost use Rattle.histories.specs.Cases.{historiesOutcome, lentCells, AcceptedRecord};
+ghost use Rattle.histories.specs.Cases.{historiesOutcome, historyCells, AcceptedRecord};
 
 // The words of a draft for each of the most countries.
 const MOST_WORDS: usize = 14000;
@@ -29,7 +29,7 @@ fn drafted_histories(
     names: &mut [u32],
 ) -> PlayerHistories
     requires { ⌜ AcceptedRecord (now s) rows ⌝ }
-    ensures { λ r. ⌜ ((es : List ℕ) → wellShaped (now (nations .entry)) es ≡ true → length (nationRowsIn (now (nations .entry))) ≤ 4294967295 → historiesOutcome r (now (histories .exit)) (now (names .exit)) ≡ callPlayerHistories (now (s .entry)) (now (nations .entry)) es (lentCells (now (histories .entry)) (now (names .entry)))) ⌝ }
+    ensures { λ r. ⌜ ((es : List ℕ) → wellShaped (now (nations .entry)) es ≡ true → length (nationRowsIn (now (nations .entry))) ≤ 4294967295 → historiesOutcome r (now (histories .exit)) (now (names .exit)) ≡ callPlayerHistories (now (s .entry)) (now (nations .entry)) es (historyCells (now (histories .entry)) (now (names .entry)))) ⌝ }
 {
     let countries = rows.countries;
     let strings = rows.strings;
@@ -57,7 +57,7 @@ pub fn player_histories(
     histories: &mut [u32],
     names: &mut [u32],
 ) -> PlayerHistories
-    ensures { λ r. ⌜ historiesOutcome r (now (histories .exit)) (now (names .exit)) ≡ callPlayerHistories (now (s .entry)) (now (nations .entry)) (now (entries .entry)) (lentCells (now (histories .entry)) (now (names .entry))) ⌝ }
+    ensures { λ r. ⌜ historiesOutcome r (now (histories .exit)) (now (names .exit)) ≡ callPlayerHistories (now (s .entry)) (now (nations .entry)) (now (entries .entry)) (historyCells (now (histories .entry)) (now (names .entry))) ⌝ }
 {
     match record::open_record(s) {
         Opened::Accepted(rows) => {

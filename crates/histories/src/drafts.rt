@@ -11,6 +11,7 @@ use record::Countries;
 use record::CountryRow;
 use record::CountryTag;
 use record::NextCountry;
+use search::KEYS_PER_TAG;
 use search::count_below;
 use search::tag_key;
 use sorting::sort_keys;
@@ -25,9 +26,6 @@ ghost use Rattle.record.specs.Cursors.{countryOf};
 ghost use Rattle.search.specs.Places.{tagKeysFrom};
 ghost use Rattle.history_rows.specs.Cases.{historyTold};
 ghost use Rattle.histories.specs.Drafts.{playedLeft, playedTold, RunOf, draftFor, FillReady, FillsDrafts, DraftReady, HoldsDrafts};
-
-// One more of a tag adds this to a key.
-const KEYS_PER_TAG: u64 = 65536;
 
 // How many numbers a word can hold.
 const WORDS: u64 = 4294967296;

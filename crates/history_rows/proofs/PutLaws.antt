@@ -10,13 +10,13 @@ use Rattle.lists.proofs.ListLaws.{length-join}
 use Rattle.lists.proofs.FillLaws.{Filling, filling-behind}
 use Rattle.lists.proofs.WriteLaws.{behind}
 use Rattle.rules.specs.HistoryRows.{HistoryRow, historyRowWords}
-use Rattle.history_rows.specs.HistoryAt.{rowPut}
+use Rattle.history_rows.specs.HistoryAt.{historyPut}
 
 module _ (d : HistoryRow) (ws : List ℕ) where
-  pub put-short : length ws < 7 → ws ≡ rowPut d ws
+  pub put-short : length ws < 7 → ws ≡ historyPut d ws
   put-short h = rw (lt-leb 7 (length ws) h)
 
-  pub put-whole : 7 ≤ length ws → historyRowWords d ++ drop 7 ws ≡ rowPut d ws
+  pub put-whole : 7 ≤ length ws → historyRowWords d ++ drop 7 ws ≡ historyPut d ws
   put-whole h = rw (le-leb 7 (length ws) h)
 
 pub length-rows : (ds : List HistoryRow) → length (joinOf historyRowWords ds) ≡ 7 * length ds
@@ -28,7 +28,7 @@ module _ (all rest rest′ before now ys : List ℕ) (k : ℕ) (d : HistoryRow) 
   row-room = omega (arith, f .fits, f .long, ap length e ∙ length-append (historyRowWords d) rest′)
 
   -- It was put into the tail.
-  pub row-more : (x : HistoryRow) → x ≡ d → ys ≡ rowPut x (take (length now - 7 * k) (drop (7 * k) now))
+  pub row-more : (x : HistoryRow) → x ≡ d → ys ≡ historyPut x (take (length now - 7 * k) (drop (7 * k) now))
       → Filling all rest′ before (7 * (k + 1)) (take (7 * k) now ++ (ys ++ drop (length now - 7 * k) (drop (7 * k) now)))
   row-more x q w =
       let z : 7 * k + 7 ≡ 7 * (k + 1) = omega arith in

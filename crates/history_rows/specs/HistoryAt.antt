@@ -11,5 +11,5 @@ unfoldable pub historyRowAt : List ℕ → ℕ → HistoryRow
 historyRowAt ws i = getD (historyRowsIn ws) i (historyRowOf [])
 
 -- Words with a row in place of the first seven; fewer than seven stay as they are.
-abbrev pub rowPut : HistoryRow → List ℕ → List ℕ
-rowPut d ws = cond (leb 7 (length ws)) (historyRowWords d ++ drop 7 ws) ws
+abbrev pub historyPut : HistoryRow → List ℕ → List ℕ
+historyPut d ws = cond (leb 7 (length ws)) (historyRowWords d ++ drop 7 ws) ws

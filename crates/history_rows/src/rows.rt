@@ -8,7 +8,7 @@ ghost use Rattle.lists.specs.Lists.{allOf};
 ghost use Rattle.rules.specs.Chronicle.{Nation};
 ghost use Rattle.rules.specs.HistoryRows.{historyRowsIn, historyShaped, historiesShaped};
 ghost use Rattle.history_rows.specs.Cases.{historyTold};
-ghost use Rattle.history_rows.specs.HistoryAt.{historyRowAt, rowPut};
+ghost use Rattle.history_rows.specs.HistoryAt.{historyRowAt, historyPut};
 
 // How many words a history row has.
 pub const HISTORY_WIDTH: usize = 7;
@@ -60,7 +60,7 @@ pub fn history_at(histories: &[u32], i: usize) -> History
 
 // Writes the seven words of a row; a slice without room for them stays as it is.
 pub fn put_history(x: History, out: &mut [u32])
-    ensures { λ _. ⌜ now (out .exit) ≡ rowPut (historyTold x) (now (out .entry)) ⌝ }
+    ensures { λ _. ⌜ now (out .exit) ≡ historyPut (historyTold x) (now (out .entry)) ⌝ }
 {
     if out.len() < HISTORY_WIDTH {
         return;

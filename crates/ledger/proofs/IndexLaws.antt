@@ -30,14 +30,14 @@ use Rattle.ledger.specs.Index.{AtFirstLedger, nameKeys, placesFrom, Fill
 
 -- ## Keys and places of names
 
-abbrev tagsOf : List Ledger → List CountryTag
-tagsOf ls = map (λ l. l .tag) ls
+abbrev ledgerTags : List Ledger → List CountryTag
+ledgerTags ls = map (λ l. l .tag) ls
 
 abbrev size : Ledger → ℕ
 size l = length (l .points)
 
 length-names : (ls : List Ledger) → length (nameKeys ls) ≡ length ls
-length-names ls = length-tag-keys 0 (tagsOf ls) ∙ length-map ls (λ l. l .tag)
+length-names ls = length-tag-keys 0 (ledgerTags ls) ∙ length-map ls (λ l. l .tag)
 
 length-places : (first : ℕ) (ls : List Ledger) → length (placesFrom first ls) ≡ length ls
 unfolding placesFrom
@@ -68,7 +68,7 @@ size-most (l ∷ ls) (suc i) d h = omega (arith, size-most ls i d (omega arith))
 
 -- So many names are done, with so many points, and the others are left.
 pub record Naming (all left : List Ledger) (first count : ℕ) (keys₀ keys places₀ places : List ℕ) : Type 0 where
-  pub keys-so-far : Filling (nameKeys all) (tagKeysFrom count (tagsOf left)) keys₀ count keys
+  pub keys-so-far : Filling (nameKeys all) (tagKeysFrom count (ledgerTags left)) keys₀ count keys
   pub places-so-far : Filling (placesFrom 0 all) (placesFrom first left) places₀ count places
   pub few : count + length left ≤ 2000
   pub few-points : first + sumOf size left ≤ 1000000
@@ -93,8 +93,8 @@ naming-start xs c keys places a k p =
 
 module _ {all left : List Ledger} {first count : ℕ} {keys₀ keys places₀ places : List ℕ} (n : Naming all left first count keys₀ keys places₀ places) where
   module _ {l : Ledger} {rest : List Ledger} (e : left ≡ l ∷ rest) where
-    keys-left : tagKeysFrom count (tagsOf left) ≡ tagKey (l .tag) count ∷ tagKeysFrom (count + 1) (tagsOf rest)
-    keys-left = ap (λ (ls : List Ledger). tagKeysFrom count (tagsOf ls)) e ∙ tag-keys-cons count (l .tag) (tagsOf rest)
+    keys-left : tagKeysFrom count (ledgerTags left) ≡ tagKey (l .tag) count ∷ tagKeysFrom (count + 1) (ledgerTags rest)
+    keys-left = ap (λ (ls : List Ledger). tagKeysFrom count (ledgerTags ls)) e ∙ tag-keys-cons count (l .tag) (ledgerTags rest)
 
     places-left : placesFrom first left ≡ (first * 4294967296 + size l) ∷ placesFrom (first + size l) rest
     places-left = ap (placesFrom first) e ∙ places-cons first l rest
@@ -123,7 +123,7 @@ pub naming-done : (xs : List ℕ) {left : List Ledger} {first count : ℕ} {keys
     → Naming (campaignOf xs .ledgers) left first count keys₀ keys places₀ places → left ≡ [] → FillsNames xs count keys₀ keys places₀ places
 naming-done xs {first = first} {count = count} n e =
     let ls = campaignOf xs .ledgers in
-    let k = ap (λ (l : List Ledger). tagKeysFrom count (tagsOf l)) e ∙ tag-keys-nil count in
+    let k = ap (λ (l : List Ledger). tagKeysFrom count (ledgerTags l)) e ∙ tag-keys-nil count in
     let p = ap (placesFrom first) e ∙ places-nil first in
     record {
       counted = filling-count _ _ _ _ _ (n .keys-so-far) k ∙ length-names ls;
@@ -190,8 +190,8 @@ module _ {xs : List ℕ} {c : Ledgers} {keys places : List ℕ} (x : Indexed xs 
   abbrev noName : Ledger
   noName = record { tag = tag; points = [] }
 
-  place-told : placeTold r ≡ placeFrom 0 tag (tagsOf names)
-  place-told = told (tagsOf names) (omega (arith, length-map names (λ (l : Ledger). l .tag), some-names .0)) (x .sorted)
+  place-told : placeTold r ≡ placeFrom 0 tag (ledgerTags names)
+  place-told = told (ledgerTags names) (omega (arith, length-map names (λ (l : Ledger). l .tag), some-names .0)) (x .sorted)
 
   first-told : firstThat (λ l. sameTag (l .tag) tag) names ≡ Option·map (λ i. getD names i noName) (placeTold r)
   first-told = first-placed (λ (l : Ledger). l .tag) tag noName names ∙ ap (Option·map (λ i. getD names i noName)) (sym place-told)
@@ -202,7 +202,7 @@ module _ {xs : List ℕ} {c : Ledgers} {keys places : List ℕ} (x : Indexed xs 
   module _ {i : ℕ} (e : r ≡ Place.the-variants.At i) where
     inside : i < length names
     inside =
-        omega (arith, place-inside tag (tagsOf names) i (sym place-told ∙ ap placeTold e), length-map names (λ (l : Ledger). l .tag))
+        omega (arith, place-inside tag (ledgerTags names) i (sym place-told ∙ ap placeTold e), length-map names (λ (l : Ledger). l .tag))
 
     pub found-inside : i < length places
     found-inside =

@@ -16,15 +16,15 @@ abbrev pub inRange : ℕ → ℕ → ℕ → Bool
 inRange low high key = leb low key && ltb key high
 
 -- The rows of the keys between two numbers, in the order of the keys.
-abbrev pub rowsWithin : ℕ → ℕ → List ℕ → List ℕ
-rowsWithin low high keys = map rowIn (keep (inRange low high) keys)
+abbrev pub rowsBetween : ℕ → ℕ → List ℕ → List ℕ
+rowsBetween low high keys = map rowIn (keep (inRange low high) keys)
 
 -- The first of these rows, and the last.
 unfoldable pub firstWithin : ℕ → ℕ → List ℕ → ℕ
-firstWithin low high keys = firstOr noRow (rowsWithin low high keys)
+firstWithin low high keys = firstOr noRow (rowsBetween low high keys)
 
 unfoldable pub lastWithin : ℕ → ℕ → List ℕ → ℕ
-lastWithin low high keys = lastOr noRow (rowsWithin low high keys)
+lastWithin low high keys = lastOr noRow (rowsBetween low high keys)
 
 -- The first n keys are there, and in order.
 pub record FirstSorted (n : ℕ) (keys : List ℕ) : Type 0 where

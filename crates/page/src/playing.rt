@@ -4,7 +4,7 @@ use chronicle::Players;
 use host_answers::minus;
 use host_answers::put_starting;
 ghost use Rattle.rules.specs.PlayerOutcomes.{callPlayers};
-ghost use Rattle.histories.specs.Cases.{lentCells};
+ghost use Rattle.histories.specs.Cases.{historyCells};
 ghost use Rattle.host_answers.specs.Host.{Returns};
 ghost use Rattle.host_answers.specs.Playing.{callPlayerHistoriesGiven, callStartingCountryCells};
 
@@ -29,7 +29,7 @@ pub extern "C" fn player_histories(
     histories: &mut [u32],
     names: &mut [u32],
 ) -> i64
-    ensures { λ r. ⌜ Returns (callPlayerHistoriesGiven (now (s .entry)) (now (nations .entry)) (now (entries .entry)) (lentCells (now (histories .entry)) (now (names .entry)))) r (lentCells (now (histories .exit)) (now (names .exit))) ⌝ }
+    ensures { λ r. ⌜ Returns (callPlayerHistoriesGiven (now (s .entry)) (now (nations .entry)) (now (entries .entry)) (historyCells (now (histories .entry)) (now (names .entry)))) r (historyCells (now (histories .exit)) (now (names .exit))) ⌝ }
 {
     match chronicle::player_histories(s, nations, entries, histories, names) {
         PlayerHistories::Rows(n) => n.histories as i64,

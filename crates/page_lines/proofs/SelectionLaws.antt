@@ -79,19 +79,19 @@ module _ (xs : List ℕ) (at : ℕ) where
 -- ## Tags counted
 
 -- So many tags more.
-abbrev pub counted : ℕ → Option (List CountryTag) → Option ℕ
-counted n o = Option·map (λ ts. n + length ts) o
+abbrev pub moreTags : ℕ → Option (List CountryTag) → Option ℕ
+moreTags n o = Option·map (λ ts. n + length ts) o
 
-pub counted-zero : (o : Option (List CountryTag)) → counted 0 o ≡ Option·map length o
-counted-zero none = refl
-counted-zero (some ts) = let e : 0 + length ts ≡ length ts = omega arith in ap some e
+pub tags-zero : (o : Option (List CountryTag)) → moreTags 0 o ≡ Option·map length o
+tags-zero none = refl
+tags-zero (some ts) = let e : 0 + length ts ≡ length ts = omega arith in ap some e
 
-pub counted-end : (n : ℕ) → counted n (some []) ≡ some n
-counted-end n = let e : n + 0 ≡ n = omega arith in ap some e
+pub tags-end : (n : ℕ) → moreTags n (some []) ≡ some n
+tags-end n = let e : n + 0 ≡ n = omega arith in ap some e
 
-pub counted-more : (n : ℕ) (t : CountryTag) (o : Option (List CountryTag)) → counted (n + 1) o ≡ counted n (Option·map (λ ts. t ∷ ts) o)
-counted-more n t none = refl
-counted-more n t (some ts) = let e : n + 1 + length ts ≡ n + (1 + length ts) = omega arith in ap some (e ∙ ap (λ m. n + m) (omega arith))
+pub tags-more : (n : ℕ) (t : CountryTag) (o : Option (List CountryTag)) → moreTags (n + 1) o ≡ moreTags n (Option·map (λ ts. t ∷ ts) o)
+tags-more n t none = refl
+tags-more n t (some ts) = let e : n + 1 + length ts ≡ n + (1 + length ts) = omega arith in ap some (e ∙ ap (λ m. n + m) (omega arith))
 
 nobody : (t : CountryTag) (o : Option (List CountryTag)) → o ≡ some [] → o ≡ some (t ∷ []) → ⊥
 nobody t o h k =

@@ -19,7 +19,7 @@ use Rattle.rules.specs.PageOutcomes.{selectionNumber}
 use Rattle.rules.proofs.LentLaws.{outcome-refused, outcome-gives}
 use Rattle.page_lines.specs.Lines.{heading}
 use Rattle.page_text.specs.Stored.{linesOf}
-use Rattle.page_text.specs.Texts.{callLines, textOf, rowsNumber, callText}
+use Rattle.page_text.specs.Texts.{callLines, linesText, rowsNumber, callText}
 
 -- ## Two limits, and a selection
 
@@ -66,7 +66,7 @@ module _ (text before : List ℕ) where
 
 module _ (ws selection before : List ℕ) (cells : List Bool) where
   abbrev text : List ℕ
-  text = textOf ws cells (tagsRead (selectionOf selection))
+  text = linesText ws cells (tagsRead (selectionOf selection))
 
   abbrev rows : ℕ
   rows = length (nationRowsIn ws)

@@ -25,7 +25,7 @@ use Rattle.search.specs.Places.{placeFrom}
 use Rattle.search.proofs.PlaceLaws.{first-placed, place-inside}
 use Rattle.page_lines.specs.Lines.{tagField, statusField, rowLine, absentLine, heading}
 use Rattle.page_text.specs.Stored.{lineAt, lineOf, linesOf}
-use Rattle.page_text.specs.Texts.{textOf}
+use Rattle.page_text.specs.Texts.{linesText}
 
 -- ## Tags that were read
 
@@ -162,6 +162,6 @@ module _ (ws es : List ℕ) (shaped : wellShaped ws es ≡ true) (cells : List B
   lines-found (t ∷ ts) h = ap₂ _++_ (line-found t (h .0)) (lines-found ts (h .1))
 
   -- The text by rows and cells is the page of the nations that they tell.
-  pub text-page : (selection : List ℕ) (tags : List CountryTag) → selectionOf selection ≡ some tags → textOf ws cells tags ≡ pageText (nationsIn ws es) tags
+  pub text-page : (selection : List ℕ) (tags : List CountryTag) → selectionOf selection ≡ some tags → linesText ws cells tags ≡ pageText (nationsIn ws es) tags
   unfolding pageText line
   text-page selection tags e = ap (λ (l : List ℕ). heading (length tags) ++ l) (lines-found tags (tags-tagged selection tags e))

@@ -28,8 +28,8 @@ abbrev pub callLines : List ℕ → List ℕ → Outcome ℕ (List ℕ)
 callLines text before = outcome (roomNumber (fits text before)) (length text) (written text before) before
 
 -- The text of tags, by nation rows and a status cell for each.
-abbrev pub textOf : List ℕ → List Bool → List CountryTag → List ℕ
-textOf ws cells tags = heading (length tags) ++ linesOf ws cells tags
+abbrev pub linesText : List ℕ → List Bool → List CountryTag → List ℕ
+linesText ws cells tags = heading (length tags) ++ linesOf ws cells tags
 
 -- 10: more rows than a record can have nations, or a row without a status cell.
 abbrev pub rowsNumber : List ℕ → List Bool → ℕ
@@ -38,7 +38,7 @@ rowsNumber ws cells = roomNumber (leb (length (nationRowsIn ws)) 2000 && leb (le
 -- Refused by the rows, by a selection that is not tags, or for want of room.
 unfoldable pub callText : List ℕ → List Bool → List ℕ → List ℕ → Outcome ℕ (List ℕ)
 callText ws cells selection before =
-    let text = textOf ws cells (tagsRead (selectionOf selection)) in
+    let text = linesText ws cells (tagsRead (selectionOf selection)) in
     outcome
     (firstOf (rowsNumber ws cells ∷ selectionNumber (selectionOf selection) ∷ roomNumber (fits text before) ∷ []))
     (length text)

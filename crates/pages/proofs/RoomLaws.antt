@@ -60,8 +60,8 @@ module _ (lent : NationCells) (l : LentFor lent) (xs : List ℕ) (z : refusal xs
   small : SmallCounts (countsOf (answersOf c))
   small = counts-small xs z
 
-  abbrev within : Bool
-  within = leb (length (changesOf c)) 4000 && leb (length (joinOf (λ n. n .entries) (nationsOf c))) 5000
+  abbrev underLimits : Bool
+  underLimits = leb (length (changesOf c)) 4000 && leb (length (joinOf (λ n. n .entries) (nationsOf c))) 5000
 
   -- Nations, slots and countries always have room; entries and changes up to the limits.
   nations-fit : leb (length (nationWords (nationsOf c))) (length (lent .nations)) ≡ true
@@ -82,7 +82,7 @@ module _ (lent : NationCells) (l : LentFor lent) (xs : List ℕ) (z : refusal xs
   changes-fit : leb (length (changeRows (changesOf c))) (length (lent .changes)) ≡ leb (length (changesOf c)) 4000
   changes-fit = same-test (length (changeRows (changesOf c))) (length (lent .changes)) (length (changesOf c)) 4000 (λ h. omega (arith, length-changeRows (changesOf c), l .changes, h)) (λ h. omega (arith, length-changeRows (changesOf c), l .changes, h))
 
-  fit : allFit (cellsOf (answersOf c)) lent ≡ within
+  fit : allFit (cellsOf (answersOf c)) lent ≡ underLimits
   unfolding cellsOf answersOf
   fit = rw (nations-fit, entries-fit, holders-fit, held-fit, changes-fit) (turned (leb (length (joinOf (λ n. n .entries) (nationsOf c))) 5000) (leb (length (changesOf c)) 4000))
 

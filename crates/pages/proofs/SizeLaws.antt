@@ -25,35 +25,35 @@ use Rattle.rules.specs.PageOutcomes.{bytesNumber, limitsNumber, pageOf}
 -- ## Digits
 
 -- A number below the bound has so many digits at most.
-abbrev Short : ℕ → ℕ → Type 0
-Short bound most = (steps n : ℕ) → n < bound → length (digits steps n) ≤ most
+abbrev FewDigits : ℕ → ℕ → Type 0
+FewDigits bound most = (steps n : ℕ) → n < bound → length (digits steps n) ≤ most
 
-short-one : Short 10 1
+digits-one : FewDigits 10 1
 unfolding digits
-short-one zero n h = omega arith
-short-one (suc steps) n h =
+digits-one zero n h = omega arith
+digits-one (suc steps) n h =
     cases (ltb n 10) (λ t. rw t (omega arith)) (λ f. absurd (omega (arith, h, ltb-false n 10 f)))
 
-short-more : (bound most : ℕ) → Short bound most → Short (10 * bound) (most + 1)
+digits-more : (bound most : ℕ) → FewDigits bound most → FewDigits (10 * bound) (most + 1)
 unfolding digits
-short-more bound most short zero n h = omega arith
-short-more bound most short (suc steps) n h =
+digits-more bound most short zero n h = omega arith
+digits-more bound most short (suc steps) n h =
     cases (ltb n 10) (λ t. rw t (omega arith))
     (λ f.
     let l = length-append (digits steps (n / 10)) ((48 + n % 10) ∷ []) in
     let s = short steps (n / 10) (omega (arith, h)) in
     rw f (omega (arith, l, s)))
 
-short-four : Short 10000 4
-short-four = short-more 1000 3 (short-more 100 2 (short-more 10 1 short-one))
+digits-four : FewDigits 10000 4
+digits-four = digits-more 1000 3 (digits-more 100 2 (digits-more 10 1 digits-one))
 
-short-five : Short 100000 5
-short-five = short-more 10000 4 short-four
+digits-five : FewDigits 100000 5
+digits-five = digits-more 10000 4 digits-four
 
 -- A number of 32 bits has ten digits at most.
 pub word-digits : (n : ℕ) → n < 4294967296 → length (decimal n) ≤ 10
 word-digits n h =
-    let ten : Short 10000000000 10 = short-more 1000000000 9 (short-more 100000000 8 (short-more 10000000 7 (short-more 1000000 6 (short-more 100000 5 short-five)))) in
+    let ten : FewDigits 10000000000 10 = digits-more 1000000000 9 (digits-more 100000000 8 (digits-more 10000000 7 (digits-more 1000000 6 (digits-more 100000 5 digits-five)))) in
     ten (n + 1) n (omega (arith, h))
 
 -- ## Lines
@@ -81,7 +81,7 @@ line-short t none h =
 line-short t (some n) h =
     let status = cond (isLiving n) (ascii "living") (ascii "annexed") in
     let count = decimal (length (n .entries)) in
-    let d : length count ≤ 4 = short-four (length (n .entries) + 1) (length (n .entries)) (omega (arith, h n refl)) in
+    let d : length count ≤ 4 = digits-four (length (n .entries) + 1) (length (n .entries)) (omega (arith, h n refl)) in
     omega (
       arith,
       d,
@@ -134,7 +134,7 @@ unfolding pageText
 text-short ns tags h few =
     let eight : length (ascii "selected") ≡ 8 = refl in
     let count = decimal (length tags) in
-    let d : length count ≤ 5 = short-five (length tags + 1) (length tags) (omega (arith, h)) in
+    let d : length count ≤ 5 = digits-five (length tags + 1) (length tags) (omega (arith, h)) in
     let one : CountryTag → List ℕ = λ t. tagLine t (firstThat (λ n. sameTag (n .stored) t) ns) in
     let each : (t : CountryTag) → length (one t) ≤ 25 =
     λ t. line-short t (firstThat (λ n. sameTag (n .stored) t) ns) (λ n e. omega (arith, few, first-entries (λ m. sameTag (m .stored) t) ns n e)) in
@@ -149,9 +149,9 @@ text-short ns tags h few =
       length-append (line (ascii "selected" ∷ count ∷ [])) (joinOf one tags),
     )
 
-within : (b : Bool) → cond {A = ℕ} b 0 10 ≡ 0 → b ≡ true
-within true e = refl
-within false e = absurd (omega (arith, e))
+no-ten : (b : Bool) → cond {A = ℕ} b 0 10 ≡ 0 → b ≡ true
+no-ten true e = refl
+no-ten false e = absurd (omega (arith, e))
 
 module _ (xs selection : List ℕ) where
   pub page-length : bytesNumber xs selection ≡ 0 → limitsNumber (campaignOf xs) ≡ 0 → length (pageOf xs selection) ≤ 409615
@@ -159,8 +159,8 @@ module _ (xs selection : List ℕ) where
   page-length few limits =
       let c = campaignOf xs in
       let all = joinOf (λ n. n .entries) (nationsOf c) in
-      let b = both (leb (length xs) 65536) (leb (length selection) 65536) (within (leb (length xs) 65536 && leb (length selection) 65536) few) in
-      let l = both (leb (length (changesOf c)) 4000) (leb (length all) 5000) (within (leb (length (changesOf c)) 4000 && leb (length all) 5000) limits) in
+      let b = both (leb (length xs) 65536) (leb (length selection) 65536) (no-ten (leb (length xs) 65536 && leb (length selection) 65536) few) in
+      let l = both (leb (length (changesOf c)) 4000) (leb (length all) 5000) (no-ten (leb (length (changesOf c)) 4000 && leb (length all) 5000) limits) in
       text-short (nationsOf c) (tagsRead (selectionOf selection))
       (omega (arith, tags-few selection, leb-true (length selection) 65536 (b .1)))
       (leb-true (length all) 5000 (l .1))

@@ -22,7 +22,7 @@ use Rattle.rules.specs.PageOutcomes.{selectionNumber, limitsNumber, pageOf, cal
 use Rattle.rules.proofs.RowLaws.{read-written, nation-rows, length-rowsFrom}
 use Rattle.rules.proofs.ShapeLaws.{nations-good, well-shaped}
 use Rattle.nations.proofs.answer.NationSizeLaws.{nations-few}
-use Rattle.page_text.specs.Texts.{callLines, textOf, rowsNumber, callText}
+use Rattle.page_text.specs.Texts.{callLines, linesText, rowsNumber, callText}
 use Rattle.page_text.proofs.PageLaws.{text-page}
 use Rattle.page_text.proofs.OutcomeLaws.{tags-taken}
 use Rattle.pages.specs.Status.{livingCells}
@@ -55,7 +55,7 @@ module _ (xs : List ℕ) (z : refusal xs ≡ 0) {ws : List ℕ} (nations : ws �
         → cells ≡ livingCells ws es 0 (length (nationRowsIn ws)) ++ drop (length (nationRowsIn ws)) cells₀ → NationsListed xs ws cells
     cells-listed w cells₀ cells e =
         record {
-          within = w;
+          limits = w;
           nations = nations;
           long = living-inside ws es cells₀ cells e;
           living = living-all ws es cells₀ cells e shaped ∙ ap (map isLiving) told;
@@ -76,7 +76,7 @@ module _ (xs selection before : List ℕ) (begun : PageBegun xs selection) {ws :
   same-nations : nationsIn ws (entryWords ns) ≡ ns
   same-nations = told xs (begun .accepted) (l .nations) {es = entryWords ns} refl
 
-  same-text : textOf ws cells (tagsRead (selectionOf selection)) ≡ pageOf xs selection
+  same-text : linesText ws cells (tagsRead (selectionOf selection)) ≡ pageOf xs selection
   unfolding pageOf
   same-text =
       text-page ws (entryWords ns) (shaped xs (begun .accepted) (l .nations) {es = entryWords ns} refl) cells (l .living ∙ sym (ap (map isLiving) same-nations)) selection
@@ -90,4 +90,4 @@ module _ (xs selection before : List ℕ) (begun : PageBegun xs selection) {ws :
 
   pub text-called : callText ws cells selection before ≡ callPage xs selection before
   text-called =
-      sym (tags-taken ws selection before cells rows-taken (begun .tags)) ∙ ap (λ t. callLines t before) same-text ∙ page-left xs selection before begun (l .within)
+      sym (tags-taken ws selection before cells rows-taken (begun .tags)) ∙ ap (λ t. callLines t before) same-text ∙ page-left xs selection before begun (l .limits)

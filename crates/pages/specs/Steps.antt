@@ -19,7 +19,7 @@ pub record PageBegun (xs selection : List ℕ) : Type 0 where
 
 -- The record's nations, within the page's limits, as words; and a status cell for each.
 pub record NationsListed (xs ws : List ℕ) (cells : List Bool) : Type 0 where
-  pub within : limitsNumber (campaignOf xs) ≡ 0
+  pub limits : limitsNumber (campaignOf xs) ≡ 0
   pub nations : ws ≡ nationWords (nationsOf (campaignOf xs))
   pub long : length (nationRowsIn ws) ≤ length cells
   pub living : take (length (nationRowsIn ws)) cells ≡ map isLiving (nationsOf (campaignOf xs))

@@ -2,6 +2,8 @@
 use crate::status::fill_living;
 use chronicle_rows::ENTRY_WIDTH;
 use chronicle_rows::NATION_WIDTH;
+use nation_tables::MOST_COUNTRIES;
+use nation_tables::MOST_SLOTS;
 use nations::NationEvents;
 use nations::nation_events;
 ghost use mathlib.Core.Path.{_≡_};
@@ -9,14 +11,10 @@ ghost use lib.ListN.{length};
 ghost use Rattle.format.specs.Refusal.{refusal};
 ghost use Rattle.pages.specs.Listing.{PageNationsTold};
 
-// Words of the most entries and changes of a page; cells for 8,001 slots and 2,000 countries.
+// Words of the most entries and changes of a page.
 const ENTRY_WORDS: usize = 15000;
 
 const CHANGE_WORDS: usize = 16000;
-
-const SLOT_CELLS: usize = 8001;
-
-const COUNTRY_CELLS: usize = 2000;
 
 // How many words the nation rows have, or that the record is past the page's limits.
 pub(crate) enum PageNations {
@@ -31,8 +29,8 @@ pub(crate) fn list_nations(s: &[u8], nations: &mut [u32], living: &mut [bool]) -
     ensures { λ r. ⌜ PageNationsTold (now (s .entry)) r (now (nations .exit)) (now (living .exit)) ⌝ }
 {
     let mut entries = [0u32; ENTRY_WORDS];
-    let mut holders = [0u32; SLOT_CELLS];
-    let mut held = [0u32; COUNTRY_CELLS];
+    let mut holders = [0u32; MOST_SLOTS];
+    let mut held = [0u32; MOST_COUNTRIES];
     let mut changes = [0u32; CHANGE_WORDS];
     match nation_events(
         s,

@@ -22,6 +22,7 @@ use Rattle.format.specs.Dates.{notAfter}
 use Rattle.resolver.specs.declared.claims.Claim.{Claim}
 use Rattle.resolver.specs.Claims.{isAsked, claimDay, bestOf}
 use Rattle.resolver.proofs.ResolvedLaws.{greatest-map}
+use Rattle.questions.specs.Layout.{claimDates, claimNumbers}
 use Rattle.questions.specs.Keys.{lowestKey, keysFrom, isAskedKey, lastAsked}
 use Rattle.questions.specs.Passes.{claimWords, keyWords}
 use Rattle.questions.proofs.KeyLaws.{GoodClaim, key-day, key-number, key-same-tag, asked-key}
@@ -109,19 +110,19 @@ claims-numbered k [] = refl
 claims-numbered k (c ∷ cs) = ap (λ (l : List Claim). c ∷ l) (claims-numbered (k + 1) cs)
 
 -- A claim with its number in a block: it is good, and the number is small and leads to its nation.
-record Placed (owners : List ℕ) (z : Numbered) : Type 0 where
+record KeyedClaim (owners : List ℕ) (z : Numbered) : Type 0 where
   good : GoodClaim (z .claim)
-  small : z .number < 65536
+  small : z .number < claimNumbers
   owner : getD owners (z .number) 0 ≡ z .claim .nation
 
-placed-from : (front : List ℕ) (k : ℕ) (cs : List Claim) (back : List ℕ) → length front ≡ k → k + length cs ≤ 65536 → All GoodClaim cs
-    → All (Placed (front ++ (map (λ c. c .nation) cs ++ back))) (numberedFrom k cs)
-placed-from front k [] back h l q = tt
-placed-from front k (c ∷ cs) back h l q =
+keyed-from : (front : List ℕ) (k : ℕ) (cs : List Claim) (back : List ℕ) → length front ≡ k → k + length cs ≤ claimNumbers → All GoodClaim cs
+    → All (KeyedClaim (front ++ (map (λ c. c .nation) cs ++ back))) (numberedFrom k cs)
+keyed-from front k [] back h l q = tt
+keyed-from front k (c ∷ cs) back h l q =
     let rest : List ℕ = map (λ x. x .nation) cs ++ back in
     let e : front ++ (c .nation ∷ rest) ≡ (front ++ (c .nation ∷ [])) ++ rest = sym (append-assoc front (c .nation ∷ []) rest) in (
       record { good = q .0; small = omega arith; owner = getD-at front (c .nation) rest 0 k h },
-      rw e (placed-from (front ++ (c .nation ∷ [])) (k + 1) cs back (simp length-append (omega arith)) (omega arith) (q .1)),
+      rw e (keyed-from (front ++ (c .nation ∷ [])) (k + 1) cs back (simp length-append (omega arith)) (omega arith) (q .1)),
     )
 
 -- Numbers grow along the list.
@@ -129,12 +130,12 @@ numbers-grow : (k : ℕ) (cs : List Claim) → All (λ z. k ≤ z .number) (numb
 numbers-grow k [] = tt
 numbers-grow k (c ∷ cs) = (omega arith, all-map (λ z h. omega arith) (numberedFrom (k + 1) cs) (numbers-grow (k + 1) cs))
 
-module _ (owners : List ℕ) (tag : CountryTag) (date : Eu4Date) (t : isTag tag ≡ true) (d : date .0 < 134217728) where
+module _ (owners : List ℕ) (tag : CountryTag) (date : Eu4Date) (t : isTag tag ≡ true) (d : date .0 < claimDates) where
   abbrev asks : Numbered → Bool
   asks z = isAsked tag date (z .claim)
 
   -- Of the claims to one tag, keys compare as dates do.
-  alike : (k : ℕ) (cs : List Claim) → All (Placed owners) (numberedFrom k cs) → Alike keyOf (λ z. claimDay (z .claim)) (keep asks (numberedFrom k cs))
+  alike : (k : ℕ) (cs : List Claim) → All (KeyedClaim owners) (numberedFrom k cs) → Alike keyOf (λ z. claimDay (z .claim)) (keep asks (numberedFrom k cs))
   alike k [] q = tt
   alike k (c ∷ cs) q =
       cases (isAsked tag date c)
@@ -150,12 +151,12 @@ module _ (owners : List ℕ) (tag : CountryTag) (date : Eu4Date) (t : isTag tag 
           all-map
           (λ z p. key-same-tag c (q .0 .good) k (q .0 .small) (z .claim) (p .0 .good) (same c h ∙ sym (same (z .claim) (p .1 .1))) (z .number) (p .0 .small) (omega (arith, p .1 .0)))
           (keep asks (numberedFrom (k + 1) cs))
-          (all-both (Placed owners) (λ z. (k + 1 ≤ z .number) × (asks z ≡ true)) (keep asks (numberedFrom (k + 1) cs))
-          (all-keep (Placed owners) asks (numberedFrom (k + 1) cs) (q .1))
+          (all-both (KeyedClaim owners) (λ z. (k + 1 ≤ z .number) × (asks z ≡ true)) (keep asks (numberedFrom (k + 1) cs))
+          (all-keep (KeyedClaim owners) asks (numberedFrom (k + 1) cs) (q .1))
           (all-both (λ z. k + 1 ≤ z .number) (λ z. asks z ≡ true) (keep asks (numberedFrom (k + 1) cs))
           (all-keep (λ z. k + 1 ≤ z .number) asks (numberedFrom (k + 1) cs) (numbers-grow (k + 1) cs)) (all-kept asks (numberedFrom (k + 1) cs))))
 
-  module _ (cs : List Claim) (q : All (Placed owners) (numberedFrom 0 cs)) where
+  module _ (cs : List Claim) (q : All (KeyedClaim owners) (numberedFrom 0 cs)) where
     abbrev zs : List Numbered
     zs = keep asks (numberedFrom 0 cs)
 
@@ -178,14 +179,14 @@ module _ (owners : List ℕ) (tag : CountryTag) (date : Eu4Date) (t : isTag tag 
     looked-words : claimWords (bestOf tag date cs) ≡ keyWords owners (lastAsked tag date (sortBy leb (keysFrom 0 cs)))
     looked-words =
         ap claimWords found-claim
-        ∙ (go (greatest keyOf zs) (greatest-has keyOf (λ z. claimDay (z .claim)) (Placed owners) zs (all-keep (Placed owners) asks (numberedFrom 0 cs) q))
+        ∙ (go (greatest keyOf zs) (greatest-has keyOf (λ z. claimDay (z .claim)) (KeyedClaim owners) zs (all-keep (KeyedClaim owners) asks (numberedFrom 0 cs) q))
         ∙ ap (keyWords owners) (sym found-key))
       where
-        go : (g : Option Numbered) → Has keyOf (λ z. claimDay (z .claim)) (Placed owners) g → claimWords (Option·map (λ z. z .claim) g) ≡ keyWords owners (Option·map keyOf g)
+        go : (g : Option Numbered) → Has keyOf (λ z. claimDay (z .claim)) (KeyedClaim owners) g → claimWords (Option·map (λ z. z .claim) g) ≡ keyWords owners (Option·map keyOf g)
         go none h = refl
         go (some z) h = simp (key-day (z .claim) (h .good) (z .number) (h .small), key-number (z .claim) (h .good) (z .number) (h .small), h .owner)
 
 -- In a block whose claims are good, with their nation numbers in front of the owners.
-pub block-words : (tag : CountryTag) (date : Eu4Date) → isTag tag ≡ true → date .0 < 134217728 → (cs : List Claim) (back : List ℕ) → All GoodClaim cs → length cs ≤ 65536
+pub block-words : (tag : CountryTag) (date : Eu4Date) → isTag tag ≡ true → date .0 < claimDates → (cs : List Claim) (back : List ℕ) → All GoodClaim cs → length cs ≤ claimNumbers
     → claimWords (bestOf tag date cs) ≡ keyWords (map (λ c. c .nation) cs ++ back) (lastAsked tag date (sortBy leb (keysFrom 0 cs)))
-block-words tag date t d cs back q l = looked-words (map (λ c. c .nation) cs ++ back) tag date t d cs (placed-from [] 0 cs back refl (omega arith) q)
+block-words tag date t d cs back q l = looked-words (map (λ c. c .nation) cs ++ back) tag date t d cs (keyed-from [] 0 cs back refl (omega arith) q)

@@ -15,6 +15,7 @@ use Rattle.format.specs.declared.tag.CountryTag.{CountryTag}
 use Rattle.format.specs.declared.date.Eu4Date.{Eu4Date}
 use Rattle.resolver.specs.declared.claims.Claim.{Claim}
 use Rattle.resolver.specs.Claims.{isAsked, claimDay, bestOf}
+use Rattle.questions.specs.Layout.{rowOwners}
 use Rattle.questions.specs.Keys.{keyDay, keyNumber}
 use Rattle.questions.specs.Passes.{claimWords, keyWords, updated}
 
@@ -65,13 +66,13 @@ update-best : (owners : List ℕ) (o p : Option Claim) (k : Option ℕ) → clai
     → updated owners k (getD (claimWords o) 0 0) (getD (claimWords o) 1 0) ≡ claimWords (merged o p)
 update-best owners none none none e = refl
 update-best owners (some x) none none e = refl
-update-best owners o (some y) none e = no-word (y .nation % 4294967295) (sym (ap (λ (l : List ℕ). getD l 1 0) e))
+update-best owners o (some y) none e = no-word (y .nation % rowOwners) (sym (ap (λ (l : List ℕ). getD l 1 0) e))
 update-best owners o none (some k) e = no-word _ (ap (λ (l : List ℕ). getD l 1 0) e)
 update-best owners none (some y) (some k) e = sym e
 update-best owners (some x) (some y) (some k) e =
     let d : claimDay y ≡ keyDay k = ap (λ (l : List ℕ). getD l 0 0) e in
-    let f : eqb (x .nation % 4294967295 + 1) 0 ≡ false = ne-eqb (x .nation % 4294967295 + 1) 0 (λ z. omega arith) in
-    let w : y .nation % 4294967295 + 1 ≡ getD owners (keyNumber k) 0 % 4294967295 + 1 = ap (λ (l : List ℕ). getD l 1 0) e in
+    let f : eqb (x .nation % rowOwners + 1) 0 ≡ false = ne-eqb (x .nation % rowOwners + 1) 0 (λ z. omega arith) in
+    let w : y .nation % rowOwners + 1 ≡ getD owners (keyNumber k) 0 % rowOwners + 1 = ap (λ (l : List ℕ). getD l 1 0) e in
     cases (leb (claimDay x) (claimDay y))
     (λ h. simp (f, ← d, h) (ap (λ (n : ℕ). claimDay y ∷ n ∷ []) (sym w)))
     (λ h. simp (f, ← d, h))

@@ -22,6 +22,7 @@ use Rattle.resolver.specs.declared.claims.Claim.{Claim}
 use Rattle.resolver.specs.declared.claims.Walk.{Walk}
 use Rattle.resolver.specs.Claims.{claimsIn, claimsLeft, walkStart, bestOf}
 use Rattle.resolver.proofs.ClaimLaws.{walk-start}
+use Rattle.questions.specs.Layout.{claimDates, claimNumbers}
 use Rattle.questions.specs.Keys.{keysFrom, lastAsked, SortsBlock, blockRoom}
 use Rattle.questions.specs.Passes.{claimWords, updated, rowsWith, blankRow, blockRow, bestRow}
 use Rattle.questions.proofs.BlockLaws.{length-keys}
@@ -116,7 +117,7 @@ module _ (left rest : List Claim) (room count : ℕ) (keys₀ keys₁ owners₀ 
   pub fewer-left : (count ≡ 0 → ⊥) → length rest < length left
   fewer-left h = omega (arith, b .counted, length-take room left, ap length (b .behind) ∙ length-drop room left)
 
-  block-few : room ≤ 65536 → length (take room left) ≤ 65536
+  block-few : room ≤ claimNumbers → length (take room left) ≤ claimNumbers
   block-few h = omega (arith, length-take room left)
 
 all-behind : {A : Type 0} (P : A → Type 0) (xs ys : List A) → All P (xs ++ ys) → All P ys
@@ -131,7 +132,7 @@ module _ (ws es : List ℕ) (shaped : wellShaped ws es ≡ true) (passed left : 
       let sound = SoundClaim (length (nationRowsIn ws)) in
       all-map (λ c s. s .good) (take room left) (all-take sound room left (all-behind sound passed left (rw whole at (claims-sound ws es shaped))) .0)
 
-  pub sorted-best : room ≤ 65536 → (tag : CountryTag) (date : Eu4Date) → isTag tag ≡ true → date .0 < 134217728
+  pub sorted-best : room ≤ claimNumbers → (tag : CountryTag) (date : Eu4Date) → isTag tag ≡ true → date .0 < claimDates
       → updated owners₁ (lastAsked tag date (take (count - 0) keys₁)) (getD (claimWords (bestOf tag date passed)) 0 0) (getD (claimWords (bestOf tag date passed)) 1 0)
       ≡ claimWords (bestOf tag date (passed ++ take room left))
   unfolding sorted block

@@ -10,6 +10,7 @@ use Rattle.lists.proofs.FillLaws.{Filling, filling-new, filling-one, filling-pu
 use Rattle.sorting.specs.Sort.{Sorts}
 use Rattle.sorting.proofs.SortedKeyLaws.{sorted-front}
 use Rattle.resolver.specs.declared.claims.Claim.{Claim}
+use Rattle.questions.specs.Layout.{claimNumbers}
 use Rattle.questions.specs.Keys.{lowestKey, keysFrom, Fills, SortsBlock}
 
 abbrev nations : List Claim → List ℕ
@@ -34,14 +35,14 @@ few-taken n cs = simp length-take (omega arith)
 -- So many claims of those left are taken, with so much room for all of them.
 pub record Taking (left rest : List Claim) (room count : ℕ) (keys₀ keys owners₀ owners : List ℕ) : Type 0 where
   pub inside : count ≤ room
-  pub few : room ≤ 65536
+  pub few : room ≤ claimNumbers
   pub keys-wide : room ≤ length keys
   pub owners-wide : room ≤ length owners
   pub behind : rest ≡ drop count left
   pub keys-so-far : Filling (keysFrom 0 (take room left)) (keysFrom count (take (room - count) rest)) keys₀ count keys
   pub owners-so-far : Filling (nations (take room left)) (nations (take (room - count) rest)) owners₀ count owners
 
-pub taking-start : (left : List Claim) (room m : ℕ) (keys owners : List ℕ) → m ≡ min (length keys) (length owners) → room ≡ min m 65536
+pub taking-start : (left : List Claim) (room m : ℕ) (keys owners : List ℕ) → m ≡ min (length keys) (length owners) → room ≡ min m claimNumbers
     → Taking left left room 0 keys keys owners owners
 taking-start left room m keys owners p q =
     let a : room ≤ length keys = omega arith in

@@ -4,35 +4,28 @@ use mathlib.Core.Bool.{true, _&&_}
 use mathlib.Core.List.{List, [], _∷_, map}
 use Prim.Native.Nat.{ℕ, zero, suc, _-_, _<_}
 use native.Mathlib.Omega.{arith}
-use borrow.Author.Tests.{leb-true}
-use lib.Dec.{leb}
 use lib.ListN.{length}
 use Rattle.lists.specs.Lists.{All, numbersFrom}
 use Rattle.lists.proofs.BoolLaws.{and-left, and-right}
 use Rattle.lists.proofs.ListLaws.{all-map, all-append, all-join}
 use Rattle.format.specs.declared.date.Eu4Date.{Eu4Date}
 use Rattle.format.specs.Tags.{isTag}
-use Rattle.format.specs.Dates.{goodDate, year}
+use Rattle.format.specs.Dates.{goodDate}
+use Rattle.format.proofs.BoundLaws.{date-small}
 use Rattle.rules.specs.NationRows.{nationRowsIn, entryRowsIn, kindOf, kindShaped, wellShaped}
 use Rattle.chronicle_rows.specs.RowAt.{nationRowAt, entryRowAt, entryAt}
 use Rattle.chronicle_rows.proofs.NumberedLaws.{numbers-range, nation-inside, nation-tags, entry-good}
 use Rattle.resolver.specs.declared.claims.Claim.{Claim}
 use Rattle.resolver.specs.Claims.{kindClaims, switchClaims, nationClaims, claimsIn}
+use Rattle.questions.specs.Layout.{claimDates}
 use Rattle.questions.proofs.KeyLaws.{GoodClaim}
-
--- 27 bits hold a good date.
-pub date-small : (d : Eu4Date) → goodDate d ≡ true → d .0 < 134217728
-unfolding goodDate
-date-small d h =
-    let y = leb-true (year d) 9999 (and-right (leb 1 (year d)) (leb (year d) 9999) (and-left (leb 1 (year d) && leb (year d) 9999) _ h)) in
-    omega arith
 
 -- A good claim of a nation that is there.
 pub record SoundClaim (n : ℕ) (c : Claim) : Type 0 where
   pub good : GoodClaim c
   pub there : c .nation < n
 
-kind-sound : (n i : ℕ) (date : Eu4Date) (kind target : ℕ) → i < n → date .0 < 134217728 → kindShaped kind target ≡ true → All (SoundClaim n) (kindClaims i date (kindOf kind target))
+kind-sound : (n i : ℕ) (date : Eu4Date) (kind target : ℕ) → i < n → date .0 < claimDates → kindShaped kind target ≡ true → All (SoundClaim n) (kindClaims i date (kindOf kind target))
 unfolding kindShaped
 kind-sound n i date zero target h d k = (record { good = record { tag = k; date = d }; there = h }, tt)
 kind-sound n i date (suc zero) target h d k = tt

@@ -13,31 +13,32 @@ use Rattle.format.specs.Tags.{isTag, sameTag}
 use Rattle.format.proofs.TagLaws.{Bytes, word-parts, tag-bytes}
 use Rattle.resolver.specs.declared.claims.Claim.{Claim}
 use Rattle.resolver.specs.Claims.{isAsked, claimDay}
+use Rattle.questions.specs.Layout.{oneByte, twoBytes, oneLetter, twoLetters, claimDates, claimNumbers, claimSpan}
 use Rattle.questions.specs.Keys.{tagBits, lowestKey, isAskedKey, keyDay, keyNumber}
 
-pub bits-told : (t : CountryTag) (w : ℕ) → w ≡ t .0 → w / 65536 % 128 * 16384 + w / 256 % 128 * 128 + w % 128 ≡ tagBits t
+pub bits-told : (t : CountryTag) (w : ℕ) → w ≡ t .0 → w / twoBytes % oneLetter * twoLetters + w / oneByte % oneLetter * oneLetter + w % oneLetter ≡ tagBits t
 unfolding tagBits
 bits-told t w e = rw e
 
-pub key-told : (t : CountryTag) (d : Eu4Date) (p w : ℕ) → p ≡ tagBits t → w ≡ d .0 → p * 8796093022208 + w % 134217728 * 65536 ≡ lowestKey t d
+pub key-told : (t : CountryTag) (d : Eu4Date) (p w : ℕ) → p ≡ tagBits t → w ≡ d .0 → p * claimSpan + w % claimDates * claimNumbers ≡ lowestKey t d
 unfolding lowestKey
 key-told t d p w e f = rw (e, f)
 
 -- ## Tags are told apart by their bits
 
-low-part : (w : ℕ) → w % 256 < 128 → w % 128 ≡ w % 256
+low-part : (w : ℕ) → w % oneByte < oneLetter → w % oneLetter ≡ w % oneByte
 low-part w h = omega arith
 
-digits-apart : (a b c x y z : ℕ) → b < 128 → c < 128 → y < 128 → z < 128 → a * 16384 + b * 128 + c ≡ x * 16384 + y * 128 + z → (a ≡ x) × (b ≡ y) × (c ≡ z)
+digits-apart : (a b c x y z : ℕ) → b < oneLetter → c < oneLetter → y < oneLetter → z < oneLetter → a * twoLetters + b * oneLetter + c ≡ x * twoLetters + y * oneLetter + z → (a ≡ x) × (b ≡ y) × (c ≡ z)
 digits-apart a b c x y z hb hc hy hz e = (omega arith, omega arith, omega arith)
 
-bits-parts : (t : CountryTag) → Bytes (t .0) → tagBits t ≡ t .0 / 65536 * 16384 + t .0 / 256 % 256 * 128 + t .0 % 256
+bits-parts : (t : CountryTag) → Bytes (t .0) → tagBits t ≡ t .0 / twoBytes * twoLetters + t .0 / oneByte % oneByte * oneLetter + t .0 % oneByte
 unfolding tagBits
 bits-parts t b =
     let w = t .0 in
-    let x : w / 65536 % 128 ≡ w / 65536 = mod-eq-of-lt (let f = b .first in omega arith) in
-    let y : w / 256 % 128 ≡ w / 256 % 256 = low-part (w / 256) (let f = b .second in omega arith) in
-    let z : w % 128 ≡ w % 256 = low-part w (let f = b .third in omega arith) in
+    let x : w / twoBytes % oneLetter ≡ w / twoBytes = mod-eq-of-lt (let f = b .first in omega arith) in
+    let y : w / oneByte % oneLetter ≡ w / oneByte % oneByte = low-part (w / oneByte) (let f = b .second in omega arith) in
+    let z : w % oneLetter ≡ w % oneByte = low-part w (let f = b .third in omega arith) in
     rw (x, y, z)
 
 bits-apart : (s t : CountryTag) → isTag s ≡ true → isTag t ≡ true → tagBits s ≡ tagBits t → s .0 ≡ t .0
@@ -46,12 +47,12 @@ bits-apart s t hs ht e =
     let w = t .0 in
     let bv = tag-bytes s hs in
     let bw = tag-bytes t ht in
-    let d = digits-apart (v / 65536) (v / 256 % 256) (v % 256) (w / 65536) (w / 256 % 256) (w % 256)
+    let d = digits-apart (v / twoBytes) (v / oneByte % oneByte) (v % oneByte) (w / twoBytes) (w / oneByte % oneByte) (w % oneByte)
     (let f = bv .second in omega arith) (let f = bv .third in omega arith) (let f = bw .second in omega arith) (let f = bw .third in omega arith)
     (sym (bits-parts s bv) ∙ (e ∙ bits-parts t bw)) in
-    word-parts v ∙ ap (λ (x : ℕ). x * 65536 + v / 256 % 256 * 256 + v % 256) (d .0)
-    ∙ ap (λ (x : ℕ). w / 65536 * 65536 + x * 256 + v % 256) (d .1)
-    ∙ ap (λ (x : ℕ). w / 65536 * 65536 + w / 256 % 256 * 256 + x) (d .2)
+    word-parts v ∙ ap (λ (x : ℕ). x * twoBytes + v / oneByte % oneByte * oneByte + v % oneByte) (d .0)
+    ∙ ap (λ (x : ℕ). w / twoBytes * twoBytes + x * oneByte + v % oneByte) (d .1)
+    ∙ ap (λ (x : ℕ). w / twoBytes * twoBytes + w / oneByte % oneByte * oneByte + x) (d .2)
     ∙ sym (word-parts w)
 
 -- ## What a key holds
@@ -59,22 +60,22 @@ bits-apart s t hs ht e =
 -- A claim to a tag, with a date that 27 bits hold.
 pub record GoodClaim (c : Claim) : Type 0 where
   pub tag : isTag (c .tag) ≡ true
-  pub date : c .date .0 < 134217728
+  pub date : c .date .0 < claimDates
 
-key-parts : (p d k : ℕ) → k < 65536 → (p * 8796093022208 + d * 65536 + k) / 65536 ≡ p * 134217728 + d
+key-parts : (p d k : ℕ) → k < claimNumbers → (p * claimSpan + d * claimNumbers + k) / claimNumbers ≡ p * claimDates + d
 key-parts p d k h = omega arith
 
-key-date : (p d : ℕ) → d < 134217728 → (p * 134217728 + d) % 134217728 ≡ d
+key-date : (p d : ℕ) → d < claimDates → (p * claimDates + d) % claimDates ≡ d
 key-date p d h = omega arith
 
-same-place : (p d e k j : ℕ) → k < 65536 → j < 65536 → k < j → leb (p * 8796093022208 + d * 65536 + k) (p * 8796093022208 + e * 65536 + j) ≡ leb d e
+same-place : (p d e k j : ℕ) → k < claimNumbers → j < claimNumbers → k < j → leb (p * claimSpan + d * claimNumbers + k) (p * claimSpan + e * claimNumbers + j) ≡ leb d e
 same-place p d e k j hk hj l =
     cases (leb d e)
-    (λ t. let o = leb-true d e t in rw t (le-leb (p * 8796093022208 + d * 65536 + k) (p * 8796093022208 + e * 65536 + j) (omega arith)))
-    (λ t. let o = leb-false d e t in rw t (lt-leb (p * 8796093022208 + d * 65536 + k) (p * 8796093022208 + e * 65536 + j) (omega arith)))
+    (λ t. let o = leb-true d e t in rw t (le-leb (p * claimSpan + d * claimNumbers + k) (p * claimSpan + e * claimNumbers + j) (omega arith)))
+    (λ t. let o = leb-false d e t in rw t (lt-leb (p * claimSpan + d * claimNumbers + k) (p * claimSpan + e * claimNumbers + j) (omega arith)))
 
-module _ (c : Claim) (g : GoodClaim c) (k : ℕ) (small : k < 65536) where
-  plain : lowestKey (c .tag) (c .date) + k ≡ tagBits (c .tag) * 8796093022208 + c .date .0 * 65536 + k
+module _ (c : Claim) (g : GoodClaim c) (k : ℕ) (small : k < claimNumbers) where
+  plain : lowestKey (c .tag) (c .date) + k ≡ tagBits (c .tag) * claimSpan + c .date .0 * claimNumbers + k
   unfolding lowestKey
   plain = rw (mod-eq-of-lt (g .date))
 
@@ -84,28 +85,28 @@ module _ (c : Claim) (g : GoodClaim c) (k : ℕ) (small : k < 65536) where
   pub key-number : keyNumber (lowestKey (c .tag) (c .date) + k) ≡ k
   key-number = rw plain (omega arith)
 
-  pub key-same-tag : (e : Claim) → GoodClaim e → c .tag ≡ e .tag → (j : ℕ) → j < 65536 → k < j
+  pub key-same-tag : (e : Claim) → GoodClaim e → c .tag ≡ e .tag → (j : ℕ) → j < claimNumbers → k < j
       → leb (lowestKey (c .tag) (c .date) + k) (lowestKey (e .tag) (e .date) + j) ≡ leb (claimDay c) (claimDay e)
   unfolding lowestKey
   key-same-tag e h s j small′ l = rw (mod-eq-of-lt (g .date), mod-eq-of-lt (h .date), s) (same-place (tagBits (e .tag)) (c .date .0) (e .date .0) k j small small′ l)
 
 -- The keys within a question's two are those of the claims that it asks for.
-key-within : (p t d q k : ℕ) (same : Bool) → d < 134217728 → q < 134217728 → k < 65536 → (same ≡ true → p ≡ t) → (same ≡ false → p ≡ t → ⊥)
-    → leb (t * 8796093022208 + 0) (p * 8796093022208 + d * 65536 + k) && ltb (p * 8796093022208 + d * 65536 + k) (t * 8796093022208 + q * 65536 + 65536) ≡ same && leb d q
+key-within : (p t d q k : ℕ) (same : Bool) → d < claimDates → q < claimDates → k < claimNumbers → (same ≡ true → p ≡ t) → (same ≡ false → p ≡ t → ⊥)
+    → leb (t * claimSpan + 0) (p * claimSpan + d * claimNumbers + k) && ltb (p * claimSpan + d * claimNumbers + k) (t * claimSpan + q * claimNumbers + claimNumbers) ≡ same && leb d q
 key-within p t d q k true hd hq hk alike other =
     let e = alike refl in
-    rw (le-leb (t * 8796093022208 + 0) (p * 8796093022208 + d * 65536 + k) (omega arith))
+    rw (le-leb (t * claimSpan + 0) (p * claimSpan + d * claimNumbers + k) (omega arith))
     (cases (leb d q)
-    (λ l. let o = leb-true d q l in rw l (lt-ltb (p * 8796093022208 + d * 65536 + k) (t * 8796093022208 + q * 65536 + 65536) (omega arith)))
-    (λ l. let o = leb-false d q l in rw l (le-ltb (p * 8796093022208 + d * 65536 + k) (t * 8796093022208 + q * 65536 + 65536) (omega arith))))
+    (λ l. let o = leb-true d q l in rw l (lt-ltb (p * claimSpan + d * claimNumbers + k) (t * claimSpan + q * claimNumbers + claimNumbers) (omega arith)))
+    (λ l. let o = leb-false d q l in rw l (le-ltb (p * claimSpan + d * claimNumbers + k) (t * claimSpan + q * claimNumbers + claimNumbers) (omega arith))))
 key-within p t d q k false hd hq hk alike other =
     let apart = other refl in
-    cases (leb (t * 8796093022208 + 0) (p * 8796093022208 + d * 65536 + k))
-    (λ l. let o = leb-true (t * 8796093022208 + 0) (p * 8796093022208 + d * 65536 + k) l in
-    rw (l, le-ltb (p * 8796093022208 + d * 65536 + k) (t * 8796093022208 + q * 65536 + 65536) (omega arith)))
+    cases (leb (t * claimSpan + 0) (p * claimSpan + d * claimNumbers + k))
+    (λ l. let o = leb-true (t * claimSpan + 0) (p * claimSpan + d * claimNumbers + k) l in
+    rw (l, le-ltb (p * claimSpan + d * claimNumbers + k) (t * claimSpan + q * claimNumbers + claimNumbers) (omega arith)))
     (λ l. rw l)
 
-pub asked-key : (tag : CountryTag) (date : Eu4Date) → isTag tag ≡ true → date .0 < 134217728 → (c : Claim) → GoodClaim c → (k : ℕ) → k < 65536
+pub asked-key : (tag : CountryTag) (date : Eu4Date) → isTag tag ≡ true → date .0 < claimDates → (c : Claim) → GoodClaim c → (k : ℕ) → k < claimNumbers
     → isAskedKey tag date (lowestKey (c .tag) (c .date) + k) ≡ isAsked tag date c
 unfolding lowestKey
 asked-key tag date ht hd c g k small =

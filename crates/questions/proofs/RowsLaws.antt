@@ -18,6 +18,7 @@ use Rattle.format.specs.declared.tag.CountryTag.{CountryTag}
 use Rattle.format.specs.declared.date.Eu4Date.{Eu4Date}
 use Rattle.format.specs.Tags.{isTag}
 use Rattle.format.specs.Dates.{goodDate}
+use Rattle.format.proofs.BoundLaws.{date-small}
 use Rattle.rules.specs.NationRows.{nationRowsIn, nationsIn, wellShaped}
 use Rattle.rules.specs.Resolver.{plainData, resolvedNation, resolve}
 use Rattle.rules.specs.Questions.{Question, questionsIn, questionShaped, answerWords, answerRows}
@@ -26,6 +27,7 @@ use Rattle.resolver.specs.declared.claims.Claim.{Claim}
 use Rattle.resolver.specs.Claims.{claimsIn, bestOf, isAsked, claimDay}
 use Rattle.resolver.specs.Found.{plainOf}
 use Rattle.resolver.proofs.ResolvedLaws.{claimNation, map-twice, claim-resolved}
+use Rattle.questions.specs.Layout.{claimDates, claimNumbers, rowOwners}
 use Rattle.questions.specs.Asked.{questionAt}
 use Rattle.questions.specs.Keys.{keysFrom, lastAsked}
 use Rattle.questions.specs.Passes.{claimWords, updated, finished, rowsWith, blankRow, blockRow, bestRow, finishedRow, claimRow}
@@ -33,7 +35,7 @@ use Rattle.questions.proofs.KeyLaws.{GoodClaim}
 use Rattle.questions.proofs.AskedLaws.{questions-next}
 use Rattle.questions.proofs.AnsweredLaws.{block-words, greatest-has, Has}
 use Rattle.questions.proofs.BestLaws.{block-best}
-use Rattle.questions.proofs.GoodLaws.{SoundClaim, date-small, claims-sound}
+use Rattle.questions.proofs.GoodLaws.{SoundClaim, claims-sound}
 
 -- ## Rows of two words
 
@@ -70,7 +72,7 @@ best-wide qs cs i = go (bestOf (questionAt qs i .tag) (questionAt qs i .date) cs
     go (some c) = refl
 
 -- The words of a best claim so far, held against a block behind it.
-pub block-updated : (tag : CountryTag) (date : Eu4Date) → isTag tag ≡ true → date .0 < 134217728 → (xs ys : List Claim) (back : List ℕ) → All GoodClaim ys → length ys ≤ 65536
+pub block-updated : (tag : CountryTag) (date : Eu4Date) → isTag tag ≡ true → date .0 < claimDates → (xs ys : List Claim) (back : List ℕ) → All GoodClaim ys → length ys ≤ claimNumbers
     → updated (map (λ c. c .nation) ys ++ back) (lastAsked tag date (sortBy leb (keysFrom 0 ys))) (getD (claimWords (bestOf tag date xs)) 0 0) (getD (claimWords (bestOf tag date xs)) 1 0)
     ≡ claimWords (bestOf tag date (xs ++ ys))
 block-updated tag date t d xs ys back g few =
@@ -91,7 +93,7 @@ module _ (qs : List ℕ) (good : allOf questionShaped (questionsIn qs) ≡ true)
   -- ## Blocks
 
   -- Rows with the best of the claims passed, held against a block behind them.
-  pub block-rows : (xs ys : List Claim) (back before : List ℕ) → All GoodClaim ys → length ys ≤ 65536
+  pub block-rows : (xs ys : List Claim) (back before : List ℕ) → All GoodClaim ys → length ys ≤ claimNumbers
       → (keys owners : List ℕ) → keys ≡ sortBy leb (keysFrom 0 ys) → owners ≡ map (λ c. c .nation) ys ++ back
       → (n : ℕ) → n ≡ length (questionsIn qs) → (out new : List ℕ) → out ≡ rowsWith (bestRow qs xs) n before → new ≡ rowsWith (blockRow qs keys owners out) n out
       → new ≡ rowsWith (bestRow qs (xs ++ ys)) n before
@@ -119,7 +121,7 @@ rows-over qs cs n before out new e w = w ∙ (ap (rowsWith (bestRow qs cs) n) e 
 -- ## In the end
 
 module _ (ws es : List ℕ) (shaped : wellShaped ws es ≡ true) where
-  pub final-rows : length (nationRowsIn ws) < 4294967295 → (qs : List ℕ) (n : ℕ) (before out new : List ℕ) → out ≡ rowsWith (bestRow qs (claimsIn ws es)) n before
+  pub final-rows : length (nationRowsIn ws) < rowOwners → (qs : List ℕ) (n : ℕ) (before out new : List ℕ) → out ≡ rowsWith (bestRow qs (claimsIn ws es)) n before
       → new ≡ rowsWith (finishedRow ws out) n out → new ≡ rowsWith (claimRow ws es qs) n before
   final-rows few qs n before out new e w =
       w
@@ -128,7 +130,7 @@ module _ (ws es : List ℕ) (shaped : wellShaped ws es ≡ true) where
     where
       turn : (o : Option Claim) → Has claimDay claimDay (SoundClaim (length (nationRowsIn ws))) o → finished ws (getD (claimWords o) 1 0) ≡ answerWords (Option·map (plainOf ws) o)
       turn none h = refl
-      turn (some c) h = let small : c .nation < 4294967295 = let t = h .there in omega arith in rw (mod-eq-of-lt small, add-one (c .nation))
+      turn (some c) h = let small : c .nation < rowOwners = let t = h .there in omega arith in rw (mod-eq-of-lt small, add-one (c .nation))
 
       step : (i : ℕ) → i < n → finishedRow ws out i ≡ claimRow ws es qs i
       step i h =

@@ -12,10 +12,11 @@ use Rattle.rules.specs.Questions.{answerWords}
 use Rattle.chronicle_rows.specs.RowAt.{nationRowAt}
 use Rattle.resolver.specs.declared.claims.Claim.{Claim}
 use Rattle.resolver.specs.Found.{plainOf}
+use Rattle.questions.specs.Layout.{rowOwners}
 use Rattle.questions.specs.Keys.{keyDay, keyNumber}
 use Rattle.questions.specs.Passes.{updated, finished}
 
-pub no-owner : (owners : List ℕ) (i : ℕ) → length owners ≤ i → 1 ≡ getD owners i 0 % 4294967295 + 1
+pub no-owner : (owners : List ℕ) (i : ℕ) → length owners ≤ i → 1 ≡ getD owners i 0 % rowOwners + 1
 no-owner owners i h = rw (List·getD-eq-default owners 0 {n = i} h)
 
 module _ (owners : List ℕ) (looked : Option ℕ) (best owner : ℕ) where
@@ -23,7 +24,7 @@ module _ (owners : List ℕ) (looked : Option ℕ) (best owner : ℕ) where
   update-none e = rw e
 
   module _ (key : ℕ) (e : looked ≡ some key) where
-    pub update-later : (word : ℕ) → eqb owner 0 || leb best (keyDay key) ≡ true → word ≡ getD owners (keyNumber key) 0 % 4294967295 + 1
+    pub update-later : (word : ℕ) → eqb owner 0 || leb best (keyDay key) ≡ true → word ≡ getD owners (keyNumber key) 0 % rowOwners + 1
         → keyDay key ∷ word ∷ [] ≡ updated owners looked best owner
     update-later word t w = rw (e, t, w)
 

@@ -14,14 +14,15 @@ use Rattle.format.specs.declared.date.Eu4Date.{Eu4Date}
 use Rattle.rules.specs.Lent.{written}
 use Rattle.resolver.specs.declared.claims.Claim.{Claim}
 use Rattle.questions.specs.declared.blocks.Looked as Looked
+use Rattle.questions.specs.Layout.{oneByte, twoBytes, oneLetter, twoLetters, claimDates, claimNumbers, claimSpan}
 
 -- A tag in 21 bits, seven for each byte.
 unfoldable pub tagBits : CountryTag → ℕ
-tagBits t = t .0 / 65536 % 128 * 16384 + t .0 / 256 % 128 * 128 + t .0 % 128
+tagBits t = t .0 / twoBytes % oneLetter * twoLetters + t .0 / oneByte % oneLetter * oneLetter + t .0 % oneLetter
 
 -- The lowest key of a tag and a date.
 unfoldable pub lowestKey : CountryTag → Eu4Date → ℕ
-lowestKey t d = tagBits t * 8796093022208 + d .0 % 134217728 * 65536
+lowestKey t d = tagBits t * claimSpan + d .0 % claimDates * claimNumbers
 
 -- The keys of claims, numbered from k on.
 unfoldable pub keysFrom : ℕ → List Claim → List ℕ
@@ -45,11 +46,11 @@ pub record SortsBlock (left rest : List Claim) (room count : ℕ) (keys₀ keys�
 
 -- The room of a block: both slices must hold its claims, and a number takes 16 bits.
 abbrev pub blockRoom : List ℕ → List ℕ → ℕ
-blockRoom keys owners = min (min (length keys) (length owners)) 65536
+blockRoom keys owners = min (min (length keys) (length owners)) claimNumbers
 
 -- The keys to a tag that are dated not after a date, of a claim with any number.
 abbrev pub isAskedKey : CountryTag → Eu4Date → ℕ → Bool
-isAskedKey t d k = leb (lowestKey t (record { 0 = 0 })) k && ltb k (lowestKey t d + 65536)
+isAskedKey t d k = leb (lowestKey t (record { 0 = 0 })) k && ltb k (lowestKey t d + claimNumbers)
 
 -- The last of them.
 abbrev pub lastAsked : CountryTag → Eu4Date → List ℕ → Option ℕ
@@ -62,7 +63,7 @@ lookedTold Looked.the-variants.Nothing = none
 
 -- A key's date and number.
 abbrev pub keyDay : ℕ → ℕ
-keyDay k = k / 65536 % 134217728
+keyDay k = k / claimNumbers % claimDates
 
 abbrev pub keyNumber : ℕ → ℕ
-keyNumber k = k % 65536
+keyNumber k = k % claimNumbers

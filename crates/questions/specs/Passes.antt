@@ -14,17 +14,18 @@ use Rattle.resolver.specs.declared.claims.Claim.{Claim}
 use Rattle.resolver.specs.Claims.{claimsIn, bestOf}
 use Rattle.resolver.specs.Found.{plainOf}
 use Rattle.questions.specs.Asked.{questionAt}
+use Rattle.questions.specs.Layout.{rowOwners}
 use Rattle.questions.specs.Keys.{lastAsked, keyDay, keyNumber}
 
 -- A claim's words: its date, and its nation's number plus 1. A number that takes more than 32 bits would come out another one.
 abbrev pub claimWords : Option Claim → List ℕ
 claimWords none = 0 ∷ 0 ∷ []
-claimWords (some c) = c .date .0 ∷ (c .nation % 4294967295 + 1) ∷ []
+claimWords (some c) = c .date .0 ∷ (c .nation % rowOwners + 1) ∷ []
 
 -- The same words, of a key that was looked up and the nation numbers of its block.
 abbrev pub keyWords : List ℕ → Option ℕ → List ℕ
 keyWords owners none = 0 ∷ 0 ∷ []
-keyWords owners (some k) = keyDay k ∷ (getD owners (keyNumber k) 0 % 4294967295 + 1) ∷ []
+keyWords owners (some k) = keyDay k ∷ (getD owners (keyNumber k) 0 % rowOwners + 1) ∷ []
 
 -- The words of a question's best claim among those passed.
 abbrev pub bestWords : List Claim → Question → List ℕ

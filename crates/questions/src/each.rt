@@ -2,6 +2,7 @@
 use crate::asked;
 use crate::blocks;
 use crate::blocks::BLOCK;
+use crate::layout::ROW_OWNERS;
 use crate::words;
 use crate::words::Words;
 use chronicle_rows::is_well_shaped;
@@ -33,7 +34,7 @@ fn clear_rows(n: usize, out: &mut [u32])
 {
     let mut i = 0;
     while i < n {
-        words::put_row(
+        words::put_words(
             out,
             i,
             Words {
@@ -63,7 +64,7 @@ fn answer_block(questions: &[u32], keys: &[u64], owners: &[u64], out: &mut [u32]
         let owner = out[at + 1];
         let looked = blocks::look_up_near(keys, &starts, tag, date);
         let row = words::updated_row(owners, looked, best, owner);
-        words::put_row(out, i, row);
+        words::put_words(out, i, row);
         i += 1;
     }
 }
@@ -77,7 +78,7 @@ fn finish_rows(nations: &[u32], n: usize, out: &mut [u32])
     while i < n {
         let at = words::ANSWER_WIDTH * i;
         let owner = out[at + 1];
-        words::put_row(out, i, words::finished_row(nations, owner));
+        words::put_words(out, i, words::finished_row(nations, owner));
         i += 1;
     }
 }
@@ -93,7 +94,7 @@ fn answer_each(nations: &[u32], entries: &[u32], questions: &[u32], out: &mut [u
         let q = asked::question_at(questions, i);
         let tag = q.tag;
         let date = q.date;
-        words::put_row(
+        words::put_words(
             out,
             i,
             words::answer_row(nations, best_claim(nations, entries, tag, date)),
@@ -136,7 +137,7 @@ fn answer_all(nations: &[u32], entries: &[u32], questions: &[u32], out: &mut [u3
     requires { ⌜ QuestionsReady (now nations) (now entries) (now questions) (now out) ⌝ }
     ensures { λ _. ⌜ now (out .exit) ≡ rowsWith (claimRow (now (nations .entry)) (now (entries .entry)) (now (questions .entry))) (length (questionsIn (now (questions .entry)))) (now (out .entry)) ⌝ }
 {
-    if 4294967295 <= nation_count(nations) {
+    if ROW_OWNERS <= nation_count(nations) {
         answer_each(nations, entries, questions, out);
         return;
     }

@@ -3,6 +3,7 @@
 mod asked;
 mod blocks;
 mod each;
+mod layout;
 mod words;
 
 pub use asked::Question;
@@ -15,5 +16,6 @@ pub use blocks::look_up_near;
 pub use blocks::sort_block;
 pub use each::Each;
 pub use each::resolve_each;
+pub use layout::ROW_OWNERS;
 pub use words::Words;
 pub use words::updated_row;

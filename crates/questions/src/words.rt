@@ -1,5 +1,8 @@
 // The two words of a question's row: its best claim so far, and its answer.
 use crate::blocks::Looked;
+use crate::layout::CLAIM_DATES;
+use crate::layout::CLAIM_NUMBERS;
+use crate::layout::OWNER_NUMBERS;
 use chronicle_rows::nation_at;
 use resolver::BestClaim;
 ghost use mathlib.Core.Path.{_≡_};
@@ -10,6 +13,7 @@ ghost use lib.ListN.{length, getD};
 ghost use Rattle.rules.specs.Questions.{answerWords};
 ghost use Rattle.resolver.specs.Claims.{bestTold};
 ghost use Rattle.resolver.specs.Found.{plainOf};
+ghost use Rattle.questions.specs.Layout.{rowOwners};
 ghost use Rattle.questions.specs.Keys.{lookedTold, keyNumber};
 ghost use Rattle.questions.specs.Passes.{rowSet, updated, finished};
 
@@ -22,7 +26,7 @@ pub struct Words {
 }
 
 // Writes row i.
-pub(crate) fn put_row(out: &mut [u32], i: usize, row: Words)
+pub(crate) fn put_words(out: &mut [u32], i: usize, row: Words)
     requires { ⌜ 2 * i + 1 < length (now out) ⌝ }
     ensures { λ _. ⌜ now (out .exit) ≡ rowSet (now (out .entry)) i (row .first ∷ row .second ∷ []) ⌝ }
 {
@@ -33,11 +37,11 @@ pub(crate) fn put_row(out: &mut [u32], i: usize, row: Words)
 
 // The number of a key's nation, plus 1, as a word.
 fn owner_word(owners: &[u64], key: u64) -> u32
-    ensures { λ r. ⌜ r ≡ getD (now (owners .entry)) (keyNumber key) 0 % 4294967295 + 1 ⌝ }
+    ensures { λ r. ⌜ r ≡ getD (now (owners .entry)) (keyNumber key) 0 % rowOwners + 1 ⌝ }
 {
-    let i = (key % 65536) as usize;
+    let i = (key % CLAIM_NUMBERS) as usize;
     if i < owners.len() {
-        return (owners[i] % 4294967295 + 1) as u32;
+        return (owners[i] % OWNER_NUMBERS + 1) as u32;
     }
     1
 }
@@ -48,7 +52,7 @@ pub fn updated_row(owners: &[u64], looked: Looked, best: u32, owner: u32) -> Wor
 {
     match looked {
         Looked::Key(key) => {
-            let day = (key / 65536 % 134217728) as u32;
+            let day = (key / CLAIM_NUMBERS % CLAIM_DATES) as u32;
             if (owner == 0) | (best <= day) {
                 Words {
                     first: day,

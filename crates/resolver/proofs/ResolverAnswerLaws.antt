@@ -9,7 +9,7 @@ use Rattle.lists.specs.Lists.{lastOr, last}
 use Rattle.format.specs.declared.tag.CountryTag.{CountryTag}
 use Rattle.format.specs.declared.date.Eu4Date.{Eu4Date}
 use Rattle.format.specs.Refusal.{firstOf}
-use Rattle.format.proofs.FirstLaws.{first-zero}
+use Rattle.format.proofs.FirstLaws.{first-zero, first-one}
 use Rattle.rules.specs.Lent.{refused, gives, answered}
 use Rattle.rules.specs.NationRows.{NationRow, wellShaped}
 use Rattle.rules.specs.Refusals.{chronicleNumber, askedTagNumber, askedDateNumber}
@@ -26,11 +26,7 @@ use Rattle.resolver.proofs.ResolvedLaws.{claimNation, map-twice, claim-
 
 pub first-nested : (n : ℕ) (ns : List ℕ) → firstOf (n ∷ firstOf ns ∷ []) ≡ firstOf (n ∷ ns)
 unfolding firstOf
-first-nested zero ns = go (firstOf ns)
-  where
-    go : (m : ℕ) → firstOf (m ∷ []) ≡ m
-    go zero = refl
-    go (suc m) = refl
+first-nested zero ns = first-one (firstOf ns)
 first-nested (suc n) ns = refl
 
 -- The number of the chronicle, then that of the question's two parts.

@@ -1,18 +1,15 @@
 -- The computed cases hold of the definitions. An edit of a rule that changes one of them is refused here.
-use mathlib.Core.Path.{_≡_, refl, ap}
+use mathlib.Core.Path.{_≡_, refl}
 use mathlib.Core.List.{List}
-use mathlib.Core.Option.{some}
 use Prim.Native.Nat.{ℕ}
 use lib.ListN.{length}
 use Rattle.lists.specs.Lists.{joinOf}
-use Rattle.lists.specs.Text.{ascii}
 use Rattle.format.specs.Campaign.{Campaign, campaignOf}
 use Rattle.format.specs.Refusal.{refusal, firstOf}
-use Rattle.rules.specs.Lent.{answered}
 use Rattle.rules.specs.Changes.{changesOf}
 use Rattle.rules.specs.Nations.{nationsOf}
-use Rattle.rules.specs.Page.{selectionOf, digits, line}
-use Rattle.rules.specs.PageOutcomes.{bytesNumber, selectionNumber, limitsNumber, pageNumber, pageOf, printed, callProgram}
+use Rattle.rules.specs.Page.{selectionOf}
+use Rattle.rules.specs.PageOutcomes.{bytesNumber, selectionNumber, limitsNumber, pageNumber}
 use Rattle.rules.specs.cases.CaseForms.{Hold}
 use Rattle.rules.specs.cases.RecordCases.{changeCases, eventsOnCases, nationCases, holderCases, wornCases, dayCases, countedCases}
 use Rattle.rules.specs.cases.LentCases.{resolveCases, dayResolveCases, askedCases, shapeCases, misshapenCases, bookingCases, ledgerCases}
@@ -100,10 +97,6 @@ module _ (xs selection : List ℕ) where
   pub selection-over : length xs ≡ 65536 → length selection ≡ 65537 → pageNumber xs selection ≡ 10
   unfolding pageNumber firstOf bytesNumber
   selection-over h k = simp (h, k)
-
-  pub over-printed : pageNumber xs selection ≡ 10 → callProgram (some xs) selection ≡ ascii "refused 10\n"
-  unfolding callProgram line digits
-  over-printed h = ap (λ n. printed (answered n (pageOf xs selection))) h
 
   pub bytes-within : length xs ≡ 65536 → length selection ≡ 65536 → bytesNumber xs selection ≡ 0
   unfolding bytesNumber

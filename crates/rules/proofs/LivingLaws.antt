@@ -142,12 +142,12 @@ turn-count false false n n′ e f = omega arith
 -- ## All turns
 
 -- The Annexed and Appeared that moves give the country t, which stands at n slots.
-abbrev pub livesOn : Eu4Date → CountryTag → List Move → List (Option CountryTag) → ℕ → List Entry
-livesOn start t ms holders n = livesFrom start t (turnsFrom holders ms) n
+abbrev pub livesBy : Eu4Date → CountryTag → List Move → List (Option CountryTag) → ℕ → List Entry
+livesBy start t ms holders n = livesFrom start t (turnsFrom holders ms) n
 
 -- Nothing is counted of moves later than the day.
 none-late : (start day : Eu4Date) (t : CountryTag) (ms : List Move) (holders : List (Option CountryTag)) (n : ℕ) → All (λ m. day .0 < m .date .0) ms
-    → Uncounted start day (livesOn start t ms holders n)
+    → Uncounted start day (livesBy start t ms holders n)
 unfolding livesFrom turnsFrom
 none-late start day t [] holders n q = record { no-appeared = refl; no-annexed = refl }
 none-late start day t (m ∷ ms) holders n q =
@@ -171,8 +171,8 @@ module _ (start day : Eu4Date) (t : CountryTag) (after : start .0 ≤ day .0) wh
   -- by both, a later one by none.
   pub balance : (ms : List Move) (holders : List (Option CountryTag)) (n : ℕ)
       → InOrder (λ m. m .date .0) ms → All (λ m. m .slot .0 < length holders) ms → n ≡ countOf (matches t) holders
-      → sgn (countOf (matches t) (afterMoves (due start ms) holders)) + counted isAppeared start day (livesOn start t ms holders n)
-      ≡ sgn (countOf (matches t) (afterMoves (due day ms) holders)) + counted isAnnexed start day (livesOn start t ms holders n)
+      → sgn (countOf (matches t) (afterMoves (due start ms) holders)) + counted isAppeared start day (livesBy start t ms holders n)
+      ≡ sgn (countOf (matches t) (afterMoves (due day ms) holders)) + counted isAnnexed start day (livesBy start t ms holders n)
   unfolding livesFrom turnsFrom
   balance [] holders n o q e = refl
   balance (m ∷ ms) holders n o q e =
@@ -183,7 +183,7 @@ module _ (start day : Eu4Date) (t : CountryTag) (after : start .0 ≤ day .0) wh
       let s : n′ + one loses ≡ n + one gains = simp e (count-set (matches t) holders (m .slot .0) (some (m .holder)) none (q .0)) in
       let pos : loses ≡ true → 0 < n = λ h. simp e (count-pos (matches t) holders (m .slot .0) none (q .0) h) in
       let here : List Entry = turnEntries start (m .date) loses gains n in
-      let rest : List Entry = livesOn start t ms holders′ (turnCount loses gains n) in
+      let rest : List Entry = livesBy start t ms holders′ (turnCount loses gains n) in
       let ap1 = count-append (λ e. isAppeared (e .kind) && inDays start day (e .date)) here rest in
       let ap2 = count-append (λ e. isAnnexed (e .kind) && inDays start day (e .date)) here rest in
       let q′ : All (λ x. x .slot .0 < length holders′) ms = simp length-set (q .1) in

@@ -9,8 +9,8 @@ ghost use Rattle.lists.specs.Lists.{countOf, leading};
 ghost use Rattle.sorting.specs.Sort.{sortBy};
 ghost use Rattle.search.specs.Halving.{CountsBelow, Encloses, inCellBefore, startsOf};
 
-// Half of what 64 bits hold.
-const HALF: u64 = 9223372036854775808;
+// The highest of 64 bits: half of what they hold.
+const TOP_BIT: u64 = 9223372036854775808;
 
 // A cell holds keys with the same first 12 bits.
 const CELL: u64 = 4503599627370496;
@@ -23,7 +23,7 @@ fn step(key: u64, top: u64, half: usize) -> usize
     requires { ⌜ 9223372036854775808 ≤ top ⌝ }
     ensures { λ r. ⌜ (key / 2 + 9223372036854775808 ≤ top → r ≡ half) × (top < key / 2 + 9223372036854775808 → r ≡ 0) ⌝ }
 {
-    ((top - key / 2) / HALF) as usize * half
+    ((top - key / 2) / TOP_BIT) as usize * half
 }
 
 // How many of the keys, which are in order, are at most x, an odd number: that lies between two numbers.
@@ -31,7 +31,7 @@ fn count_enclosed(keys: &[u64], x: u64, from: usize, end: usize) -> usize
     requires { ⌜ Encloses (now keys) (x / 2 * 2 + 2) from end ⌝ }
     ensures { λ r. ⌜ CountsBelow (now (keys .entry)) (x / 2 * 2 + 2) r ⌝ }
 {
-    let top = x / 2 + HALF;
+    let top = x / 2 + TOP_BIT;
     let mut base = from;
     let mut size = end - from;
     while 1 < size {

@@ -10,8 +10,8 @@ ghost use Rattle.sorting.specs.Sort.{sortBy};
 ghost use Rattle.format.specs.declared.tag.CountryTag.{CountryTag};
 ghost use Rattle.search.specs.Places.{tagKey, tagKeysFrom, placeFrom, placeTold};
 
-// How many numbers a tag's keys have.
-const NUMBERS: u64 = 65536;
+// How many keys a tag has, one for each number: one more of a tag adds this to a key.
+pub const KEYS_PER_TAG: u64 = 65536;
 
 // The number of an element, if one was found.
 pub enum Place {
@@ -23,7 +23,7 @@ pub enum Place {
 pub fn tag_key(tag: CountryTag, number: usize) -> u64
     ensures { λ r. ⌜ r ≡ tagKey tag (number % 65536) ⌝ }
 {
-    tag.word() as u64 * NUMBERS + number as u64 % NUMBERS
+    tag.word() as u64 * KEYS_PER_TAG + number as u64 % KEYS_PER_TAG
 }
 
 // The number of the first element that has the tag, among at most 65,536 whose sorted keys these are.
@@ -31,7 +31,7 @@ pub fn first_place(keys: &[u64], tag: CountryTag) -> Place
     ensures { λ r. ⌜ ((ts : List CountryTag) → length ts ≤ 65536 → now (keys .entry) ≡ sortBy leb (tagKeysFrom 0 ts) → placeTold r ≡ placeFrom 0 tag ts) ⌝ }
 {
     let low = tag_key(tag, 0);
-    let high = low + NUMBERS;
+    let high = low + KEYS_PER_TAG;
     let i = halving::count_below(keys, low);
     if keys.len() <= i {
         return Place::Nowhere;
@@ -40,5 +40,5 @@ pub fn first_place(keys: &[u64], tag: CountryTag) -> Place
     if high <= key {
         return Place::Nowhere;
     }
-    Place::At((key % NUMBERS) as usize)
+    Place::At((key % KEYS_PER_TAG) as usize)
 }

@@ -10,7 +10,7 @@ use lib.Dec.{eqb, leb}
 use lib.ListN.{length, getElem?, drop, length-map}
 use Rattle.lists.specs.Lists.{keep, anyOf, twice, firstOr, lastOr, last}
 use Rattle.lists.proofs.BoolLaws.{cases, clash, neither}
-use Rattle.lists.proofs.ElementLaws.{first-map, last-map, last-some, first-has, last-has, at-drop, at-end}
+use Rattle.lists.proofs.ElementLaws.{first-map, last-map, last-some, last-has, at-drop, at-end}
 use Rattle.lists.proofs.ListLaws.{all-at, all-map, any-none, map-at}
 use Rattle.lists.specs.Lists.{All}
 use Rattle.sorting.proofs.SortLaws.{Ordered, all-kept, keep-sort, sort-ordered, leb-total, leb-trans}
@@ -19,7 +19,7 @@ use Rattle.format.specs.Tags.{sameTag}
 use Rattle.format.specs.Campaign.{Country}
 use Rattle.rules.specs.Nations.{initialOf, mapsTo}
 use Rattle.nation_tables.specs.Layout.{keyRows}
-use Rattle.nation_tables.specs.Lookup.{noRow, rowIn, inRange, rowsWithin, lastWithin}
+use Rattle.nation_tables.specs.Lookup.{noRow, rowIn, inRange, rowsBetween, lastWithin}
 use Rattle.nation_tables.proofs.tables.LookupLaws.{begins-with}
 use Rattle.nation_tables.specs.Countries.{tagAtRow, tagWords, initialWords, placesOf, rowOf, mappedRow, wordKeys, rowKeys, RowMapped}
 
@@ -67,7 +67,7 @@ module _ (word : ℕ) where
       simp (k, g) (all-map (λ j l. le-leb (w * keyRows + row) j (omega arith)) (keep own (wordKeys (suc row) ws)) (own-from (suc row) ws (omega arith)), rest))
       (λ g. simp (k, g) rest)
 
-  pub places-within : (ws : List ℕ) → length ws ≤ keyRows → rowsWithin (word * keyRows) (word * keyRows + keyRows) (rowKeys ws) ≡ placesOf word 0 ws
+  pub places-within : (ws : List ℕ) → length ws ≤ keyRows → rowsBetween (word * keyRows) (word * keyRows + keyRows) (rowKeys ws) ≡ placesOf word 0 ws
   places-within ws h =
       ap (map rowIn)
       (keep-sort leb leb-total leb-trans own (wordKeys 0 ws) ∙ sort-ordered leb (keep own (wordKeys 0 ws)) (word-keys-order 0 ws (omega arith)))
@@ -114,11 +114,6 @@ module _ (ks : List Country) (few : length ks ≤ keyRows) (t : CountryTag) wher
   mapped-inside h =
       let q = last-has (λ p. p < 0 + length (initialWords ks)) noRow (placesOf (t .0) 0 (initialWords ks)) (places-inside ks (λ k. initialOf k .0) (t .0) 0 (initialWords ks)) h in
       omega (arith, q, length-map ks (λ k. initialOf k .0))
-
-  pub row-inside : (rowOf ks t ≡ noRow → ⊥) → rowOf ks t < length ks
-  row-inside h =
-      let q = first-has (λ p. p < 0 + length (tagWords ks)) noRow (placesOf (t .0) 0 (tagWords ks)) (places-inside ks (λ k. k .tag .0) (t .0) 0 (tagWords ks)) h in
-      omega (arith, q, length-map ks (λ k. k .tag .0))
 
   -- the country in the row of a tag has that tag
   pub row-has : (row : ℕ) → rowOf ks t ≡ row → (k : Country) → getElem? ks row ≡ some k → k .tag .0 ≡ t .0

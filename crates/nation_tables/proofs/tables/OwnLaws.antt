@@ -119,8 +119,8 @@ first-behind d [] (y ∷ ys) q = q .0
 first-behind d (x ∷ xs) ys q = refl
 
 -- The tag of a word.
-abbrev tagged : ℕ → CountryTag
-tagged w = record { 0 = w }
+abbrev wordTag : ℕ → CountryTag
+wordTag w = record { 0 = w }
 
 pub settles-own : (ks : List Country) → OwnLast ks → (x : Change) → settles (allSwitches (map withOwn ks)) x ≡ settles (allSwitches ks) x
 unfolding settles allSwitches
@@ -153,7 +153,7 @@ settles-own ks own x =
         cases (early s)
         (λ e. simp e (to-own l (a .1) (b .1)))
         (λ e. let from = eqb-true (s .from .0) (x .to .0) (both (sameTag (s .from) (x .to)) (notAfter (x .date) (s .date)) (a .0) .0) in
-        simp e (b .0 e ∙ ap tagged from, to-own l (a .1) (b .1)))
+        simp e (b .0 e ∙ ap wordTag from, to-own l (a .1) (b .1)))
 
 -- ## A tag that no row is found for
 

@@ -265,18 +265,18 @@ backPoints =
     ∷ given "NOR" 1450 0
     ∷ []
 
-abbrev ledgerOf : ℕ → ℕ → Outcome ℕ (List ℕ)
-ledgerOf number cells = callNationLedger accounts (owners .nations) (owners .entries) number (sevens cells)
+abbrev ledgerCall : ℕ → ℕ → Outcome ℕ (List ℕ)
+ledgerCall number cells = callNationLedger accounts (owners .nations) (owners .entries) number (sevens cells)
 
 -- Each nation; one word short; a number that no nation has, before the room; then a word over in the rows, and a record of version 2.
 unfoldable pub ledgerCases : List (Case (Outcome ℕ (List ℕ)))
 ledgerCases =
-    case (ledgerOf 0 57) (wrote 19 switchedPoints 0)
-    ∷ case (ledgerOf 1 7) (wrote 2 gonePoints 1)
-    ∷ case (ledgerOf 2 18) (wrote 6 backPoints 0)
-    ∷ case (ledgerOf 3 0) (wrote 0 [] 0)
-    ∷ case (ledgerOf 1 5) (kept 10 5)
-    ∷ case (ledgerOf 4 5) (kept 13 5)
+    case (ledgerCall 0 57) (wrote 19 switchedPoints 0)
+    ∷ case (ledgerCall 1 7) (wrote 2 gonePoints 1)
+    ∷ case (ledgerCall 2 18) (wrote 6 backPoints 0)
+    ∷ case (ledgerCall 3 0) (wrote 0 [] 0)
+    ∷ case (ledgerCall 1 5) (kept 10 5)
+    ∷ case (ledgerCall 4 5) (kept 13 5)
     ∷ case (callNationLedger accounts [] [] 0 (sevens 5)) (kept 13 5)
     ∷ case (callNationLedger accounts (owners .nations ++ (7 ∷ [])) (owners .entries) 4 (sevens 5)) (kept 11 5)
     ∷ case (callNationLedger (spoiled accounts) (owners .nations ++ (7 ∷ [])) (owners .entries) 4 (sevens 5)) (kept 2 5)

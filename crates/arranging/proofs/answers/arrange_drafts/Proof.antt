@@ -2,7 +2,7 @@
 use mathlib.Core.Path.{sym, _∙_}
 use borrow.Author.Tests.{not-true, not-false}
 use Rattle.rules.specs.HistoryRows.{historyRowsIn}
-use Rattle.arranging.specs.Cases.{lentCells}
+use Rattle.arranging.specs.Cases.{historyCells}
 use Rattle.arranging.proofs.ArrangeLaws.{ready-tested, arranged-refused, arranged-tested}
 use borrow.Author.Needs.{needs}
 use Rattle.arranging.proofs.answers.arrange_drafts.Statement.{statement}
@@ -14,7 +14,7 @@ is-ready-requires c κs = search needs
 returns : tie.Need-returns
 returns c =
     let a = c .before .before .before .before .before .before .args in
-    arranged-refused (historyRowsIn (a .drafts .now)) (a .keys .now) (a .ironman) (lentCells (a .histories .now) (a .names .now))
+    arranged-refused (historyRowsIn (a .drafts .now)) (a .keys .now) (a .ironman) (historyCells (a .histories .now) (a .names .now))
     (sym (c .before .is-ready .ensures) ∙ not-true _ (c .if1 .taken))
 
 put-drafts-requires : tie.Need-put-drafts-requires
@@ -35,7 +35,7 @@ returns-2 c =
     let test = put .before .before .before in
     let a = test .before .before .before .before .before .before .args in
     put .put-drafts .ensures
-    ∙ arranged-tested (historyRowsIn (a .drafts .now)) (a .keys .now) (a .ironman) (lentCells (a .histories .now) (a .names .now))
+    ∙ arranged-tested (historyRowsIn (a .drafts .now)) (a .keys .now) (a .ironman) (historyCells (a .histories .now) (a .names .now))
     (sym (test .before .is-ready .ensures) ∙ not-false _ (test .if1 .left))
 
 pub arrange-drafts-spec : {M : Type 1} → statement M

@@ -9,7 +9,7 @@ use lib.ListN.{length}
 use Rattle.lists.proofs.BoolLaws.{neither}
 use Rattle.lists.proofs.ElementLaws.{keep-short}
 use Rattle.rules.specs.HistoryRows.{historyRowsIn}
-use Rattle.arranging.specs.Cases.{lentCells}
+use Rattle.arranging.specs.Cases.{historyCells}
 use Rattle.arranging.specs.Arranging.{hasNames, keptOf}
 use Rattle.arranging.proofs.ArrangeLaws.{popped-some, kept-less, total-few, arranged-short, arranged-rows}
 use borrow.Author.Needs.{needs}
@@ -79,7 +79,7 @@ returns : tie.Need-returns
 returns c =
     let n = c .before in
     let b = begun n in
-    arranged-short (b .args .ironman) (historyRowsIn (b .args .drafts .now)) (b .args .keys .now) (b .pre .inside) (lentCells (b .args .histories .now) (b .args .names .now))
+    arranged-short (b .args .ironman) (historyRowsIn (b .args .drafts .now)) (b .args .keys .now) (b .pre .inside) (historyCells (b .args .histories .now) (b .args .names .now))
     (n .before .before .is-popped .result) (n .before .before .before .before .count-drafts .result) (n .before .before .before .count-drafts2 .result) (n .before .kept-of .result) (n .before .before .before .before .count-drafts .result + n .before .kept-of .result) (n .count-names .result)
     (n .before .before .is-popped .ensures) (n .before .before .before .before .count-drafts .ensures) (n .before .before .before .count-drafts2 .ensures) (n .before .kept-of .ensures) refl (n .count-names .ensures) (c .if1 .taken)
 
@@ -121,7 +121,7 @@ returns-2 c =
     let test = c .before .before .before .before .before .before .before .before in
     let n = test .before in
     let b = begun n in
-    arranged-rows (b .args .ironman) (historyRowsIn (b .args .drafts .now)) (b .args .keys .now) (b .pre .inside) (lentCells (b .args .histories .now) (b .args .names .now))
+    arranged-rows (b .args .ironman) (historyRowsIn (b .args .drafts .now)) (b .args .keys .now) (b .pre .inside) (historyCells (b .args .histories .now) (b .args .names .now))
     (n .before .before .is-popped .result) (n .before .before .before .before .count-drafts .result) (n .before .before .before .count-drafts2 .result) (n .before .kept-of .result) (n .before .before .before .before .count-drafts .result + n .before .kept-of .result) (n .count-names .result)
     (n .before .before .is-popped .ensures) (n .before .before .before .before .count-drafts .ensures) (n .before .before .before .count-drafts2 .ensures) (n .before .kept-of .ensures) refl (n .count-names .ensures) (test .if1 .left)
     _ _ (c .before .before .before .before .before .before .write-histories .ensures) (c .before .before .write-names .ensures)

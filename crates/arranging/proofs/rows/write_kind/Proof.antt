@@ -11,7 +11,7 @@ use Rattle.rules.specs.HistoryRows.{HistoryRow, historyRowWords, historyRowsIn}
 use Rattle.history_rows.specs.Cases.{historyTold}
 use Rattle.arranging.specs.Arranging.{hasNames, draftTold, historyFrom, historiesFrom}
 use Rattle.history_rows.proofs.PutLaws.{row-room, row-more}
-use Rattle.arranging.proofs.ArrangeStepLaws.{wordsLeft, words-new, words-next, words-none, words-done}
+use Rattle.arranging.proofs.ArrangeStepLaws.{wordsToCome, words-new, words-next, words-none, words-done}
 use borrow.Author.Needs.{needs}
 use Rattle.arranging.proofs.rows.write_kind.Statement.{statement}
 use Rattle.arranging.proofs.rows.write_kind.Tie as tie
@@ -20,7 +20,7 @@ abbrev Inv-loop : tie.InvT-loop
 Inv-loop rows named n names out₀ at₀ first₀ k₀ out at first k =
     (k ≤ n)
     × (first + sumOf (λ d. d .count) (keep (hasNames named) (drop at (historyRowsIn rows))) ≤ 4294967295)
-    × Filling (joinOf historyRowWords (historiesFrom first₀ (take n (keep (hasNames named) (historyRowsIn rows))))) (wordsLeft first n k (keep (hasNames named) (drop at (historyRowsIn rows)))) out₀ (7 * k) out
+    × Filling (joinOf historyRowWords (historiesFrom first₀ (take n (keep (hasNames named) (historyRowsIn rows))))) (wordsToCome first n k (keep (hasNames named) (drop at (historyRowsIn rows)))) out₀ (7 * k) out
 
 abbrev μ-loop : tie.MeasureT-loop
 μ-loop rows named n names out₀ at₀ first₀ k₀ out at first k = n - k
@@ -36,9 +36,9 @@ more c = told-row (draftTold _ _) (c .before .before .next-draft .ensures) (c .r
 
 -- So are its words.
 row : (c : tie.After-row Inv-loop μ-loop)
-    → wordsLeft (c .before .before .before .before .loop .first) (begun c .args .n) (c .before .before .before .before .loop .k) (keep (hasNames (begun c .args .named)) (drop (c .before .before .before .before .loop .at) (historyRowsIn (begun c .args .rows .now))))
+    → wordsToCome (c .before .before .before .before .loop .first) (begun c .args .n) (c .before .before .before .before .loop .k) (keep (hasNames (begun c .args .named)) (drop (c .before .before .before .before .loop .at) (historyRowsIn (begun c .args .rows .now))))
     ≡ historyRowWords (historyFrom (historyTold (c .row .given .0 .0)) (c .before .before .before .before .loop .first))
-    ++ wordsLeft (c .before .before .before .before .loop .first + historyTold (c .row .given .0 .0) .count) (begun c .args .n) (c .before .before .before .before .loop .k + 1) (keep (hasNames (begun c .args .named)) (drop (c .row .given .0 .1 .0) (historyRowsIn (begun c .args .rows .now))))
+    ++ wordsToCome (c .before .before .before .before .loop .first + historyTold (c .row .given .0 .0) .count) (begun c .args .n) (c .before .before .before .before .loop .k + 1) (keep (hasNames (begun c .args .named)) (drop (c .row .given .0 .1 .0) (historyRowsIn (begun c .args .rows .now))))
 row c = words-next _ _ _ _ _ (c .before .before .before .loop-test .taken) (more c)
 
 loop-holds : tie.Need-loop-holds Inv-loop μ-loop

@@ -6,7 +6,7 @@ use native.Mathlib.Omega.{arith}
 use lib.ListN.{length}
 use Rattle.record.specs.Cursors.{warTold}
 use Rattle.rules.specs.Bookings.{joiningsFrom}
-use Rattle.bookings.proofs.JoiningLaws.{steps, walk-on, walk-on-less, walk-on-few, walk-past, walk-joining, walk-less, walk-few, walk-end}
+use Rattle.bookings.proofs.JoiningLaws.{warSteps, walk-on, walk-on-less, walk-on-few, walk-past, walk-joining, walk-less, walk-few, walk-end}
 use borrow.Author.Needs.{needs}
 use Rattle.bookings.proofs.joinings.next_joining.Statement.{statement}
 use Rattle.bookings.proofs.joinings.next_joining.Tie as tie
@@ -16,7 +16,7 @@ Inv-loop s war₀ at₀ war at =
     (joiningsFrom war₀ (warTold s at₀) ≡ joiningsFrom war (warTold s at)) × (war + length (warTold s at) ≤ 4294967295)
 
 abbrev μ-loop : tie.MeasureT-loop
-μ-loop s war₀ at₀ war at = steps (warTold s at)
+μ-loop s war₀ at₀ war at = warSteps (warTold s at)
 
 loop-holds : tie.Need-loop-holds Inv-loop μ-loop
 loop-holds c = (refl, c .before .pre)
@@ -75,7 +75,7 @@ loop-less-2 c =
     omega (
       arith,
       walk-on-less _ (at .before .before .loop .war) (at .at .given .0 .0) (at .at .given .0 .1 .0) (at .at .given .1) (c .before .before .before .next .ensures) (c .before .enum-told .given .1),
-      ap steps (c .next2 .ensures),
+      ap warSteps (c .next2 .ensures),
     )
 
 loop-again-2 : tie.Need-loop-again-2 Inv-loop μ-loop

@@ -1,4 +1,5 @@
 -- The word of two flags is small, and the draft is put together from its parts.
+use Prim.Native.Nat.{_+_, _*_, _≤_}
 use native.Mathlib.Omega.{arith}
 use Rattle.draft_parts.proofs.PartLaws.{flags-small, draft-told}
 use Rattle.chronicle_rows.specs.Cases.{nationTold}
@@ -17,11 +18,18 @@ one-requires c κs = search needs
 one-requires-2 : tie.Need-one-requires-2
 one-requires-2 c κs = search needs
 
+small : (c : tie.After-one2) → c .before .one .result + 2 * c .one2 .result ≤ 3
+small c =
+    flags-small (c .before .before .before .before .before .before .before .args .row .human) (c .before .before .is-released .result) _ _ (c .before .one .ensures) (c .one2 .ensures)
+
 mul-t13 : tie.Need-mul-t13
-mul-t13 c = omega (arith, flags-small (c .before .before .before .before .before .before .before .args .row .human) (c .before .before .is-released .result) _ _ (c .before .one .ensures) (c .one2 .ensures))
+mul-t13 c = omega (arith, small c)
 
 add-t14 : tie.Need-add-t14
-add-t14 c = omega (arith, flags-small (c .before .before .before .before .before .before .before .args .row .human) (c .before .before .is-released .result) _ _ (c .before .one .ensures) (c .one2 .ensures))
+add-t14 c = omega (arith, small c)
+
+cast-t15 : tie.Need-cast-t15
+cast-t15 c = omega (arith, small c)
 
 returns : tie.Need-returns
 returns c =
@@ -37,4 +45,5 @@ draft-of-spec =
     one-requires-2
     mul-t13
     add-t14
+    cast-t15
     returns)

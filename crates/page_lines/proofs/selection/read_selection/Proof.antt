@@ -8,13 +8,13 @@ use borrow.Author.Needs.{needs}
 use lib.ListN.{length, drop}
 use Rattle.rules.specs.Page.{selectionOf}
 use Rattle.page_lines.specs.Selecting.{tagTold}
-use Rattle.page_lines.proofs.SelectionLaws.{counted, counted-zero, counted-end, counted-more, tag-inside}
+use Rattle.page_lines.proofs.SelectionLaws.{moreTags, tags-zero, tags-end, tags-more, tag-inside}
 use Rattle.page_lines.proofs.selection.read_selection.Statement.{statement}
 use Rattle.page_lines.proofs.selection.read_selection.Tie as tie
 
 abbrev Inv-loop : tie.InvT-loop
 Inv-loop selection at₀ count₀ at count =
-    (at ≤ length selection) × (at ≡ 4 * count) × (counted count (selectionOf (drop at selection)) ≡ Option·map length (selectionOf selection))
+    (at ≤ length selection) × (at ≡ 4 * count) × (moreTags count (selectionOf (drop at selection)) ≡ Option·map length (selectionOf selection))
 
 abbrev μ-loop : tie.MeasureT-loop
 μ-loop selection at₀ count₀ at count = length selection - at
@@ -31,7 +31,7 @@ inside : (c : tie.After-enum-told Inv-loop μ-loop)
 inside c = tag-inside _ _ (c .enum-told .given .0 .0) (told c)
 
 loop-holds : tie.Need-loop-holds Inv-loop μ-loop
-loop-holds c = (omega arith, omega arith, counted-zero (selectionOf (c .before .args .selection .now)))
+loop-holds c = (omega arith, omega arith, tags-zero (selectionOf (c .before .args .selection .now)))
 
 next-tag-requires : tie.Need-next-tag-requires Inv-loop μ-loop
 next-tag-requires c κs = search needs
@@ -49,7 +49,7 @@ returns : tie.Need-returns Inv-loop μ-loop
 returns c =
     let loop = c .before .before .before .loop in
     let end = c .before .before .next-tag .ensures ∙ ap (tagTold _ _) (c .enum-told2 .given .1) in
-    sym (counted-end (loop .count)) ∙ sym (ap (counted (loop .count)) end) ∙ loop .inv .2
+    sym (tags-end (loop .count)) ∙ sym (ap (moreTags (loop .count)) end) ∙ loop .inv .2
 
 enum-told-3 : tie.Need-enum-told-3 Inv-loop μ-loop
 enum-told-3 c = search needs
@@ -58,7 +58,7 @@ returns-2 : tie.Need-returns-2 Inv-loop μ-loop
 returns-2 c =
     let loop = c .before .before .before .loop in
     let end = c .before .before .next-tag .ensures ∙ ap (tagTold _ _) (c .enum-told3 .given .1) in
-    sym (ap (counted (loop .count)) end) ∙ loop .inv .2
+    sym (ap (moreTags (loop .count)) end) ∙ loop .inv .2
 
 add-at : tie.Need-add-at Inv-loop μ-loop
 add-at c = omega (arith, inside c)
@@ -71,7 +71,7 @@ loop-again c =
     let loop = c .before .before .before .loop in (
       inside c,
       omega (arith, loop .inv .1),
-      counted-more (loop .count) (c .enum-told .given .0 .0) (selectionOf (drop (loop .at + 4) (c .before .before .before .before .before .args .selection .now))) ∙ sym (ap (counted (loop .count)) (told c)) ∙ loop .inv .2,
+      tags-more (loop .count) (c .enum-told .given .0 .0) (selectionOf (drop (loop .at + 4) (c .before .before .before .before .before .args .selection .now))) ∙ sym (ap (moreTags (loop .count)) (told c)) ∙ loop .inv .2,
     )
 
 pub read-selection-spec : {M : Type 1} → statement M

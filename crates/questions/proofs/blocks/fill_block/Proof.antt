@@ -28,8 +28,8 @@ next-claim-requires c κs = search needs
 enum-known-claim : tie.Need-enum-known-claim Inv-loop μ-loop
 enum-known-claim c = search needs
 
-key-of-requires : tie.Need-key-of-requires Inv-loop μ-loop
-key-of-requires c κs = search needs
+lowest-key-requires : tie.Need-lowest-key-requires Inv-loop μ-loop
+lowest-key-requires c κs = search needs
 
 add-keys : tie.Need-add-keys Inv-loop μ-loop
 add-keys c = search needs
@@ -55,7 +55,7 @@ loop-less c = search needs
 loop-again : tie.Need-loop-again Inv-loop μ-loop
 loop-again c =
     let told = c .before .before .before .before .before .before in
-    taking-next _ _ _ _ _ _ _ _ (told .before .before .loop .inv) _ _ _ (search needs) (claim-row _ _ _ (told .next-claim .ensures) (c .before .before .before .before .claim .given .1)) (c .key-of .ensures .0)
+    taking-next _ _ _ _ _ _ _ _ (told .before .before .loop .inv) _ _ _ (search needs) (claim-row _ _ _ (told .next-claim .ensures) (c .before .before .before .before .claim .given .1)) (c .lowest-key .ensures .0)
 
 enum-told : tie.Need-enum-told Inv-loop μ-loop
 enum-told c = search needs
@@ -94,7 +94,7 @@ fill-block-spec =
     loop-holds
     next-claim-requires
     enum-known-claim
-    key-of-requires
+    lowest-key-requires
     add-keys
     mul-keys
     slice-write-keys

@@ -23,22 +23,22 @@ shared-slice-read-key c = search needs
 kept-requires : tie.Need-kept-requires
 kept-requires c κs = search needs
 
-key-of-requires : tie.Need-key-of-requires
-key-of-requires c κs = search needs
+lowest-key-requires : tie.Need-lowest-key-requires
+lowest-key-requires c κs = search needs
 
 returns-2 : tie.Need-returns-2
 returns-2 c =
     let k = c .before in
     let n = k .before .before .before in
     let a = n .before .before .args in
-    λ s. looked-below (a .tag) (a .date) _ _ _ _ (k .before .kept .ensures) (k .key-of .ensures .0) (n .before .before .pre) s (search needs) (search needs)
+    λ s. looked-below (a .tag) (a .date) _ _ _ _ (k .before .kept .ensures) (k .lowest-key .ensures .0) (n .before .before .pre) s (search needs) (search needs)
 
 returns-3 : tie.Need-returns-3
 returns-3 c =
     let k = c .before in
     let n = k .before .before .before in
     let a = n .before .before .args in
-    λ s. looked-there (a .tag) (a .date) _ _ _ _ (k .before .kept .ensures) (k .key-of .ensures .0) (n .before .before .pre) s (search needs) (search needs)
+    λ s. looked-there (a .tag) (a .date) _ _ _ _ (k .before .kept .ensures) (k .lowest-key .ensures .0) (n .before .before .pre) s (search needs) (search needs)
 
 pub key-before-spec : {M : Type 1} → statement M
 key-before-spec =
@@ -49,6 +49,6 @@ key-before-spec =
     mul-key
     shared-slice-read-key
     kept-requires
-    key-of-requires
+    lowest-key-requires
     returns-2
     returns-3)

@@ -57,8 +57,8 @@ look-up-near-requires c κs = search needs
 updated-row-requires : tie.Need-updated-row-requires Inv-loop μ-loop
 updated-row-requires c κs = search needs
 
-put-row-requires : tie.Need-put-row-requires Inv-loop μ-loop
-put-row-requires c κs = search needs
+put-words-requires : tie.Need-put-words-requires Inv-loop μ-loop
+put-words-requires c κs = search needs
 
 add-i : tie.Need-add-i Inv-loop μ-loop
 add-i c = search needs
@@ -76,7 +76,7 @@ loop-again c =
     let start = count .before .before .before .before .before .before .before .before in
     let a = start .args in (
       search needs,
-      passing-put _ _ _ _ (l .inv .1) _ _ _ (put .put-row .ensures) (omega (arith, start .pre .0, count .question-count .ensures, asked .before .loop-test .taken))
+      passing-put _ _ _ _ (l .inv .1) _ _ _ (put .put-words .ensures) (omega (arith, start .pre .0, count .question-count .ensures, asked .before .loop-test .taken))
           (block-row (a .questions .now) (a .keys .now) (a .owners .now) (a .out .now) (l .i) _ _ _ _ _ (put .before .before .updated-row .ensures) (look .look-up-near .ensures (start .pre .1)) (asked .question-at .ensures)
           (first-still _ _ _ _ (l .inv .1)) (second-still _ _ _ _ (l .inv .1))),
     )
@@ -110,7 +110,7 @@ answer-block-spec =
     slice-aggregate-look-up-near
     look-up-near-requires
     updated-row-requires
-    put-row-requires
+    put-words-requires
     add-i
     loop-less
     loop-again

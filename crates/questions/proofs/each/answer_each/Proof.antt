@@ -30,8 +30,8 @@ best-claim-requires c κs = search needs
 answer-row-requires : tie.Need-answer-row-requires Inv-loop μ-loop
 answer-row-requires c κs = search needs
 
-put-row-requires : tie.Need-put-row-requires Inv-loop μ-loop
-put-row-requires c κs = search needs
+put-words-requires : tie.Need-put-words-requires Inv-loop μ-loop
+put-words-requires c κs = search needs
 
 add-i : tie.Need-add-i Inv-loop μ-loop
 add-i c = search needs
@@ -49,7 +49,7 @@ loop-again c =
     let start = count .before .before .before .before .before in
     let a = start .args in (
       search needs,
-      passing-put _ _ _ _ (l .inv .1) _ _ _ (put .put-row .ensures) (omega (arith, start .pre, count .question-count .ensures, asked .before .loop-test .taken))
+      passing-put _ _ _ _ (l .inv .1) _ _ _ (put .put-words .ensures) (omega (arith, start .pre, count .question-count .ensures, asked .before .loop-test .taken))
           (claim-row (a .nations .now) (a .entries .now) (a .questions .now) (l .i) _ _ _ (put .before .answer-row .ensures) (best .best-claim .ensures) (asked .question-at .ensures)),
     )
 
@@ -73,7 +73,7 @@ answer-each-spec =
     question-at-requires
     best-claim-requires
     answer-row-requires
-    put-row-requires
+    put-words-requires
     add-i
     loop-less
     loop-again

@@ -16,8 +16,8 @@ abbrev μ-loop : tie.MeasureT-loop
 loop-holds : tie.Need-loop-holds Inv-loop μ-loop
 loop-holds c = (search needs, passing-start blankRow _)
 
-put-row-requires : tie.Need-put-row-requires Inv-loop μ-loop
-put-row-requires c κs = search needs
+put-words-requires : tie.Need-put-words-requires Inv-loop μ-loop
+put-words-requires c κs = search needs
 
 add-i : tie.Need-add-i Inv-loop μ-loop
 add-i c = search needs
@@ -28,7 +28,7 @@ loop-less c = search needs
 loop-again : tie.Need-loop-again Inv-loop μ-loop
 loop-again c =
     let l = c .before .before .before .before .before .loop in
-    (search needs, passing-put blankRow _ _ _ (l .inv .1) 0 0 _ (c .before .before .put-row .ensures) (search needs) refl)
+    (search needs, passing-put blankRow _ _ _ (l .inv .1) 0 0 _ (c .before .before .put-words .ensures) (search needs) refl)
 
 same-length : tie.Need-same-length Inv-loop μ-loop
 same-length c = c .before .loop .inv .1 .long
@@ -45,7 +45,7 @@ clear-rows-spec =
     Inv-loop
     μ-loop
     loop-holds
-    put-row-requires
+    put-words-requires
     add-i
     loop-less
     loop-again

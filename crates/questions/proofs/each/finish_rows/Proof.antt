@@ -30,8 +30,8 @@ slice-read-owner c = search needs
 finished-row-requires : tie.Need-finished-row-requires Inv-loop μ-loop
 finished-row-requires c κs = search needs
 
-put-row-requires : tie.Need-put-row-requires Inv-loop μ-loop
-put-row-requires c κs = search needs
+put-words-requires : tie.Need-put-words-requires Inv-loop μ-loop
+put-words-requires c κs = search needs
 
 add-i : tie.Need-add-i Inv-loop μ-loop
 add-i c = search needs
@@ -45,7 +45,7 @@ loop-again c =
     let l = put .before .before .before .before .before .loop in
     let a = put .before .before .before .before .before .before .before .before .args in (
       search needs,
-      passing-put _ _ _ _ (l .inv .1) _ _ _ (put .put-row .ensures) (search needs)
+      passing-put _ _ _ _ (l .inv .1) _ _ _ (put .put-words .ensures) (search needs)
           (finished-row (a .nations .now) (a .out .now) (l .i) _ _ (put .before .finished-row .ensures) (second-still _ _ _ _ (l .inv .1))),
     )
 
@@ -69,7 +69,7 @@ finish-rows-spec =
     mul-owner
     slice-read-owner
     finished-row-requires
-    put-row-requires
+    put-words-requires
     add-i
     loop-less
     loop-again

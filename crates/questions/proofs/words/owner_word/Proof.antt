@@ -1,5 +1,6 @@
 -- The number in its cell, or past the last one.
 use Prim.Native.Nat.{_%_}
+use Rattle.questions.specs.Layout.{claimNumbers}
 use Rattle.questions.proofs.WordLaws.{no-owner}
 use borrow.Author.Needs.{needs}
 use Rattle.questions.proofs.words.owner_word.Statement.{statement}
@@ -23,7 +24,7 @@ returns c = search needs
 returns-2 : tie.Need-returns-2
 returns-2 c =
     let a = c .before .args in
-    no-owner (a .owners .now) (a .key % 65536) (search needs)
+    no-owner (a .owners .now) (a .key % claimNumbers) (search needs)
 
 pub owner-word-spec : {M : Type 1} → statement M
 owner-word-spec =

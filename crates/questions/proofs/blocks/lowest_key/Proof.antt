@@ -2,8 +2,8 @@
 use native.Mathlib.Omega.{arith}
 use Rattle.questions.proofs.KeyLaws.{key-told}
 use borrow.Author.Needs.{needs}
-use Rattle.questions.proofs.blocks.key_of.Statement.{statement}
-use Rattle.questions.proofs.blocks.key_of.Tie as tie
+use Rattle.questions.proofs.blocks.lowest_key.Statement.{statement}
+use Rattle.questions.proofs.blocks.lowest_key.Tie as tie
 
 tag-bits-requires : tie.Need-tag-bits-requires
 tag-bits-requires c κs = search needs
@@ -27,7 +27,7 @@ returns : tie.Need-returns
 returns c =
     (key-told _ _ _ _ (c .before .tag-bits .ensures .0) (c .word .ensures), omega arith)
 
-pub key-of-spec : {M : Type 1} → statement M
-key-of-spec =
+pub lowest-key-spec : {M : Type 1} → statement M
+lowest-key-spec =
     tie.close
     (tie.spec tag-bits-requires mul-result word-requires cast-result mul-result-2 add-result returns)
