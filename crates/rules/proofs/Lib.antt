@@ -6,6 +6,7 @@ pub mod RowLaws
 pub mod ShapeLaws
 pub mod DemandLaws
 pub mod WitnessLaws
+pub mod OrderLaws
 pub mod LentLaws
 pub mod TableLaws
 pub mod CaseLaws
