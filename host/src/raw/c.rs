@@ -48,6 +48,7 @@ extern "C" {
         out_len: usize,
     ) -> i64;
 
+    /// By the tag that a nation began with.
     pub fn resolver_initial(
         nations: *const u32,
         nations_len: usize,
@@ -58,6 +59,7 @@ extern "C" {
         out_len: usize,
     ) -> i64;
 
+    /// Of a chronicle as it stood on a day.
     pub fn resolver_resolve_at(
         nations: *const u32,
         nations_len: usize,
@@ -70,6 +72,7 @@ extern "C" {
         out_len: usize,
     ) -> i64;
 
+    /// By the first tag, of a chronicle as it stood on a day.
     pub fn resolver_initial_at(
         nations: *const u32,
         nations_len: usize,

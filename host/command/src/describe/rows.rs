@@ -176,10 +176,12 @@ pub fn date(row: &[u8], at: usize) -> String {
     format!("{:04}-{:02}-{:02}", word / 10_000, word / 100 % 100, word % 100)
 }
 
+/// The 16 bits at a place, low byte first.
 pub fn short(row: &[u8], at: usize) -> usize {
     usize::from(u16::from_le_bytes([row[at], row[at + 1]]))
 }
 
+/// The 32 bits at a place, low byte first.
 pub fn long(row: &[u8], at: usize) -> u32 {
     u32::from_le_bytes([row[at], row[at + 1], row[at + 2], row[at + 3]])
 }

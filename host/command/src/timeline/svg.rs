@@ -47,6 +47,7 @@ impl Svg {
         self.put(format_args!("<title>{}</title>", escaped(title)));
     }
 
+    /// Words at a point, in a class of the style.
     pub fn text(&mut self, Text { x, y, class, text }: Text<'_>) {
         let text = escaped(text);
         self.put(format_args!("<text x=\"{x:.1}\" y=\"{y:.1}\" class=\"{class}\">{text}</text>"));
@@ -77,6 +78,7 @@ impl Svg {
         self.put(format_args!("<g><title>{}</title>", escaped(told)));
     }
 
+    /// What follows belongs to no group.
     pub fn end_group(&mut self) {
         self.put(format_args!("</g>"));
     }

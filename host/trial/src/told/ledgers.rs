@@ -12,6 +12,7 @@ const NATION: usize = 5;
 /// Words of a ledger row.
 const ROW: usize = 3;
 
+/// The ledger of one nation, counted first; over so many rows there is no room.
 pub fn of_one(
     rows: Chronicle<'_>,
     record: &[u8],
@@ -27,6 +28,7 @@ pub fn of_one(
     Ok(values(&out))
 }
 
+/// The ledgers of all nations, in room that is doubled until it suffices.
 pub fn of_all(
     rows: Chronicle<'_>,
     record: &[u8],

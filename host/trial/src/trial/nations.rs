@@ -11,6 +11,7 @@ use crate::rows::{change_words, entry_words, nation_words, tag_word};
 /// What is written into each of the six slices.
 type Words = [Vec<u32>; 6];
 
+/// With room for exactly the answer and for more; with one cell too few, or none, in each slice.
 pub fn accepted(record: &[u8], chronicle: &Chronicle) -> Result<(), String> {
     let words = words(chronicle);
     let exact: [usize; 6] = std::array::from_fn(|part| words[part].len());

@@ -11,6 +11,7 @@ use crate::rows::{change_words, Change, Run};
 /// No calendar has these: 0, the last day of February in a leap year, month 13, year 10000.
 const NO_DATES: [Date; 4] = [0, 14440229, 14441301, 100000101];
 
+/// All changes in slices of several lengths, the run of each date, and dates that are none.
 pub fn accepted(record: &[u8], changes: &[Change], runs: &[(Date, Run)]) -> Result<(), String> {
     let words = change_words(changes);
     for length in lengths(words.len()) {
@@ -28,6 +29,7 @@ pub fn accepted(record: &[u8], changes: &[Change], runs: &[(Date, Run)]) -> Resu
     Ok(())
 }
 
+/// A refused record is refused whatever is lent, and before a bad date.
 pub fn refused(record: &[u8], refusal: Refusal) -> Result<(), String> {
     for length in [0, 1, 40] {
         owners(record, length, Err(refusal), &[])?;

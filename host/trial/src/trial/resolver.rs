@@ -7,6 +7,7 @@ use super::same;
 use crate::guard::Lent;
 use crate::rows::{entry_words, nation_words, Nation, Question, Resolved};
 
+/// Each question by the call of its form, then all of the plain form at once.
 pub fn answered(nations: &[Nation], asked: &[(Question, Option<Resolved>)]) -> Result<(), String> {
     let [nations, entries] = [nation_words(nations), entry_words(nations)];
     let rows = Chronicle { nations: &nations, entries: &entries };

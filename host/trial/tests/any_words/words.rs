@@ -25,6 +25,7 @@ pub fn word(random: &mut Random) -> u32 {
     }
 }
 
+/// Fewer than so many words.
 pub fn words(random: &mut Random, most: usize) -> Vec<u32> {
     let length = random.below(most);
     (0..length).map(|_| word(random)).collect()

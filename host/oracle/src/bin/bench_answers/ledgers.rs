@@ -122,6 +122,7 @@ mod library {
         ledgers.iter().map(|words| words.len() / 3).sum()
     }
 
+    /// Every nation by calls of its own.
     pub fn each(given: &Given) -> Option<Timed> {
         let before = spent();
         let ledgers: Vec<Vec<u32>> =
@@ -155,6 +156,7 @@ mod library {
         Some((rows.expect(ROOM), time))
     }
 
+    /// All nations by one call, as values in memory of their own.
     pub fn as_values(given: &Given) -> Option<Timed> {
         let before = spent();
         let ledgers = lent(given).ledgers(black_box(&given.record), given.rows).expect(ROOM);

@@ -67,6 +67,7 @@ mod library {
         Some((written.expect("it is no more than a page holds"), time))
     }
 
+    /// A page beside the nations that it is written from.
     pub fn beside(name: &str, campaign: &Campaign, rounds: usize) {
         let record = pack(campaign);
         let tags = tags(campaign, if record.len() < 1_000 { 2 } else { MOST_TAGS });

@@ -110,6 +110,7 @@ fn summed(calls: [Timed; 3]) -> Timed {
 mod theirs {
     use super::*;
 
+    /// Pairs of players and tags.
     pub fn players(given: &Given) -> Timed {
         let before = spent();
         let answered = black_box(black_box(&given.rust).player_list());
@@ -117,6 +118,7 @@ mod theirs {
         (answered.len(), time)
     }
 
+    /// A history for each country that was played.
     pub fn histories(given: &Given) -> Timed {
         let before = spent();
         let answered = black_box(black_box(&given.rust).histories(&given.theirs));
@@ -124,6 +126,7 @@ mod theirs {
         (answered.len(), time)
     }
 
+    /// The country that the player began with.
     pub fn starting(given: &Given) -> Timed {
         let before = spent();
         let answered = black_box(black_box(&given.rust).starting_country(&given.histories));
@@ -131,6 +134,7 @@ mod theirs {
         (usize::from(answered.is_some()), time)
     }
 
+    /// The three calls together.
     pub fn all_three(given: &Given) -> Timed {
         summed([players(given), histories(given), starting(given)])
     }
@@ -141,6 +145,7 @@ mod ours {
 
     use super::*;
 
+    /// Pairs of players and tags.
     pub fn players(given: &Given) -> Option<Timed> {
         let mut out = vec![0; 2 * given.counts[1]];
         let before = spent();
@@ -149,6 +154,7 @@ mod ours {
         Some((answered.expect("there is room for every pair"), time))
     }
 
+    /// A history for each country that was played.
     pub fn histories(given: &Given) -> Option<Timed> {
         let rows = Chronicle { nations: &given.nations, entries: &given.entries };
         let [mut out, mut names] = [7 * given.counts[0], given.counts[1]].map(|n| vec![0; n]);
@@ -159,6 +165,7 @@ mod ours {
         Some((answered.expect("there is room for every country").histories, time))
     }
 
+    /// The country that the player began with.
     pub fn starting(given: &Given) -> Option<Timed> {
         let rows = Chronicle { nations: &given.nations, entries: &given.entries };
         let before = spent();
@@ -167,6 +174,7 @@ mod ours {
         Some((usize::from(answered.expect("the words are well shaped").is_some()), time))
     }
 
+    /// The three calls together.
     pub fn all_three(given: &Given) -> Option<Timed> {
         Some(summed([players(given)?, histories(given)?, starting(given)?]))
     }

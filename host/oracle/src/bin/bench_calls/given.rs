@@ -36,6 +36,7 @@ pub struct Page {
 }
 
 impl Given {
+    /// What all calls are given of a record, made once.
     pub fn of(record: &Record) -> Given {
         let campaign = (record.campaign)();
         let nations = model::chronicle(&campaign).nations;

@@ -43,6 +43,7 @@ pub struct Lent {
 }
 
 impl Lent {
+    /// The list as the Rust takes it, and as words.
     pub fn of(nations: Vec<Nation>) -> Lent {
         Lent {
             theirs: nations.iter().map(nation_events).collect(),
@@ -52,6 +53,7 @@ impl Lent {
         }
     }
 
+    /// The words, as they are lent.
     pub fn rows(&self) -> Chronicle<'_> {
         Chronicle { nations: &self.nation_words, entries: &self.entry_words }
     }
@@ -61,6 +63,7 @@ impl Lent {
         copies.sum::<usize>() <= MOST_COPIES
     }
 
+    /// Single questions of a form, by turns.
     pub fn race_one(&self, name: &str, (_, has): Form, rounds: usize) {
         let asked = self.single(has);
         self.agreed(&asked);
@@ -95,6 +98,7 @@ impl Lent {
         some_of(&mut random, list, SINGLE)
     }
 
+    /// Asks us one question; the two words of the answer, and the time.
     pub fn ask(&self, question: Question) -> ([u32; 2], Duration) {
         let mut out = [0; 2];
         let before = spent();
@@ -104,6 +108,7 @@ impl Lent {
         (out, time)
     }
 
+    /// Many questions at once, by turns.
     pub fn race_many(&self, name: &str, many: usize, rounds: usize) {
         let asked = self.many(many);
         let question = |&[tag, date]: &[u32; 2]| (save::tag(tag_of_word(tag)), save::date(date));

@@ -115,6 +115,7 @@ pub struct Rows<'a> {
 }
 
 impl<'a> Rows<'a> {
+    /// Where the sections begin, by the counts of the head.
     pub fn new(record: &'a [u8], counts: &Counts) -> Rows<'a> {
         Rows { record, starts: starts(counts) }
     }
