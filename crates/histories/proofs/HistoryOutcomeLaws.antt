@@ -85,10 +85,6 @@ module _ (c : Campaign) (ws es : List ℕ) (shaped : wellShaped ws es ≡ true) 
 
 -- ## From what the functions give to the outcome
 
--- A part from the first cell on.
-pub front-zero : (n : ℕ) (xs ys : List ℕ) → take n xs ≡ ys → take (n - 0) xs ≡ ys
-front-zero n xs ys e = let z : n - 0 ≡ n = omega arith in rw z e
-
 module _ (xs ws : List ℕ) (r : Record) (a : AcceptedRecord xs r) where
   abbrev camp : Campaign
   camp = campaignOf xs

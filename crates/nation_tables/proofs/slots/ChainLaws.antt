@@ -102,10 +102,10 @@ map-set f (x ∷ l) zero v = refl
 map-set f (x ∷ l) (suc i) v = ap (λ (m : List _). f x ∷ m) (map-set f l i v)
 
 -- The two halves of a cell.
-half-high : (a b : ℕ) → b < half → (a * half + b) / half ≡ a
+pub half-high : (a b : ℕ) → b < half → (a * half + b) / half ≡ a
 half-high a b h = omega arith
 
-half-low : (a b : ℕ) → b < half → (a * half + b) % half ≡ b
+pub half-low : (a b : ℕ) → b < half → (a * half + b) % half ≡ b
 half-low a b h = omega arith
 
 module _ (firsts : List ℕ) (row k : ℕ) where

@@ -7,6 +7,7 @@ use native.Mathlib.Omega.{arith}
 use lib.Dec.{leb}
 use lib.ListN.{length, take, length-map, length-take}
 use lib.Seq.{take-at, length-take-le}
+use Rattle.lists.proofs.WriteLaws.{from-first}
 use Rattle.sorting.proofs.SortLaws.{length-sort}
 use Rattle.format.specs.Campaign.{Campaign, Country, campaignOf}
 use Rattle.format.proofs.SoundLaws.{sound}
@@ -35,12 +36,7 @@ unfolding holdersOf
 slots-count c =
     length-map (holdersOf c) (slotCell (tagWords (c .countries))) ∙ length-map (slotsOf c) (λ slot. lastHolder c slot (movesOf c)) ∙ length-slots c
 
--- ## Parts from the first element on, as the code takes them
-
-from-first : (n : ℕ) (xs all : List ℕ) → take n xs ≡ all → take (n - 0) xs ≡ all
-from-first n xs all e = rw (sub-zero n) e
-
--- Such a part has as many elements as were taken.
+-- A part from the first element on has as many elements as were taken.
 length-first : (n k : ℕ) (xs : List ℕ) → n ≤ length xs → n ≡ k → length (take (n - 0) xs) ≡ k
 length-first n k xs l e = rw (sub-zero n) (length-take-le n xs l ∙ e)
 

@@ -10,6 +10,7 @@ use Rattle.nation_tables.specs.Layout.{half, nobodyCell}
 use Rattle.nation_tables.specs.Turning.{highHalves, lowHalves, keyDate, Rowed}
 use Rattle.nation_tables.specs.Holders.{Step, stepAt, stepsOf, turnsAlong, cellsAlong, turnCell, Replaced, Passed}
 use Rattle.lists.proofs.StepLaws.{map-next, map-end}
+use Rattle.nation_tables.proofs.slots.ChainLaws.{half-high, half-low}
 
 -- ## Steps in general
 
@@ -29,16 +30,10 @@ turn-dates cells (key ∷ keys) slots =
 
 -- The rows of a turn have 16 bits each, so its cell tells both.
 cell-high : (a b : ℕ) → (a % half * half + b % half) / half ≡ a % half
-cell-high a b = let h : a % half < half = omega arith in let l : b % half < half = omega arith in split (a % half) (b % half) l
-  where
-    split : (x y : ℕ) → y < half → (x * half + y) / half ≡ x
-    split x y h = omega arith
+cell-high a b = half-high (a % half) (b % half) (omega arith)
 
 cell-low : (a b : ℕ) → (a % half * half + b % half) % half ≡ b % half
-cell-low a b = let l : b % half < half = omega arith in split (a % half) (b % half) l
-  where
-    split : (x y : ℕ) → y < half → (x * half + y) % half ≡ y
-    split x y h = omega arith
+cell-low a b = half-low (a % half) (b % half) (omega arith)
 
 old-rows : (slots : List ℕ) (steps : List Step) → highHalves (map turnCell (turnsAlong slots steps)) ≡ map (λ x. x .old) (turnsAlong slots steps)
 unfolding turnsAlong

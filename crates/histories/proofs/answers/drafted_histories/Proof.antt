@@ -16,7 +16,8 @@ use Rattle.players.specs.PlayerSteps.{playersLeft}
 use Rattle.draft_parts.specs.Marks.{storedWord}
 use Rattle.histories.specs.Tables.{playerKey}
 use Rattle.histories.specs.Drafts.{playedLeft, draftWith}
-use Rattle.histories.proofs.HistoryOutcomeLaws.{front-zero, few-players, few-countries, outcome-told}
+use Rattle.lists.proofs.WriteLaws.{from-first}
+use Rattle.histories.proofs.HistoryOutcomeLaws.{few-players, few-countries, outcome-told}
 use borrow.Author.Needs.{needs}
 use Rattle.histories.proofs.answers.drafted_histories.Statement.{statement}
 use Rattle.histories.proofs.answers.drafted_histories.Tie as tie
@@ -28,7 +29,7 @@ begun c = c .before .before .before .before .before .before .before .before
 sorted : (c : tie.After-sort-players)
     → take (c .sort-players .result - 0) (c .sort-players .last .1 .1 .1 .0)
     ≡ sortBy leb (map playerKey (playersLeft (begun c .args .s .now) (begun c .args .rows .multiplayer) (record { number = 0; strings = begun c .args .rows .strings })))
-sorted c = front-zero (c .sort-players .result) (c .sort-players .last .1 .1 .1 .0) _ (c .sort-players .ensures .cells)
+sorted c = from-first (c .sort-players .result) (c .sort-players .last .1 .1 .1 .0) _ (c .sort-players .ensures .cells)
 
 room : (c : tie.After-sort-players) → c .sort-players .result ≤ length (c .sort-players .last .1 .1 .1 .0)
 room c =
@@ -38,7 +39,7 @@ room c =
 drafted : (c : tie.After-draft-rows)
     → take (7 * c .draft-rows .result - 0) (c .draft-rows .last .1 .1 .1 .1 .0)
     ≡ joinOf historyRowWords (map (λ k. draftWith (begun (c .before .before .before .before .before) .args .nations .now) (take (c .before .before .before .before .before .sort-players .result - 0) (c .before .before .before .before .before .sort-players .last .1 .1 .1 .0)) k (storedWord (begun (c .before .before .before .before .before) .args .nations .now) (k .tag) % 4294967296)) (playedLeft (begun (c .before .before .before .before .before) .args .s .now) (begun (c .before .before .before .before .before) .args .rows .countries)))
-drafted c = front-zero (7 * c .draft-rows .result) (c .draft-rows .last .1 .1 .1 .1 .0) _ (c .draft-rows .ensures .rows)
+drafted c = from-first (7 * c .draft-rows .result) (c .draft-rows .last .1 .1 .1 .1 .0) _ (c .draft-rows .ensures .rows)
 
 few : (c : tie.After-draft-rows) → c .draft-rows .result ≤ 2000
 few c =
