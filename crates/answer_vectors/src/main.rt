@@ -49,6 +49,35 @@ fn same_counts(head: &[u8], counts: NationCounts) -> bool {
         & (counts.countries == stored::number(head, 6))
 }
 
+// 1 for other rows and cells than the stored ones, which follow each other in the head's counts.
+fn wrong_cells(
+    head: &[u8],
+    bytes: &[u8],
+    nations: &[u32],
+    entries: &[u32],
+    holders: &[u32],
+    held: &[u32],
+) -> u64
+    ensures { λ r. ⌜ r ≤ 1 ⌝ }
+{
+    let n = 5 * stored::number(head, 3);
+    let e = 3 * stored::number(head, 4);
+    let slots = stored::number(head, 5);
+    if !stored::same_from(nations, bytes, 0, n) {
+        return 1;
+    }
+    if !stored::same_from(entries, bytes, n, e) {
+        return 1;
+    }
+    if !stored::same_from(holders, bytes, n + e, slots) {
+        return 1;
+    }
+    if !stored::same_from(held, bytes, n + e + slots, stored::number(head, 6)) {
+        return 1;
+    }
+    0
+}
+
 // 1 for other nations, entries, holders or slots held than the stored ones.
 fn wrong_nations(s: &[u8], head: &[u8], bytes: &[u8]) -> u64
     ensures { λ r. ⌜ r ≤ 1 ⌝ }
@@ -70,22 +99,7 @@ fn wrong_nations(s: &[u8], head: &[u8], bytes: &[u8]) -> u64
             if !same_counts(head, counts) {
                 return 1;
             }
-            let n = 5 * stored::number(head, 3);
-            let e = 3 * stored::number(head, 4);
-            let slots = stored::number(head, 5);
-            if !stored::same_from(&nations, bytes, 0, n) {
-                return 1;
-            }
-            if !stored::same_from(&entries, bytes, n, e) {
-                return 1;
-            }
-            if !stored::same_from(&holders, bytes, n + e, slots) {
-                return 1;
-            }
-            if !stored::same_from(&held, bytes, n + e + slots, stored::number(head, 6)) {
-                return 1;
-            }
-            0
+            wrong_cells(head, bytes, &nations, &entries, &holders, &held)
         }
         NationEvents::Refused(_) => 1,
     }
