@@ -58,6 +58,7 @@ fn wrong_cells(
     holders: &[u32],
     held: &[u32],
 ) -> u64
+    requires { ⌜ (5000 ≤ length (now nations)) × (3000 ≤ length (now entries)) × (1000 ≤ length (now holders)) × (1000 ≤ length (now held)) ⌝ }
     ensures { λ r. ⌜ r ≤ 1 ⌝ }
 {
     let n = 5 * stored::number(head, 3);
