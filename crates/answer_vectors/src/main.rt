@@ -49,7 +49,7 @@ fn same_counts(head: &[u8], counts: NationCounts) -> bool {
         & (counts.countries == stored::number(head, 6))
 }
 
-// 1 for other rows and cells than the stored ones, which follow each other in the head's counts.
+// 1 for other words than the stored ones, of which a head says how many there are of each.
 fn wrong_cells(
     head: &[u8],
     bytes: &[u8],
