@@ -143,17 +143,18 @@ static void compare(const uint8_t *s, size_t size) {
     }
 }
 
-/* Up to three bytes changed, a third of them in the head; and now and then a shorter record. */
+/* Up to three bytes changed, a quarter of them in the head, half of them by one; and now and then a shorter record. */
 static void compare_damaged(uint8_t *s, size_t size, unsigned times) {
+    size_t head = size < HEAD ? size : HEAD;
     uint64_t w = 1;
     for (; times > 0; times--) {
         size_t at[3], changes = 1 + times % 3;
         uint8_t was[3];
         for (size_t i = 0; i < changes; i++) {
             w = w * 6364136223846793005u + 1442695040888963407u;
-            at[i] = (w >> 33) % (w >> 32 & 3 ? size : HEAD);
+            at[i] = (w >> 33) % ((w >> 40) % 4 ? size : head);
             was[i] = s[at[i]];
-            s[at[i]] = w >> 56;
+            s[at[i]] = (w >> 42) % 2 ? w >> 56 : was[i] + 1 - 2 * ((w >> 43) % 2);
         }
         compare(s, times % 50 == 0 ? (w >> 33) % size : size);
         while (changes > 0) {
