@@ -2,6 +2,7 @@
 // answers. The list is made by host/oracle's answer_vectors. Its numbers take 32 bits each, low byte first: the bytes of
 // the record, and how many changes, days, nations, entries, slots and countries follow; then these, of 4, 3, 5, 3, 1 and
 // 1 numbers each. Held to the record are its changes, days and nations.
+#![tactic(auto)]
 mod stored;
 
 ghost use Rattle.std.specs.Prelude.{◌≤◌, length};
@@ -11,7 +12,7 @@ use libc::STDOUT_FILENO;
 use record::Eu4Date;
 
 // Whether the list goes on, how many days were asked for, and how many answers are wrong.
-#[derive(Drop)]
+#[derive(Clone, Copy)]
 struct Replayed {
     more: bool,
     days: u64,

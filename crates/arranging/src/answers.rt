@@ -14,14 +14,14 @@ const MOST_DRAFTS: usize = 2000;
 const MOST_KEYS: usize = 1000;
 
 // How many histories, and how many names.
-#[derive(Drop)]
+#[derive(Clone, Copy)]
 pub struct HistoryCounts {
     pub histories: usize,
     pub names: usize,
 }
 
 // The numbers of histories and of names, which are written, or the number of the refusal.
-#[derive(Drop)]
+#[derive(Clone, Copy)]
 pub enum PlayerHistories {
     Rows(HistoryCounts),
     Refused(u32),

@@ -7,7 +7,7 @@ ghost use Rattle.arranging.specs.Arranging.{has_names, draft_told};
 
 use history_rows::{History, history_at, history_count};
 
-#[derive(Drop)]
+#[derive(Clone, Copy)]
 pub(crate) enum NextDraft {
     Row(History, usize),
     End,

@@ -10,7 +10,7 @@ use chronicle_rows::is_well_shaped;
 use record::{Opened, Wars};
 
 // How many rows were written, or the number of the refusal.
-#[derive(Drop)]
+#[derive(Clone, Copy)]
 pub enum Bookings {
     Rows(usize),
     Refused(u32),

@@ -8,7 +8,7 @@ use record::{CountryTag, Eu4Date, NextWar, NextWarEvent};
 const LAST_JOINING: u32 = 1;
 
 // On this date the tag joined the war of that number.
-#[derive(Drop)]
+#[derive(Clone, Copy)]
 pub(crate) struct Joining {
     pub(crate) war: u32,
     pub(crate) date: Eu4Date,
@@ -16,13 +16,13 @@ pub(crate) struct Joining {
 }
 
 // Where a walk over the joinings stands: the number of the war at hand, with the events that it has left, and the wars behind it.
-#[derive(Drop)]
+#[derive(Clone, Copy)]
 pub(crate) struct JoiningWalk {
     pub(crate) war: u32,
     pub(crate) at: NextWar,
 }
 
-#[derive(Drop)]
+#[derive(Clone, Copy)]
 pub(crate) enum NextJoining {
     Row(Joining, JoiningWalk),
     End,

@@ -5,7 +5,7 @@ ghost use Rattle.change_keys.specs.ChangeSteps.{changes_left, change_told};
 use record::{CountryTag, Eu4Date, NextOwnerEvent, NextProvince, ProvinceId, ProvinceRow};
 
 // On this date the province passed from one tag to another.
-#[derive(Drop)]
+#[derive(Clone, Copy)]
 pub struct OwnerChange {
     pub date: Eu4Date,
     pub id: ProvinceId,
@@ -13,7 +13,7 @@ pub struct OwnerChange {
     pub to: CountryTag,
 }
 
-#[derive(Drop)]
+#[derive(Clone, Copy)]
 pub enum NextChange {
     Row(OwnerChange, NextProvince),
     End,

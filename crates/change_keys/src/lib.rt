@@ -1,4 +1,5 @@
 // Owner changes one by one, and the sort keys that they are ordered by.
+#![tactic(auto)]
 mod changes;
 mod keys;
 

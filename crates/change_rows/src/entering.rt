@@ -10,7 +10,7 @@ use lists::one;
 use record::Provinces;
 
 // How many changes were entered, and how many of them go before the one that was entered before them.
-#[derive(Drop)]
+#[derive(Clone, Copy)]
 pub(crate) struct Walked {
     pub(crate) count: usize,
     pub(crate) falls: usize,

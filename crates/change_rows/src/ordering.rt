@@ -8,7 +8,7 @@ use lists::least;
 use record::Provinces;
 
 // How many changes are ahead, whose rows are written, or that there is no room for them.
-#[derive(Drop)]
+#[derive(Clone, Copy)]
 pub enum OrderedRows {
     Rows(usize),
     NoRoom,

@@ -1,5 +1,5 @@
 // How many rows of each kind a chronicle has.
-#[derive(Drop)]
+#[derive(Clone, Copy)]
 pub struct NationCounts {
     pub nations: usize,
     pub entries: usize,

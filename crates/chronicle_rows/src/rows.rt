@@ -13,7 +13,7 @@ pub const NATION_WIDTH: usize = 5;
 pub const ENTRY_WIDTH: usize = 3;
 
 // A nation row: three tags, the number of its first entry row, and how many it has.
-#[derive(Drop)]
+#[derive(Clone, Copy)]
 pub struct Nation {
     pub initial: CountryTag,
     pub latest: CountryTag,
@@ -23,21 +23,21 @@ pub struct Nation {
 }
 
 // What an entry tells.
-#[derive(Drop)]
+#[derive(Clone, Copy)]
 pub enum Kind {
     Switch(CountryTag),
     Appeared,
     Annexed,
 }
 
-#[derive(Drop)]
+#[derive(Clone, Copy)]
 pub struct Entry {
     pub date: Eu4Date,
     pub kind: Kind,
 }
 
 // An entry row as it stands: its kind and its target may be any words.
-#[derive(Drop)]
+#[derive(Clone, Copy)]
 pub(crate) struct EntryRow {
     pub(crate) date: Eu4Date,
     pub(crate) kind: u32,

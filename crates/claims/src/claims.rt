@@ -10,7 +10,7 @@ use chronicle_rows::{Kind, entry_at, nation_at, nation_count};
 use format::{CountryTag, Eu4Date};
 
 // A nation, by its number from 0, goes by a tag from a date on.
-#[derive(Drop)]
+#[derive(Clone, Copy)]
 pub struct Claim {
     pub tag: CountryTag,
     pub date: Eu4Date,
@@ -18,7 +18,7 @@ pub struct Claim {
 }
 
 // Where a walk over the claims stands: whose entries are left, from which number to which, and which nation comes behind them.
-#[derive(Drop)]
+#[derive(Clone, Copy)]
 pub struct Walk {
     owner: usize,
     entry: usize,
@@ -26,7 +26,7 @@ pub struct Walk {
     coming: usize,
 }
 
-#[derive(Drop)]
+#[derive(Clone, Copy)]
 pub enum NextClaim {
     Row(Claim, Walk),
     End,
@@ -98,7 +98,7 @@ impl Walk {
     }
 }
 
-#[derive(Drop)]
+#[derive(Clone, Copy)]
 pub enum BestClaim {
     Best(Claim),
     Nothing,
@@ -106,7 +106,7 @@ pub enum BestClaim {
 
 // The best claim so far; none as long as `found` is 0. The passes carry it in place of the enum: a copy of that moves bytes which no variant
 // uses, and takes longer than the rest of a step.
-#[derive(Drop)]
+#[derive(Clone, Copy)]
 pub(crate) struct SoFar {
     pub(crate) found: usize,
     pub(crate) claim: Claim,

@@ -4,10 +4,10 @@ ghost use Rattle.format.specs.Dates.{year as yearOf};
 ghost use Rattle.format.specs.Days.{month_day, is_day, in_years};
 
 // A date as year*10000 + month*100 + day: number order is date order.
-#[derive(Drop)]
+#[derive(Clone, Copy)]
 pub struct Eu4Date(pub(crate) u32);
 
-#[derive(Drop)]
+#[derive(Clone, Copy)]
 pub enum Dated {
     Date(Eu4Date),
     NoDate,

@@ -2,7 +2,7 @@
 use crate::date::Eu4Date;
 
 // The head's numbers: version, flags, dates, and the counts of C, P, A, B, E, N, W, V, G and Y.
-#[derive(Drop)]
+#[derive(Clone, Copy)]
 pub struct Head {
     pub version: u32,
     pub flags: u32,

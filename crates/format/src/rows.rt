@@ -5,7 +5,7 @@ use crate::date::Eu4Date;
 use crate::tag::CountryTag;
 
 // A province's number, from 0 to the number of provinces in an accepted record.
-#[derive(Drop)]
+#[derive(Clone, Copy)]
 pub struct ProvinceId(pub(crate) u32);
 
 impl ProvinceId {
@@ -25,21 +25,21 @@ impl ProvinceId {
 }
 
 // A country was known as `from` until this date.
-#[derive(Drop)]
+#[derive(Clone, Copy)]
 pub struct Switch {
     pub date: Eu4Date,
     pub from: CountryTag,
 }
 
 // A province passed to this tag.
-#[derive(Drop)]
+#[derive(Clone, Copy)]
 pub struct OwnerEvent {
     pub date: Eu4Date,
     pub tag: CountryTag,
 }
 
 // Kind 0 adds an attacker, 1 a defender; 2 and 3 remove one; 4 is a battle.
-#[derive(Drop)]
+#[derive(Clone, Copy)]
 pub struct WarEvent {
     pub date: Eu4Date,
     pub kind: u32,
@@ -47,7 +47,7 @@ pub struct WarEvent {
 }
 
 // A ledger's value in a year; the value is signed, as a word in two's complement.
-#[derive(Drop)]
+#[derive(Clone, Copy)]
 pub struct Point {
     pub year: u32,
     pub value: u32,

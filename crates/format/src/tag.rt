@@ -2,10 +2,10 @@ ghost use Rattle.std.specs.Prelude.{◌≡◌};
 ghost use Rattle.format.specs.Tags.{tag_byte, tag_of, is_tag, created_tag, tested, same_tag, NONE, created, tag_of_word};
 
 // A country's tag of three bytes, held as its word a*65536 + b*256 + c: equal words are equal tags, and word order is byte order.
-#[derive(Drop)]
+#[derive(Clone, Copy)]
 pub struct CountryTag(pub(crate) u32);
 
-#[derive(Drop)]
+#[derive(Clone, Copy)]
 pub enum Created {
     Tag(CountryTag),
     NoTag,

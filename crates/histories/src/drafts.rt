@@ -18,7 +18,7 @@ use sorting::sort_keys;
 const WORDS: u64 = 4294967296;
 
 // Where the players of a tag stand among the sorted keys, and how many they are.
-#[derive(Drop)]
+#[derive(Clone, Copy)]
 pub(crate) struct NameRun {
     pub(crate) first: usize,
     pub(crate) count: usize,

@@ -1,4 +1,5 @@
 // History rows by value, whether they are well shaped, and the country that a campaign was started as, which they tell.
+#![tactic(auto)]
 mod rows;
 mod starting;
 

@@ -13,7 +13,7 @@ use format::CountryTag;
 pub const HISTORY_WIDTH: usize = 7;
 
 // A history row: three tags; its nation, counted from 1, or 0; 1 for a human; where its names begin in the list of names, and how many.
-#[derive(Drop)]
+#[derive(Clone, Copy)]
 pub struct History {
     pub initial: CountryTag,
     pub latest: CountryTag,

@@ -15,7 +15,7 @@ use chronicle_rows::{Kind, entry_at, is_well_shaped, nation_at, nation_count};
 use format::CountryTag;
 
 // The starting country, nothing, or the number of the refusal.
-#[derive(Drop)]
+#[derive(Clone, Copy)]
 pub enum Starting {
     Found(CountryTag),
     Nothing,
@@ -23,7 +23,7 @@ pub enum Starting {
 }
 
 // How many histories lack Appeared; of a single one its initial.
-#[derive(Drop)]
+#[derive(Clone, Copy)]
 pub(crate) enum Lacking {
     Nobody,
     One(CountryTag),

@@ -1,4 +1,5 @@
 // How the answers of the calls reach the host: the number that a C function returns, and words in a lent slice.
+#![tactic(auto)]
 mod counts;
 mod found;
 mod numbers;

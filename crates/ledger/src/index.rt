@@ -58,7 +58,7 @@ pub(crate) fn index_names(s: &[u8], ledgers: Ledgers, keys: &mut [u64], places: 
 }
 
 // The points of a ledger name, if it was found.
-#[derive(Drop)]
+#[derive(Clone, Copy)]
 pub(crate) enum NamePoints {
     Found(Points),
     Nothing,

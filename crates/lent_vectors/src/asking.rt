@@ -26,7 +26,7 @@ fn asked(nations: &[u32], entries: &[u32], row: &[u32]) -> Resolved
 }
 
 // An answer as a row stores it: the number of a refusal, else 0, and two tags, else zeros.
-#[derive(Drop)]
+#[derive(Clone, Copy)]
 struct StoredAnswer {
     number: u32,
     current: u32,

@@ -5,7 +5,7 @@ use crate::stored;
 use chronicle::NationLedger;
 
 // An answer as it is stored: the number of a refusal, else 0, and how many rows, else 0.
-#[derive(Drop)]
+#[derive(Clone, Copy)]
 struct Ledger {
     number: u32,
     rows: usize,

@@ -12,6 +12,7 @@
 // 4 players.
 // 5 histories; besides: cells lent for names, then the names.
 // 6 a starting country; besides: the history words.
+#![tactic(auto)]
 mod asking;
 mod booking;
 mod ledgers;
@@ -27,7 +28,7 @@ const HEAD: usize = 10;
 
 // Whether the list goes on, how many questions were asked one at a time, and how many answers are other ones than stored: wrong, or
 // noticed if one was falsified.
-#[derive(Drop)]
+#[derive(Clone, Copy)]
 struct Replayed {
     more: bool,
     questions: u64,
@@ -48,7 +49,7 @@ fn broken() -> Replayed
 }
 
 // Where the parts of a vector begin that follow its nation words, and where the last one ends.
-#[derive(Drop)]
+#[derive(Clone, Copy)]
 struct Places {
     entries: usize,
     single: usize,
@@ -203,7 +204,7 @@ fn replay(file: i32, bytes: &mut [u8], words: &mut [u32]) -> Replayed
 }
 
 // What a whole list comes to.
-#[derive(Drop)]
+#[derive(Clone, Copy)]
 struct Tally {
     vectors: u64,
     questions: u64,

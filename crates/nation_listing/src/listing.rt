@@ -15,7 +15,7 @@ use nation_tables::{KEY_ROWS, ROW_SPAN};
 use record::{CountryTag, Eu4Date};
 
 // How many nations are listed, and how many entries they have.
-#[derive(Drop)]
+#[derive(Clone, Copy)]
 pub struct Listed {
     pub nations: usize,
     pub entries: usize,

@@ -9,7 +9,7 @@ use change_keys::PER_DATE;
 use nation_tables::{HALF, NO_CHANGE};
 use record::Eu4Date;
 
-#[derive(Drop)]
+#[derive(Clone, Copy)]
 pub(crate) struct Lives {
     pub lose: usize,
     pub gain: usize,
@@ -17,21 +17,21 @@ pub(crate) struct Lives {
 }
 
 // What a change gives the country: nothing to tell, or an entry's date and whether the country was annexed.
-#[derive(Drop)]
+#[derive(Clone, Copy)]
 enum Turned {
     Silent(Lives),
     Told(Eu4Date, bool, Lives),
 }
 
 // The next entry and the walk behind it, or the slots held in the end.
-#[derive(Drop)]
+#[derive(Clone, Copy)]
 pub(crate) enum NextLife {
     Life(Eu4Date, bool, Lives),
     End(u32),
 }
 
 // How many entries a country has, and the slots that it holds in the end.
-#[derive(Drop)]
+#[derive(Clone, Copy)]
 pub(crate) struct LivesCount {
     pub entries: usize,
     pub held: u32,

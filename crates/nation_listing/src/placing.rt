@@ -12,7 +12,7 @@ use chronicle_rows::{ENTRY_WIDTH, NATION_WIDTH};
 use record::Eu4Date;
 
 // The nations and entries that are written, or that a slice is too short for them, or that the tables cannot be read.
-#[derive(Drop)]
+#[derive(Clone, Copy)]
 pub enum Placed {
     Rows(Listed),
     Short,

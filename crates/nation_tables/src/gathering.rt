@@ -11,7 +11,7 @@ use change_keys::MOST_CHANGES;
 use record::{Countries, Eu4Date, Opened, Provinces};
 
 // How many countries there are, and keys that changes settle by: of each switch and of each country.
-#[derive(Drop)]
+#[derive(Clone, Copy)]
 pub(crate) struct Sizes {
     pub countries: usize,
     pub settling: usize,
@@ -61,7 +61,7 @@ pub(crate) fn arrange(
 }
 
 // Where a record begins: its start date, its first country and its first province.
-#[derive(Drop)]
+#[derive(Clone, Copy)]
 pub(crate) struct Origin {
     pub start: Eu4Date,
     pub countries: Countries,
@@ -69,7 +69,7 @@ pub(crate) struct Origin {
 }
 
 // Where an accepted record begins, or the number of the refusal.
-#[derive(Drop)]
+#[derive(Clone, Copy)]
 pub(crate) enum Beginning {
     At(Origin),
     Refused(u32),
@@ -95,7 +95,7 @@ fn begin_at(s: &[u8]) -> Beginning
 }
 
 // How many countries, switches, slots and changes the tables have, and the start date of the record.
-#[derive(Drop)]
+#[derive(Clone, Copy)]
 pub struct TableSizes {
     pub start: Eu4Date,
     pub countries: usize,
@@ -105,7 +105,7 @@ pub struct TableSizes {
 }
 
 // The sizes of the tables, which are filled, and the first province; or the number of the refusal.
-#[derive(Drop)]
+#[derive(Clone, Copy)]
 pub enum TablesGathered {
     Tables(TableSizes, Provinces),
     Refused(u32),

@@ -17,7 +17,7 @@ use record::{
 };
 
 // What the keys of switches are in order by: the tag that was left and the date, or the row of the country and the date.
-#[derive(Drop)]
+#[derive(Clone, Copy)]
 pub(crate) enum SwitchOrder {
     ByFrom,
     ByRow,

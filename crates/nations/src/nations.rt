@@ -18,7 +18,7 @@ const SMALL_RECORD: usize = 16384;
 const FEW_ROWS: usize = 2341;
 
 // The number of rows of each kind, which are written, or the number of the refusal.
-#[derive(Drop)]
+#[derive(Clone, Copy)]
 pub enum NationEvents {
     Rows(NationCounts),
     Refused(u32),

@@ -9,7 +9,7 @@ use nation_tables::{MOST_COUNTRIES, TableSizes, TablesGathered};
 use record::Provinces;
 
 // The sizes of the tables, the first province and what is listed; or the number of the refusal.
-#[derive(Drop)]
+#[derive(Clone, Copy)]
 pub(crate) enum NationsTold {
     Rows(TableSizes, Provinces, Listed),
     Refused(u32),

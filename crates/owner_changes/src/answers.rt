@@ -13,7 +13,7 @@ use lists::one;
 use record::{Dated, Eu4Date, Opened, Provinces};
 
 // The number of changes, whose rows are written, or the number of the refusal.
-#[derive(Drop)]
+#[derive(Clone, Copy)]
 pub enum Owners {
     Rows(usize),
     Refused(u32),
@@ -45,7 +45,7 @@ pub fn province_owners(s: &[u8], out: &mut [u32]) -> Owners
 }
 
 // Where the changes of a date begin, and how many there are, or the number of the refusal.
-#[derive(Drop)]
+#[derive(Clone, Copy)]
 pub enum EventsOn {
     Run(usize, usize),
     Refused(u32),

@@ -1,4 +1,5 @@
 // Owner changes.
+#![tactic(auto)]
 mod answers;
 
 pub use answers::{EventsOn, Owners, events_on, province_owners};

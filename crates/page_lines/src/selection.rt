@@ -11,13 +11,13 @@ use format::{CountryTag, Created};
 pub const TAG_LINE: usize = 4;
 
 // How many tags were read, or that the bytes are anything else.
-#[derive(Drop)]
+#[derive(Clone, Copy)]
 pub enum Selection {
     Tags(usize),
     NotTags,
 }
 
-#[derive(Drop)]
+#[derive(Clone, Copy)]
 pub enum NextTag {
     Row(CountryTag),
     End,

@@ -4,7 +4,7 @@ ghost use Rattle.std.specs.Prelude.{◌≤◌, length};
 use pages::CampaignFile;
 
 // How many bytes were read, and whether a read failed behind them.
-#[derive(Drop)]
+#[derive(Clone, Copy)]
 pub(crate) struct Taken {
     pub(crate) count: usize,
     pub(crate) failed: bool,

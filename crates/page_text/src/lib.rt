@@ -1,4 +1,5 @@
 // The text of the page: its first line, and a line for each tag of the selection.
+#![tactic(auto)]
 mod status;
 mod stored;
 mod tag_lines;

@@ -15,7 +15,7 @@ use page_lines::{
 };
 
 // How many bytes were written, or the number of the refusal.
-#[derive(Drop)]
+#[derive(Clone, Copy)]
 pub enum PageText {
     Bytes(usize),
     Refused(u32),

@@ -1,4 +1,5 @@
 // The page of a record for a selection of tags.
+#![tactic(auto)]
 mod listing;
 mod paging;
 mod printing;

@@ -14,7 +14,7 @@ const ENTRY_WORDS: usize = 15000;
 const CHANGE_WORDS: usize = 16000;
 
 // How many words the nation rows have, or that the record is past the page's limits.
-#[derive(Drop)]
+#[derive(Clone, Copy)]
 pub(crate) enum PageNations {
     Words(usize),
     OverLimits,

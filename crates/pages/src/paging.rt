@@ -15,7 +15,7 @@ const MOST_BYTES: usize = 65536;
 const NATION_WORDS: usize = 10000;
 
 // The number of bytes that were written, or of the refusal.
-#[derive(Drop)]
+#[derive(Clone, Copy)]
 pub enum Paged {
     Bytes(usize),
     Refused(u32),

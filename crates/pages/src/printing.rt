@@ -13,14 +13,14 @@ use page_lines::{LINE_FEED, put_number};
 pub const PRINTED_BYTES: usize = 409615;
 
 // Whether campaign.atl could be read.
-#[derive(Drop)]
+#[derive(Clone, Copy)]
 pub enum CampaignFile {
     Readable,
     Unreadable,
 }
 
 // How many bytes are to be printed, be it the page or the line of its refusal; refused is only a slice that is too short.
-#[derive(Drop)]
+#[derive(Clone, Copy)]
 pub enum Printed {
     Bytes(usize),
     Refused(u32),

@@ -1,7 +1,7 @@
 // What the call answers, by case.
 
 // The number of players, whose rows are written, or the number of the refusal.
-#[derive(Drop)]
+#[derive(Clone, Copy)]
 pub enum Players {
     Rows(usize),
     Refused(u32),

@@ -1,4 +1,5 @@
 // The players of a campaign.
+#![tactic(auto)]
 mod answers;
 mod pairs;
 mod player_rows;

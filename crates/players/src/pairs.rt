@@ -11,7 +11,7 @@ const STRING_NUMBERS: u32 = 65536;
 const PAIR_WIDTH: u32 = 2;
 
 // Where name and text stand, and the string number of the name.
-#[derive(Drop)]
+#[derive(Clone, Copy)]
 pub(crate) struct Pair {
     pub(crate) number: u32,
     pub(crate) name: Text,
@@ -19,13 +19,13 @@ pub(crate) struct Pair {
 }
 
 // A cursor over pairs: the strings left, and the number of the first of them.
-#[derive(Drop)]
+#[derive(Clone, Copy)]
 pub struct Pairs {
     pub number: u32,
     pub strings: Strings,
 }
 
-#[derive(Drop)]
+#[derive(Clone, Copy)]
 pub(crate) enum NextPair {
     Row(Pair, Pairs),
     End,

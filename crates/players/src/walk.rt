@@ -14,19 +14,19 @@ use record::{CountryTag, Created};
 const NAMELESS_LEN: usize = 6;
 
 // A player: the string number of the name, and the tag.
-#[derive(Drop)]
+#[derive(Clone, Copy)]
 pub struct Player {
     pub name: u32,
     pub tag: CountryTag,
 }
 
-#[derive(Drop)]
+#[derive(Clone, Copy)]
 pub(crate) enum Made {
     One(Player),
     Nobody,
 }
 
-#[derive(Drop)]
+#[derive(Clone, Copy)]
 pub enum NextPlayer {
     Row(Player, Pairs),
     End,

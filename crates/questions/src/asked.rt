@@ -11,7 +11,7 @@ use format::{CountryTag, Eu4Date};
 // How many words a question has, and its answer.
 pub(crate) const QUESTION_WIDTH: usize = 2;
 
-#[derive(Drop)]
+#[derive(Clone, Copy)]
 pub struct Question {
     pub tag: CountryTag,
     pub date: Eu4Date,

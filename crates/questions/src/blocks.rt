@@ -38,7 +38,7 @@ fn lowest_key(tag: CountryTag, date: Eu4Date) -> u64
 }
 
 // How many claims were taken, and where to go on.
-#[derive(Drop)]
+#[derive(Clone, Copy)]
 pub struct Block {
     pub count: usize,
     pub rest: Walk,
@@ -94,7 +94,7 @@ pub fn sort_block(
 }
 
 // The key of a block's claim that answers a question.
-#[derive(Drop)]
+#[derive(Clone, Copy)]
 pub enum Looked {
     Key(u64),
     Nothing,

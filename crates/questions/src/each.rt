@@ -15,7 +15,7 @@ use claims::{Walk, best_claim};
 use search::{CELLS, index_block};
 
 // How many questions were answered, or the number of the refusal.
-#[derive(Drop)]
+#[derive(Clone, Copy)]
 pub enum Each {
     Rows(usize),
     Refused(u32),

@@ -15,7 +15,7 @@ use claims::BestClaim;
 // How many words an answer's row has.
 pub(crate) const ANSWER_WIDTH: usize = 2;
 
-#[derive(Drop)]
+#[derive(Clone, Copy)]
 pub struct Words {
     pub first: u32,
     pub second: u32,

@@ -10,10 +10,10 @@ use crate::runs::Run;
 use format::{CountryTag, OwnerEvent, ProvinceId, Switch, WarEvent};
 
 // A country's previous tags.
-#[derive(Drop)]
+#[derive(Clone, Copy)]
 pub struct PreviousTags(Run);
 
-#[derive(Drop)]
+#[derive(Clone, Copy)]
 pub enum NextPreviousTag {
     Row(CountryTag, PreviousTags),
     End,
@@ -33,10 +33,10 @@ impl PreviousTags {
 }
 
 // A country's switches.
-#[derive(Drop)]
+#[derive(Clone, Copy)]
 pub struct Switches(Run);
 
-#[derive(Drop)]
+#[derive(Clone, Copy)]
 pub enum NextSwitch {
     Row(Switch, Switches),
     End,
@@ -61,10 +61,10 @@ impl Switches {
 }
 
 // A province's owner events.
-#[derive(Drop)]
+#[derive(Clone, Copy)]
 pub struct OwnerEvents(Run);
 
-#[derive(Drop)]
+#[derive(Clone, Copy)]
 pub enum NextOwnerEvent {
     Row(OwnerEvent, OwnerEvents),
     End,
@@ -89,10 +89,10 @@ impl OwnerEvents {
 }
 
 // A war's events.
-#[derive(Drop)]
+#[derive(Clone, Copy)]
 pub struct WarEvents(Run);
 
-#[derive(Drop)]
+#[derive(Clone, Copy)]
 pub enum NextWarEvent {
     Row(WarEvent, WarEvents),
     End,
@@ -118,7 +118,7 @@ impl WarEvents {
 }
 
 // A country's row, with cursors over what it owns.
-#[derive(Drop)]
+#[derive(Clone, Copy)]
 pub struct CountryRow {
     pub tag: CountryTag,
     pub human: bool,
@@ -129,14 +129,14 @@ pub struct CountryRow {
     pub switches: Switches,
 }
 
-#[derive(Drop)]
+#[derive(Clone, Copy)]
 pub struct Countries {
     pub(crate) rows: Run,
     pub(crate) previous: Run,
     pub(crate) switches: Run,
 }
 
-#[derive(Drop)]
+#[derive(Clone, Copy)]
 pub enum NextCountry {
     Row(CountryRow, Countries),
     End,
@@ -184,20 +184,20 @@ impl Countries {
 }
 
 // A province's row, with a cursor over its owner events.
-#[derive(Drop)]
+#[derive(Clone, Copy)]
 pub struct ProvinceRow {
     pub id: ProvinceId,
     pub owner: CountryTag,
     pub events: OwnerEvents,
 }
 
-#[derive(Drop)]
+#[derive(Clone, Copy)]
 pub struct Provinces {
     pub(crate) rows: Run,
     pub(crate) events: Run,
 }
 
-#[derive(Drop)]
+#[derive(Clone, Copy)]
 pub enum NextProvince {
     Row(ProvinceRow, Provinces),
     End,
@@ -244,13 +244,13 @@ impl Provinces {
     }
 }
 
-#[derive(Drop)]
+#[derive(Clone, Copy)]
 pub struct Wars {
     pub(crate) rows: Run,
     pub(crate) events: Run,
 }
 
-#[derive(Drop)]
+#[derive(Clone, Copy)]
 pub enum NextWar {
     Row(WarEvents, Wars),
     End,

@@ -7,10 +7,10 @@ use crate::runs::Run;
 use format::{CountryTag, Point};
 
 // A ledger's points.
-#[derive(Drop)]
+#[derive(Clone, Copy)]
 pub struct Points(Run);
 
-#[derive(Drop)]
+#[derive(Clone, Copy)]
 pub enum NextPoint {
     Row(Point, Points),
     End,
@@ -43,19 +43,19 @@ impl Points {
 }
 
 // A ledger name's row, with a cursor over its points.
-#[derive(Drop)]
+#[derive(Clone, Copy)]
 pub struct LedgerRow {
     pub tag: CountryTag,
     pub points: Points,
 }
 
-#[derive(Drop)]
+#[derive(Clone, Copy)]
 pub struct Ledgers {
     pub(crate) rows: Run,
     pub(crate) points: Run,
 }
 
-#[derive(Drop)]
+#[derive(Clone, Copy)]
 pub enum NextLedger {
     Row(LedgerRow, Ledgers),
     End,

@@ -9,7 +9,7 @@ use crate::runs::Run;
 use crate::texts::Strings;
 use format::{Eu4Date, Head};
 
-#[derive(Drop)]
+#[derive(Clone, Copy)]
 pub struct Record {
     pub ironman: bool,
     pub multiplayer: bool,
@@ -22,7 +22,7 @@ pub struct Record {
     pub strings: Strings,
 }
 
-#[derive(Drop)]
+#[derive(Clone, Copy)]
 pub enum Opened {
     Accepted(Record),
     Refused(u32),

@@ -5,7 +5,7 @@ ghost use Rattle.record.specs.Runs.{has_row, standing_rows, first_run, past_run,
 use lists::least;
 
 // Rows of one width: where the next one stands, and how many are left.
-#[derive(Drop)]
+#[derive(Clone, Copy)]
 pub struct Run {
     pub(crate) at: usize,
     pub(crate) left: usize,

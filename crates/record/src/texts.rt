@@ -7,7 +7,7 @@ use crate::{bytes, runs};
 use lists::least;
 
 // A string's place; `bytes` gives its bytes.
-#[derive(Drop)]
+#[derive(Clone, Copy)]
 pub struct Text {
     start: usize,
     len: usize,
@@ -28,10 +28,10 @@ impl Text {
     }
 }
 
-#[derive(Drop)]
+#[derive(Clone, Copy)]
 pub struct Strings(pub(crate) Run);
 
-#[derive(Drop)]
+#[derive(Clone, Copy)]
 pub enum NextString {
     Row(Text, Strings),
     End,

@@ -1,4 +1,5 @@
 // The check of a record: which number refuses it, if any does.
+#![tactic(auto)]
 mod bytes;
 mod refusal;
 mod repeats;

@@ -30,21 +30,21 @@ fn total(s: &[u8], at: usize, width: usize, k: usize, n: usize) -> usize
 // The counts in the rows that own others, added up for each section owned.
 fn previous_total(s: &[u8], h: Head) -> usize
     requires { Laid s.now h }
-    ensures* { λ r. ⌜ r ≡ sum_of (λ r. r.previous) (country_rows s.now) ⌝ }
+    ensures { result ≡ sum_of (λ r. r.previous) (country_rows s.now) }
 {
     total(s, record_head::COUNTRIES_AT, 12, 8, h.countries as usize)
 }
 
 fn switches_total(s: &[u8], h: Head) -> usize
     requires { Laid s.now h }
-    ensures* { λ r. ⌜ r ≡ sum_of (λ r. r.switches) (country_rows s.now) ⌝ }
+    ensures { result ≡ sum_of (λ r. r.switches) (country_rows s.now) }
 {
     total(s, record_head::COUNTRIES_AT, 12, 10, h.countries as usize)
 }
 
 fn events_total(s: &[u8], h: Head) -> usize
     requires { Laid s.now h }
-    ensures* { λ r. ⌜ r ≡ sum_of (λ r. r.events) (province_rows s.now) ⌝ }
+    ensures { result ≡ sum_of (λ r. r.events) (province_rows s.now) }
 {
     total(s, record_head::provinces_at(h), 7, 5, h.provinces as usize)
 }
@@ -58,7 +58,7 @@ fn war_events_total(s: &[u8], h: Head) -> usize
 
 fn points_total(s: &[u8], h: Head) -> usize
     requires { Laid s.now h }
-    ensures* { λ r. ⌜ r ≡ sum_of (λ r. r.points) (ledger_rows s.now) ⌝ }
+    ensures { result ≡ sum_of (λ r. r.points) (ledger_rows s.now) }
 {
     total(s, record_head::ledgers_at(h), 5, 3, h.ledgers as usize)
 }

@@ -168,7 +168,7 @@ fn switches_field(tags: &[bool; 256], days: &[bool; 10000], s: &[u8], h: Head) -
 
 fn provinces_field(tags: &[bool; 256], s: &[u8], h: Head) -> u32
     requires { (Laid s.now h) × (TagTable tags.now) }
-    ensures* { λ r. ⌜ r ≡ first_in (λ r. tag_number r.owner) (province_rows s.now) ⌝ }
+    ensures { result ≡ first_in (λ r. tag_number r.owner) (province_rows s.now) }
 {
     tags_number(
         tags,
@@ -202,7 +202,7 @@ fn wars_field(tags: &[bool; 256], days: &[bool; 10000], s: &[u8], h: Head) -> u3
 
 fn ledgers_field(tags: &[bool; 256], s: &[u8], h: Head) -> u32
     requires { (Laid s.now h) × (TagTable tags.now) }
-    ensures* { λ r. ⌜ r ≡ first_in (λ r. tag_number r.tag) (ledger_rows s.now) ⌝ }
+    ensures { result ≡ first_in (λ r. tag_number r.tag) (ledger_rows s.now) }
 {
     tags_number(
         tags,

@@ -1,4 +1,5 @@
 // The first bad field of a record: numbers 4, 5, 6 and 9 of its check.
+#![tactic(auto)]
 mod bytes;
 mod fields;
 mod tables;

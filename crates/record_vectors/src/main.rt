@@ -1,10 +1,11 @@
 // Replays the stored records of vectors.bin, each a length in 32 bits, its expected number and its bytes, and counts the wrong answers.
+#![tactic(auto)]
 ghost use Rattle.std.specs.Prelude.{◌<◌, ◌≤◌, length};
 
 use libc::STDOUT_FILENO;
 
 // Whether the list had another record, and 1 for a wrong answer.
-#[derive(Drop)]
+#[derive(Clone, Copy)]
 struct Replayed {
     more: bool,
     wrong: u64,

@@ -17,14 +17,14 @@ use claims::BestClaim;
 use format::{CountryTag, Eu4Date};
 
 // A tag value, and the tag under which it is stored in the save.
-#[derive(Drop)]
+#[derive(Clone, Copy)]
 pub struct TagData {
     pub current: CountryTag,
     pub stored: CountryTag,
 }
 
 // What a question gives: a tag, nothing, or the number of its refusal.
-#[derive(Drop)]
+#[derive(Clone, Copy)]
 pub enum Resolved {
     Found(TagData),
     Nothing,
@@ -139,7 +139,7 @@ pub fn initial(nations: &[u32], entries: &[u32], tag: CountryTag) -> Resolved
 }
 
 // A resolver set to a day: of each nation it looks only at the entries before the first dated later.
-#[derive(Drop)]
+#[derive(Clone, Copy)]
 pub struct TagResolverDated {
     pub day: Eu4Date,
 }

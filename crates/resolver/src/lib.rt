@@ -1,4 +1,5 @@
 // The resolver: under which tag a country that was once known by a tag stands now, and where it is stored.
+#![tactic(auto)]
 mod forms;
 mod worn;
 

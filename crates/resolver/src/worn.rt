@@ -8,7 +8,7 @@ ghost use Rattle.resolver.specs.Found.{worn_told, worn_in};
 use chronicle_rows::{Kind, Nation, entry_at};
 use format::{CountryTag, Eu4Date};
 
-#[derive(Drop)]
+#[derive(Clone, Copy)]
 pub(crate) enum Worn {
     Tag(CountryTag),
     Nothing,

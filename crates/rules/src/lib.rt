@@ -1,1 +1,3 @@
 // The rules of every answer as definitions, and laws on them. It has no code.
+
+#![tactic(auto)]

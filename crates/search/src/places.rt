@@ -11,7 +11,7 @@ use format::CountryTag;
 pub const KEYS_PER_TAG: u64 = 65536;
 
 // The number of an element, if one was found.
-#[derive(Drop)]
+#[derive(Clone, Copy)]
 pub enum Place {
     At(usize),
     Nowhere,

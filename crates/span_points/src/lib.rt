@@ -1,4 +1,5 @@
 // The points that one span gives: counted, and written as rows of three words.
+#![tactic(auto)]
 mod counting;
 mod filling;
 mod reading;

@@ -9,7 +9,7 @@ use chronicle_rows::{Kind, Nation, entry_at};
 use format::{CountryTag, Eu4Date};
 
 // A tag, with the dates whose years bound the points that it gives.
-#[derive(Drop)]
+#[derive(Clone, Copy)]
 pub struct Span {
     pub tag: CountryTag,
     pub start: Eu4Date,
@@ -17,7 +17,7 @@ pub struct Span {
 }
 
 // The span that no entry has closed yet, and whether Annexed came last.
-#[derive(Drop)]
+#[derive(Clone, Copy)]
 pub struct RunningSpan {
     pub(crate) tag: CountryTag,
     pub(crate) start: Eu4Date,
@@ -25,7 +25,7 @@ pub struct RunningSpan {
 }
 
 // Where a walk over spans stands: what is running, which entries are left, and whether what runs on behind them was given.
-#[derive(Drop)]
+#[derive(Clone, Copy)]
 pub struct SpanWalk {
     pub(crate) running: RunningSpan,
     pub(crate) entry: usize,
@@ -33,7 +33,7 @@ pub struct SpanWalk {
     pub(crate) ended: bool,
 }
 
-#[derive(Drop)]
+#[derive(Clone, Copy)]
 pub enum NextSpan {
     Row(Span, SpanWalk),
     End,
