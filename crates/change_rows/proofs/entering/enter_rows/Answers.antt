@@ -1,0 +1,54 @@
+use mathlib.Core.Path.{◌≡◌, refl, sym, ap}
+use mathlib.Core.List.{◌∷◌}
+use native.Mathlib.Omega.{arith}
+use Prim.Native.Nat.{◌*◌}
+use lib.Dec.{ltb}
+use lib.ListN.{length, length-take, length-drop}
+use Rattle.lists.specs.Lists.{join_of}
+use Rattle.lists.proofs.BoolLaws.{one-small}
+use Rattle.lists.proofs.WriteLaws.{behind}
+use Rattle.format.proofs.CampaignLaws.{told-row, told-end}
+use Rattle.rules.specs.Changes.{province_changes, change_width, change_words}
+use Rattle.change_keys.specs.ChangeSteps.{change_of, changes_left, change_told}
+use Rattle.change_rows.proofs.EnterRowLaws.{enter-start, enter-room, enter-more, enter-done, rows-entered}
+use Rattle.change_rows.proofs.entering.enter_rows.Goals as goal
+
+-- The change that was told is the first of those left.
+more : (c : tie.After-x invariant-loop decreases-loop)
+    → changes_left c.before.before.before.before.before.before.before.args.s.now c.before.before.before.loop.at
+    ≡ change_of c.x.given.0.0 ∷ changes_left c.before.before.before.before.before.before.before.args.s.now c.x.given.0.1.0
+more c = told-row (change_told _) c.before.before.next-change.ensures c.x.given.1 refl
+
+pub loop-x-init : goal.loop-x-init
+loop-x-init c =
+    let ahead = ap (λ ps. length (join_of province_changes ps)) c.next-at.ensures in
+    enter-start _ _ _ refl (omega (arith, c.requires, ahead))
+
+pub overflow_add-falls : goal.overflow_add-falls
+overflow_add-falls c =
+    let l = c.loop-x in
+    omega (arith, l.invariant.few, l.invariant.rows.long, c.well-formed.1.1.0.0, enter-room l.invariant (more c), c.one-falls.ensures, one-small (ltb c.change_key-key.result l.last))
+
+pub put_change-requires : goal.put_change-requires
+put_change-requires c =
+    let l = c.loop-x in
+    simp (length-take, length-drop) (omega (arith, enter-room l.invariant (more c)))
+
+pub loop-x-smaller : goal.loop-x-smaller
+loop-x-smaller c = omega (arith, ap length (more c))
+
+pub loop-x-preserved : goal.loop-x-preserved
+loop-x-preserved c =
+    let l = c.loop-x in
+    let x = change_of c.in-Row.x in
+    let wrote = behind l.out (change_words x) c.put_change.new.out (change_width * l.count) (enter-room l.invariant (more c)) c.put_change.ensures in
+    enter-more l.invariant (more c) c.change_key-key.result c.one-falls.result c.change_key-key.ensures c.one-falls.ensures wrote
+
+pub shape_of-out-in-End : goal.shape_of-out-in-End
+shape_of-out-in-End c = c.loop-x.invariant.rows.long
+
+pub returns-in-End : goal.returns-in-End
+returns-in-End c =
+    let ahead = ap (join_of province_changes) (sym c.next-at.ensures) in
+    let end = told-end (change_told _) c.next_change.ensures c.in-End.is refl in
+    rows-entered _ _ _ _ _ _ ahead (enter-done c.loop-x.invariant end)

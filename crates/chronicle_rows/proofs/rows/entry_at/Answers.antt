@@ -1,0 +1,10 @@
+-- The entry of the row.
+use mathlib.Core.Path.{ap, ◌∙◌}
+use Rattle.rules.specs.Chronicle.{Kind}
+use Rattle.rules.specs.NationRows.{entry_of}
+use Rattle.chronicle_rows.proofs.rows.entry_at.Goals as goal
+
+pub returns : goal.returns
+returns c =
+    let row = c.entry_row-row in
+    ap (λ (k : Kind). record { date = row.result.date; kind = k }) c.kind_of-kind.ensures ∙ ap entry_of row.ensures

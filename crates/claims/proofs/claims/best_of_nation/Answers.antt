@@ -1,0 +1,8 @@
+-- The nation's row, then its initial, then its switches.
+use Rattle.claims.proofs.ScannedLaws.{best-nation}
+use Rattle.claims.proofs.claims.best_of_nation.Goals as goal
+
+pub returns : goal.returns
+returns c =
+    let a = c.args in
+    best-nation a.nations.now a.entries.now a.i _ _ a.tag a.date _ _ _ c.nation_at-row.ensures c.kept.ensures c.better-own.ensures c.best_switch.ensures

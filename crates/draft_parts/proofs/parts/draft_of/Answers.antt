@@ -1,0 +1,29 @@
+-- The word of two flags is small, and the draft is put together from its parts.
+use Prim.Native.Nat.{◌+◌, ◌*◌, ◌≤◌}
+use native.Mathlib.Omega.{arith}
+use Rattle.draft_parts.proofs.PartLaws.{flags-small, draft-told}
+use Rattle.chronicle_rows.specs.Cases.{nation_told}
+use mir.Facts.{to_z-of_z}
+use mir.Syntax.{w32}
+use borrow.Author.Rules.{sfits_of}
+use Rattle.draft_parts.proofs.parts.draft_of.Goals as goal
+
+pub overflow_mul-result : goal.overflow_mul-result
+overflow_mul-result c =
+    let small : c.one.result + 2 * c.one-2.result ≤ 3 = flags-small c.args.row.human c.is_released-released.result _ _ c.one.ensures c.one-2.ensures in
+    omega (arith, small)
+
+pub overflow_add-result : goal.overflow_add-result
+overflow_add-result c =
+    let small : c.one.result + 2 * c.one-2.result ≤ 3 = flags-small c.args.row.human c.is_released-released.result _ _ c.one.ensures c.one-2.ensures in
+    omega (arith, small)
+
+pub overflow_cast-result : goal.overflow_cast-result
+overflow_cast-result c =
+    let small : c.one.result + 2 * c.one-2.result ≤ 3 = flags-small c.args.row.human c.is_released-released.result _ _ c.one.ensures c.one-2.ensures in
+    omega (arith, small)
+
+pub returns : goal.returns
+returns c =
+    let a = c.args in
+    draft-told a.row.human a.row.has_switched_nation a.row.cities a.word (nation_told a.n) a.first a.count _ _ _ _ (to_z-of_z {w = w32} {z = a.row.cities} (sfits_of {w = w32} {z = a.row.cities} c.struct_told-1.given.1.1.1.1.0.1)) c.is_released-released.ensures c.one.ensures c.one-2.ensures

@@ -1,0 +1,34 @@
+use mathlib.Core.Path.{◌≡◌, refl, ap, ◌∙◌}
+use mathlib.Core.List.{◌∷◌}
+use native.Mathlib.Omega.{arith}
+use lib.ListN.{length}
+use Rattle.format.proofs.CampaignLaws.{told-row, told-end}
+use Rattle.format.specs.Campaign.{Country}
+use Rattle.lists.specs.Lists.{keep}
+use Rattle.record.specs.Cursors.{countries_left, country_of, country_told}
+use Rattle.arranging.proofs.KeptLaws.{kept_here, kept-past}
+use Rattle.histories.proofs.drafts.next_played.Goals as goal
+
+-- The country that was told is the first of those left.
+more : (c : tie.After-row invariant-loop decreases-loop)
+    → countries_left (begun c).args.s.now c.before.before.before.loop.at
+    ≡ country_of (begun c).args.s.now c.row.given.0.0 ∷ countries_left (begun c).args.s.now c.row.given.0.1.0
+more c = told-row (country_told _) c.before.before.next.ensures c.row.given.1 refl
+
+pub loop-row-init : goal.loop-row-init
+loop-row-init c = refl
+
+pub returns-then-row : goal.returns-then-row
+returns-then-row c =
+    c.loop-row.invariant ∙ kept_here (λ (k : Country). k.was_player) _ _ (more c) c.if-row.true
+
+pub loop-row-smaller : goal.loop-row-smaller
+loop-row-smaller c = omega (arith, ap length (more c))
+
+pub loop-row-preserved : goal.loop-row-preserved
+loop-row-preserved c =
+    c.loop-row.invariant ∙ kept-past (λ (k : Country). k.was_player) _ _ (more c) c.if-row.false
+
+pub returns-in-End : goal.returns-in-End
+returns-in-End c =
+    c.loop-row.invariant ∙ ap (keep (λ (k : Country). k.was_player)) (told-end (country_told _) c.next.ensures c.in-End.is refl)

@@ -1,0 +1,36 @@
+use native.Mathlib.Omega.{arith}
+use Rattle.ledger.proofs.LedgerLaws.{count-end}
+use Rattle.ledger.proofs.NationLaws.{nations-start, nations-all, nations-none, nation-counted}
+use Rattle.ledger.proofs.counting.count_ledgers.Goals as goal
+
+pub loop-i-init : goal.loop-i-init
+loop-i-init c =
+    let a = c.args in
+    (omega arith, nations-start a.s.now a.nations.now a.entries.now c.nation_count-end.result a.most)
+
+pub overflow_sub-most : goal.overflow_sub-most
+overflow_sub-most c = c.loop-i.invariant.1.few
+
+pub count_ledger-n-requires : goal.count_ledger-n-requires
+count_ledger-n-requires c = c.requires
+
+pub loop-i-preserved : goal.loop-i-preserved
+loop-i-preserved c =
+    (
+      omega (arith, c.loop-i-test.true),
+      nation-counted c.args.s.now c.args.nations.now c.args.entries.now c.loop-i.i _ c.nation_at-row.result c.nation_at-row.ensures c.loop-i-test.true
+          c.loop-i.invariant.1 c.count_ledger-n.result c.count_ledger-n.ensures,
+    )
+
+pub overflow_add-n : goal.overflow_add-n
+overflow_add-n c = omega (arith, (loop-again c).1.few, c.ranges.most)
+
+pub loop-i-smaller : goal.loop-i-smaller
+loop-i-smaller c = omega (arith, c.loop-i-test.true)
+
+pub returns : goal.returns
+returns c =
+    let a = c.args in
+    let end = c.nation_count-end in
+    count-end c.loop-i.invariant.1 _ (nations-all a.s.now a.nations.now a.entries.now end.ensures)
+    (nations-none a.s.now a.nations.now a.entries.now c.loop-i.i end.result (omega (arith, c.loop-i-test.false)))

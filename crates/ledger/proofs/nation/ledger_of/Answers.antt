@@ -1,0 +1,23 @@
+-- The index is filled, and the part of it that holds keys is lent on.
+use Prim.Native.Nat.{ℕ}
+use native.Mathlib.Omega.{arith}
+use lib.ListN.{length-replicate}
+use Rattle.ledger.proofs.LedgerLaws.{indexed-part}
+use Rattle.ledger.proofs.nation.ledger_of.Goals as goal
+
+pub index_names-names-requires : goal.index_names-names-requires
+index_names-names-requires c =
+    (c.requires.first, (length-replicate {A = ℕ} 2000 0, length-replicate {A = ℕ} 2000 0))
+
+pub slice_bounds-counted_ledger-end : goal.slice_bounds-counted_ledger-end
+slice_bounds-counted_ledger-end c = omega (arith, c.index_names-names.ensures.few, c.index_names-names.ensures.keys_long)
+
+pub counted_ledger-requires : goal.counted_ledger-requires
+counted_ledger-requires c =
+    (c.requires, indexed-part _ _ _ _ _ c.index_names-names.ensures)
+
+pub shape_of-out : goal.shape_of-out
+shape_of-out c = c.counted_ledger.auto.out
+
+pub returns : goal.returns
+returns c = c.counted_ledger.ensures

@@ -1,0 +1,127 @@
+use mathlib.Core.Path.{sym, ◌∙◌}
+use Prim.Native.Nat.{◌+◌, ◌*◌, ◌≤◌, ◌<◌}
+use borrow.Author.Rules.{rules}
+use lib.ListN.{length, get_or}
+use Rattle.lists.proofs.WriteLaws.{behind}
+use Rattle.rules.specs.NationRows.{entry_row, entry_row_words, entry_width}
+use Rattle.nation_listing.specs.Walks.{life_entry}
+use Rattle.nation_tables.specs.Switches.{switch_in}
+use Rattle.nation_listing.proofs.MergeEntryLaws.{switch-inside, merging-none, merging-done}
+use Rattle.nation_listing.proofs.MergeEntryLaws.{switch-room, switch-less, switch-more, life-room, life-light, life-less, life-more}
+use Rattle.nation_listing.proofs.entries.write_entries.Goals as goal
+
+-- The switch at i is there, and it finds room.
+module _ (c : tie.Then1 invariant-loop decreases-loop) where
+  inside : c.before.before.loop.i < length (start c.before.before).args.run.now
+  inside = switch-inside _ _ _ (sym c.before.switch-first.ensures ∙ c.if1.true)
+
+  room : entry_width * c.before.before.loop.k + entry_width ≤ length c.before.before.loop.out
+  room = switch-room _ _ _ _ _ _ _ _ _ _ _ _ c.before.before.loop.invariant (sym c.before.switch-first.ensures ∙ c.if1.true)
+
+-- The told life finds room.
+module _ (c : tie.After-life invariant-loop decreases-loop) where
+  told-room : entry_width * c.before.before.before.before.loop.k + entry_width ≤ length c.before.before.before.before.loop.out
+  told-room =
+      let test = c.before.before.before in
+      let none = sym test.switch-first.ensures ∙ c.before.before.if1.false in
+      life-room _ _ _ _ _ _ _ _ _ _ _ _ test.before.loop.invariant none _ _ _ c.life.given.1
+
+pub next-life-requires : goal.next-life-requires
+next-life-requires c =
+    (c.requires.chained, c.requires.light)
+
+pub loop-key-init : goal.loop-key-init
+loop-key-init c = merging-none _ _ _ _ _ _ _ _ _ c.next-life.ensures c.requires.walk_in_bounds
+
+pub overflow_mul-at : goal.overflow_mul-at
+overflow_mul-at c =
+    let g = c.well-formed in
+    let l = c.loop-key.invariant.cells.fits in
+    search rules
+
+pub offset_bounds-run-i : goal.offset_bounds-run-i
+offset_bounds-run-i c =
+    let g = c.good in
+    let l = inside c in
+    search rules
+
+pub bounds-run-i : goal.bounds-run-i
+bounds-run-i c = inside c
+
+pub put_entry-requires : goal.put_entry-requires
+put_entry-requires c =
+    let l = room c in
+    search rules
+
+pub overflow_add-i : goal.overflow_add-i
+overflow_add-i c =
+    let g = c.good in
+    let l = inside c in
+    search rules
+
+pub overflow_add-k : goal.overflow_add-k
+overflow_add-k c =
+    let g = c.good in
+    let l = room c in
+    let n = c.loop-key.invariant.cells.long in
+    search rules
+
+pub loop-key-smaller-then-switch_first : goal.loop-key-smaller-then-switch_first
+loop-key-smaller-then-switch_first c =
+    switch-less _ _ _ _ _ _ _ _ _ _ _ _ c.loop-key.invariant (sym c.switch_first.ensures ∙ c.if-switch_first.true)
+
+pub loop-key-preserved-then-switch_first : goal.loop-key-preserved-then-switch_first
+loop-key-preserved-then-switch_first c =
+    let l = c.loop-key in
+    let a = c.args in
+    let row = entry_row_words (entry_row (switch_in a.targets.now (get_or a.run.now l.i 0))) in
+    let wrote =
+    behind l.out row c.put_entry.new.out (entry_width * l.k) (room c)
+    (rw (c.switch_date.ensures, c.switch_target.ensures) at c.put_entry.ensures) in
+    switch-more _ _ _ _ _ _ _ _ _ _ _ _ l.invariant (sym c.switch_first.ensures ∙ c.if-switch_first.true) _ wrote
+
+pub enum_known-life : goal.enum_known-life
+enum_known-life c = c.in-Life.keys1
+
+pub put_entry-requires-in-Life : goal.put_entry-requires-in-Life
+put_entry-requires-in-Life c =
+    let l = told-room c in
+    search rules
+
+pub next-life-requires-in-Life : goal.next-life-requires-in-Life
+next-life-requires-in-Life c =
+    let none = sym c.switch_first.ensures ∙ c.if-switch_first.false in
+    (c.pre.0, life-light _ _ _ _ _ _ _ _ _ _ _ _ c.loop-key.invariant none _ _ _ c.in-Life.is)
+
+pub overflow_add-k-in-Life : goal.overflow_add-k-in-Life
+overflow_add-k-in-Life c =
+    let g = c.good in
+    let l = told-room c in
+    let n = c.loop-key.invariant.cells.long in
+    search rules
+
+pub loop-key-smaller : goal.loop-key-smaller
+loop-key-smaller c =
+    let none = sym c.switch_first.ensures ∙ c.if-switch_first.false in
+    life-less _ _ _ _ _ _ _ _ _ _ _ _ c.loop-key.invariant none _ _ _ c.in-Life.is _ c.next-life-in-Life.ensures
+
+pub loop-key-preserved : goal.loop-key-preserved
+loop-key-preserved c =
+    let l = c.loop-key in
+    let none = sym c.switch_first.ensures ∙ c.if-switch_first.false in
+    let row = entry_row_words (entry_row (life_entry c.in-Life.date c.in-Life.falls)) in
+    let wrote =
+    behind l.out row c.put_entry-in-Life.new.out (entry_width * l.k) (told-room c)
+    (rw c.life_kind.ensures at c.put_entry-in-Life.ensures) in
+    life-more _ _ _ _ _ _ _ _ _ _ _ _ l.invariant none _ _ _ c.in-Life.is _ c.next-life-in-Life.ensures _ wrote
+
+pub enum_told-1 : goal.enum_told-1
+enum_told-1 c = c.in-End.keys2
+
+pub shape_of-out-in-End : goal.shape_of-out-in-End
+shape_of-out-in-End c = c.loop-key.invariant.cells.long
+
+pub returns-in-End : goal.returns-in-End
+returns-in-End c =
+    let none = sym c.switch_first.ensures ∙ c.if-switch_first.false in
+    merging-done _ _ _ _ _ _ _ _ _ _ _ _ c.loop-key.invariant _ c.next-life.ensures none _ c.in-End.is

@@ -1,0 +1,99 @@
+-- A listed country has one row, and its entries are written into their slice; of any other nothing is written.
+use mathlib.Core.Path.{refl, sym, ◌∙◌}
+use Prim.Native.Nat.{◌+◌, ◌≤◌}
+use native.Mathlib.Omega.{arith}
+use lib.ListN.{length, get_or}
+use Rattle.nation_tables.specs.Lookup.{row_in}
+use Rattle.nation_listing.proofs.ListingLaws.{run-rises, run_inside, key-tagged, key-started, key-first, key-narrow, key-light}
+use Rattle.nation_listing.proofs.ListingLaws.{put-silent, room_row, room-entries, count-narrow, put-listed}
+use Rattle.nation_listing.proofs.listing.write_nation.Goals as goal
+
+-- The run lies inside.
+module _ (c : tie.After-run-start2) where
+  from_end : c.before.run-start.result ≤ c.run-start2.result
+  from_end =
+      let a = (start c.before.before.before.before).args in
+      rw (c.before.run-start.ensures, c.run-start2.ensures) (run-rises (row_in (get_or a.initial-keys.now a.i 0)) a.runs.now)
+
+  end-inside : c.run-start2.result ≤ length (start c.before.before.before.before).args.runs.now
+  end-inside =
+      let a = (start c.before.before.before.before).args in
+      rw c.run-start2.ensures (run_inside (row_in (get_or a.initial-keys.now a.i 0) + 1) a.runs.now)
+
+pub bounds-started-row : goal.bounds-started-row
+bounds-started-row c =
+    key-started _ c.requires.readable _ c.requires.i_in_bounds.0
+
+pub first_lives-walk-requires : goal.first_lives-walk-requires
+first_lives-walk-requires c =
+    key-first _ c.requires.readable _ c.requires.i_in_bounds.0 c.args.firsts.now refl
+
+pub is_listed-requires : goal.is_listed-requires
+is_listed-requires c =
+    (c.pre.0.initials, key-narrow _ c.pre.0 _ c.pre.1.0.0)
+
+pub run_start-from-requires : goal.run_start-from-requires
+run_start-from-requires c = (c.requires.readable.runs, omega arith)
+
+pub run_start-end-requires : goal.run_start-end-requires
+run_start-end-requires c = (c.requires.readable.runs, omega arith)
+
+pub overflow_cast-key : goal.overflow_cast-key
+overflow_cast-key c =
+    omega (arith, key-narrow _ c.pre.0 _ c.pre.1.0.0)
+
+pub offset_bounds-runs-from : goal.offset_bounds-runs-from
+offset_bounds-runs-from c =
+    omega (arith, from_end c, end-inside c, c.well-formed)
+
+pub slice_bounds-run-count : goal.slice_bounds-run-count
+slice_bounds-run-count c = from_end c
+
+pub slice_bounds-run-start : goal.slice_bounds-run-start
+slice_bounds-run-start c = from_end c
+
+pub slice_bounds-run-end : goal.slice_bounds-run-end
+slice_bounds-run-end c = end-inside c
+
+pub write_entries-count-requires : goal.write_entries-count-requires
+write_entries-count-requires c =
+    let listed = sym c.is_listed.ensures ∙ c.if-is_listed.true in
+    let room =
+    room-entries _ c.pre.0 _ c.pre.1.0.0 _ c.first_lives-walk.ensures listed
+    _ _ c.run_start-from.ensures c.run_start-end.ensures
+    _ _ c.pre.1.1 in
+    (c.pre.0.chained, (key-light _ c.pre.0 _ c.pre.1.0.0 _ c.first_lives-walk.ensures, room))
+
+pub bounds-tag_words-row : goal.bounds-tag_words-row
+bounds-tag_words-row c =
+    key-tagged _ c.pre.0 _ c.pre.1.0.0
+
+pub put_nation-requires : goal.put_nation-requires
+put_nation-requires c =
+    let listed = sym c.is_listed.ensures ∙ c.if-is_listed.true in
+    let count =
+    count-narrow _ c.pre.0 _ c.pre.1.0.0 _ c.first_lives-walk.ensures listed
+    _ _ c.run_start-from.ensures c.run_start-end.ensures
+    _ _ _ c.write_entries-count.ensures in
+    let room =
+    room_row _ c.pre.0 _ c.pre.1.0.0 _ c.first_lives-walk.ensures listed
+    _ _ c.run_start-from.ensures c.run_start-end.ensures
+    _ _ c.pre.1.1 in
+    (room, c.pre.1.0.1, omega (arith, count))
+
+pub shape_of-nations-then-is_listed : goal.shape_of-nations-then-is_listed
+shape_of-nations-then-is_listed c = c.put_nation.auto.out
+
+pub shape_of-entries-then-is_listed : goal.shape_of-entries-then-is_listed
+shape_of-entries-then-is_listed c = c.write_entries-count.auto.out
+
+pub returns-then-is_listed : goal.returns-then-is_listed
+returns-then-is_listed c =
+    let listed = sym c.is_listed.ensures ∙ c.if-is_listed.true in
+    put-listed _ c.pre.0 _ c.pre.1.0.0 _ c.first_lives-walk.ensures listed
+    _ _ c.run_start-from.ensures c.run_start-end.ensures
+    _ _ _ c.write_entries-count.ensures _ _ _ _ _ _ c.kept-initial.ensures c.latest-latest.ensures c.kept-stored.ensures c.put_nation.ensures
+
+pub returns : goal.returns
+returns c =
+    put-silent _ c.pre.0 _ c.pre.1.0.0 _ c.first_lives-walk.ensures (sym c.is_listed.ensures ∙ c.if-is_listed.false) _ _ _

@@ -1,0 +1,13 @@
+use mathlib.Core.Path.{refl}
+use Rattle.nation_listing.specs.Reading.{leads_inside}
+use Rattle.nation_listing.proofs.ReadingLaws.{each_more, each-end}
+use Rattle.nation_listing.proofs.reading.lead_inside.Goals as goal
+
+pub loop-i-init : goal.loop-i-init
+loop-i-init c = refl
+
+pub loop-i-preserved : goal.loop-i-preserved
+loop-i-preserved c = let l = c.loop-i in each_more (leads_inside c.args.rows) _ l.good l.i l.invariant c.loop-i-test.true
+
+pub returns : goal.returns
+returns c = let l = c.loop-i in each-end (leads_inside c.args.rows) _ l.good l.i l.invariant c.loop-i-test.false

@@ -1,0 +1,30 @@
+use mathlib.Core.Path.{◌≡◌}
+use Prim.Native.Nat.{◌-◌}
+use native.Mathlib.Omega.{arith}
+use borrow.Author.Rules.{rules}
+use Rattle.nation_tables.proofs.slots.ChainLaws.{both-none, both-step, both-done}
+use Rattle.nation_tables.proofs.chains.link.Goals as goal
+
+pub loop-k-init : goal.loop-k-init
+loop-k-init c = let p = c.requires in both-none _ _ p.0 p.1.0 p.1.1
+
+pub bounds-turns-k : goal.bounds-turns-k
+bounds-turns-k c = let l = c.loop-k in omega (arith, l.invariant.inside, l.invariant.long)
+
+pub overflow_cast-turn : goal.overflow_cast-turn
+overflow_cast-turn c = omega (arith, c.slice_known-in-loop-k-1.given (c.loop-k.k - 1))
+
+pub bounds-turns-k-in-loop-k : goal.bounds-turns-k-in-loop-k
+bounds-turns-k-in-loop-k c = let l = c.loop-k in omega (arith, l.invariant.inside, l.invariant.long)
+
+pub loop-k-preserved : goal.loop-k-preserved
+loop-k-preserved c = both-step _ _ _ _ _ c.loop-k.invariant (search rules) _ _ _ _ c.push_loss-loss.ensures c.push_gain-gain.ensures
+
+pub shape_of-turns : goal.shape_of-turns
+shape_of-turns c = c.loop-k.invariant.long
+
+pub shape_of-firsts : goal.shape_of-firsts
+shape_of-firsts c = c.loop-k.invariant.rows
+
+pub returns : goal.returns
+returns c = let l = c.loop-k in let e : l.k ≡ 0 = omega arith in both-done _ _ _ _ _ l.invariant e

@@ -1,0 +1,29 @@
+-- No row has a first change yet; then chains, keys and targets by the promises of the functions that make them.
+use mathlib.Core.Path.{◌∙◌}
+use native.Mathlib.Omega.{arith}
+use Rattle.nation_tables.proofs.slots.TableStepLaws.{runs-front, targets-front, runs-asked, targets-asked, fresh-firsts}
+use Rattle.nation_tables.proofs.gathering.arrange.Goals as goal
+
+pub link-requires : goal.link-requires
+link-requires c = let p = c.requires in record { turns_len_bound = p.1; fresh = fresh-firsts c.args.firsts.now _ c.set_all.ensures }
+
+pub run_keys-requires : goal.run_keys-requires
+run_keys-requires c = let p = c.requires in let asked = runs-asked _ _ _ p.0.1 p.0.0 in record { countries_len_bound = asked.0; countries_in_bounds = asked.1 }
+
+pub fill_targets-requires : goal.fill_targets-requires
+fill_targets-requires c = targets-asked _ _ _ c.requires.keyed.1 _ c.run_keys.auto.scratch
+
+pub shape_of-turns : goal.shape_of-turns
+shape_of-turns c = c.link.auto.turns
+
+pub shape_of-firsts : goal.shape_of-firsts
+shape_of-firsts c = omega (arith, c.link.auto.firsts, c.set_all.auto)
+
+pub shape_of-runs : goal.shape_of-runs
+shape_of-runs c = c.run_keys.auto.keys
+
+pub shape_of-targets : goal.shape_of-targets
+shape_of-targets c = c.fill_targets.auto.targets ∙ c.run_keys.auto.scratch
+
+pub returns : goal.returns
+returns c = record { linked = c.link.ensures; runs = runs-front _ _ _ _ c.run_keys.ensures; targets = targets-front _ _ _ c.fill_targets.ensures }

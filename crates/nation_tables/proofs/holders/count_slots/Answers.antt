@@ -1,0 +1,35 @@
+use mathlib.Core.Logic.{⊎_elim}
+use native.Mathlib.Omega.{arith}
+use Rattle.nation_tables.proofs.slots.CellLaws.{slots-counting-none, slots-counting-long, slots-counting-few, slots-counting-next, slots-counting-past, slots-counting-done}
+use Rattle.nation_tables.proofs.holders.count_slots.Goals as goal
+
+pub loop-i-init : goal.loop-i-init
+loop-i-init c = slots-counting-none _ c.args.counts.now _ c.set_all.ensures
+
+pub offset_bounds-counts-row : goal.offset_bounds-counts-row
+offset_bounds-counts-row c = omega (arith, c.shared_slice_known-in-loop-i-1.given c.loop-i.i)
+
+pub overflow_add-counts : goal.overflow_add-counts
+overflow_add-counts c =
+    let more = c.loop-i-test.true in
+    let l = c.loop-i in
+    omega (arith, slots-counting-few _ _ _ _ l.invariant more _ c.if-row-counts.true, c.pre, more)
+
+pub loop-i-preserved : goal.loop-i-preserved
+loop-i-preserved c =
+    let l = c.loop-i in
+    let more = c.loop-i-test.true in
+    ⊎_elim
+    (λ w. rw w.2 (slots-counting-next _ _ l.counts l.i l.invariant more))
+    (λ w. rw w.1 (slots-counting-past _ _ l.counts l.i l.invariant more w.0.left))
+    c.if-row-counts.branch
+
+pub shape_of-counts : goal.shape_of-counts
+shape_of-counts c =
+    let l = c.loop-i in
+    omega (arith, slots-counting-long _ _ _ _ l.invariant, c.set_all.auto)
+
+pub returns : goal.returns
+returns c =
+    let l = c.loop-i in
+    slots-counting-done _ _ _ _ l.invariant c.args.counts.now c.set_all.ensures c.loop-i-test.false

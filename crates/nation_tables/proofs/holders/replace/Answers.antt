@@ -1,0 +1,29 @@
+-- Past the end there is no slot, and a store changes nothing.
+use mathlib.Core.Path.{sym, ap, ◌∙◌}
+use Prim.Native.Nat.{ℕ}
+use native.Mathlib.Omega.{arith}
+use lib.ListN.{get_or, set, get_or-eq_default}
+use lib.Seq.{set_out}
+use Rattle.lists.proofs.ElementLaws.{at-any}
+use Rattle.nation_tables.specs.Layout.{nobody_cell}
+use Rattle.nation_tables.proofs.holders.replace.Goals as goal
+
+pub returns-then-slots-slot : goal.returns-then-slots-slot
+returns-then-slots-slot c =
+    let a = c.args in
+    let e = c.word-slot.ensures in
+    let h = c.if-slots-slot.true in
+    record {
+      old = sym (get_or-eq_default a.slots.now nobody_cell {n = a.id.0} (omega arith));
+      cells = sym (set_out a.slots.now a.id.0 a.cell (omega arith));
+    }
+
+pub returns : goal.returns
+returns c =
+    let a = c.args in
+    let e = c.word-slot.ensures in
+    let h = c.if-slots-slot.false in
+    record {
+      old = at-any a.slots.now _ 0 nobody_cell h ∙ ap (λ (i : ℕ). get_or a.slots.now i nobody_cell) e;
+      cells = ap (λ (i : ℕ). set a.slots.now i a.cell) e;
+    }

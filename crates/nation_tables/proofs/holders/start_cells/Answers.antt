@@ -1,0 +1,38 @@
+use mathlib.Core.Path.{sym, ap, ◌∙◌}
+use Prim.Native.Nat.{◌%◌}
+use native.Mathlib.Omega.{arith}
+use lib.ListN.{length-map}
+use Rattle.lists.proofs.FillLaws.{filling-new, filling-put, filling-whole}
+use Rattle.lists.proofs.ListLaws.{map-then}
+use Rattle.nation_tables.specs.Layout.{half}
+use Rattle.nation_tables.specs.Holders.{row_cell}
+use Rattle.lists.proofs.StepLaws.{map_next, map-end}
+use Rattle.nation_tables.proofs.slots.CellLaws.{filling-kept}
+use Rattle.nation_tables.proofs.holders.start_cells.Goals as goal
+use Rattle.nation_tables.proofs.holders.start_cells.Invariants.{made}
+
+pub loop-i-init : goal.loop-i-init
+loop-i-init c = let a = c.args in (omega arith, filling-new _ _ (omega (arith, length-map a.slots.now (made a.tags.now))))
+
+pub loop-i-preserved : goal.loop-i-preserved
+loop-i-preserved c =
+    let l = c.loop-i in
+    let a = c.args in
+    let f = made a.tags.now in
+    let h = c.loop-i-test.true in
+    let kept = filling-kept _ _ _ _ _ 0 l.invariant.1 in (
+      omega (arith, l.invariant.1.long),
+      filling-put _ _ _ _ _ l.invariant.1 _ _ (map_next f a.slots.now l.i (omega (arith, l.invariant.1.long, h))) _
+          ((rw c.kept.ensures at c.cell_of.ensures) ∙ ap f kept),
+    )
+
+pub shape_of-slots : goal.shape_of-slots
+shape_of-slots c = c.loop-i.invariant.1.long
+
+pub returns : goal.returns
+returns c =
+    let l = c.loop-i in
+    let a = c.args in
+    let f = made a.tags.now in
+    let none = map-end f a.slots.now l.i (omega (arith, l.invariant.1.long, c.loop-i-test.false)) in
+    filling-whole _ _ _ _ _ l.invariant.1 none (sym (length-map a.slots.now f)) ∙ sym (map-then (λ x. x % half) (row_cell a.tags.now) a.slots.now)

@@ -1,0 +1,18 @@
+-- The invariant: the cells of the slots passed stand in front, and those left are as they were.
+use mathlib.Core.List.{List, map}
+use Prim.Native.Nat.{ℕ, ◌-◌, ◌%◌, ◌≤◌}
+use lib.ListN.{length, drop}
+use Rattle.lists.proofs.FillLaws.{Filling}
+use Rattle.nation_tables.specs.Layout.{half}
+use Rattle.nation_tables.specs.Holders.{row_cell}
+use Rattle.nation_tables.proofs.holders.start_cells.Given as goal
+
+-- What a row becomes.
+abbrev made : List ℕ → ℕ → ℕ
+made tags r = row_cell tags (r % half)
+
+abbrev pub invariant-loop-i : goal.invariant-loop-i
+invariant-loop-i l = (l.i ≤ length l.initial.slots) × Filling (map (made l.tags) l.initial.slots) (map (made l.tags) (drop l.i l.initial.slots)) l.initial.slots l.i l.slots
+
+abbrev pub decreases-loop-i : goal.decreases-loop-i
+decreases-loop-i l = length l.initial.slots - l.i

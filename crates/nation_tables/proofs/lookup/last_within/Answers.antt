@@ -1,0 +1,40 @@
+-- The key before the count of keys below `high` is the last one below `high`: if it is not below `low`, it is the last between.
+use mathlib.Core.Path.{◌≡◌, ◌∙◌}
+use Prim.Native.Nat.{◌-◌, ◌*◌, ◌/◌, ◌≤◌}
+use native.Mathlib.Nat.{sub-zero}
+use native.Mathlib.Omega.{arith}
+use borrow.Author.Rules.{rules}
+use lib.Dec.{ltb}
+use lib.ListN.{take, length-take}
+use Rattle.lists.specs.Lists.{count_of}
+use Rattle.nation_tables.specs.Lookup.{FirstSorted}
+use Rattle.nation_tables.proofs.tables.LookupLaws.{no_last, last-too-low, last_found}
+use Rattle.nation_tables.proofs.lookup.last_within.Goals as goal
+
+pub returns-then-keys-n : goal.returns-then-keys-n
+returns-then-keys-n c = λ first. absurd (omega (arith, c.if-keys-n.true, first.inside))
+
+pub returns-then-i-eq0 : goal.returns-then-i-eq0
+returns-then-i-eq0 c =
+    let counted : FirstSorted c.args.n c.args.keys.now → c.count_below-i.result ≡ count_of (λ k. ltb k (c.args.high / 2 * 2)) (take (c.args.n - 0) c.args.keys.now) = λ first. c.count_below-i.ensures.counted (rw sub-zero first.sorted) in
+    λ first. let g = c.args in no_last g.low (g.high / 2 * 2) g.keys.now g.n first _ (counted first) (search rules)
+
+pub offset_bounds-keys-i : goal.offset_bounds-keys-i
+offset_bounds-keys-i c =
+    let inside : c.count_below-i.result ≤ c.args.n = let l = length-take (c.args.n - 0) c.args.keys.now in omega (arith, c.count_below-i.ensures.inside, sub-zero c.args.n) in
+    let l = inside in search rules
+
+pub bounds-keys-i : goal.bounds-keys-i
+bounds-keys-i c =
+    let inside : c.count_below-i.result ≤ c.args.n = let l = length-take (c.args.n - 0) c.args.keys.now in omega (arith, c.count_below-i.ensures.inside, sub-zero c.args.n) in
+    let l = inside in omega (arith, c.if-keys-n.false, c.if-i-eq0.false)
+
+pub returns-then-key-low : goal.returns-then-key-low
+returns-then-key-low c =
+    let counted : FirstSorted c.args.n c.args.keys.now → c.count_below-i.result ≡ count_of (λ k. ltb k (c.args.high / 2 * 2)) (take (c.args.n - 0) c.args.keys.now) = λ first. c.count_below-i.ensures.counted (rw sub-zero first.sorted) in
+    λ first. let g = c.args in last-too-low g.low (g.high / 2 * 2) g.keys.now g.n first _ (counted first) (search rules) (search rules)
+
+pub returns : goal.returns
+returns c =
+    let counted : FirstSorted c.args.n c.args.keys.now → c.count_below-i.result ≡ count_of (λ k. ltb k (c.args.high / 2 * 2)) (take (c.args.n - 0) c.args.keys.now) = λ first. c.count_below-i.ensures.counted (rw sub-zero first.sorted) in
+    λ first. let g = c.args in c.row_in.ensures ∙ last_found g.low (g.high / 2 * 2) g.keys.now g.n first _ (counted first) (search rules) (search rules)

@@ -1,0 +1,18 @@
+-- The keys from `to` and `date` on, below those of the next tag: the first of them is of the switch that the definition asks, or else the own
+-- key of the country with that tag.
+use mathlib.Core.Path.{◌≡◌}
+use Prim.Native.Nat.{◌+◌, ◌*◌, ◌/◌}
+use native.Mathlib.Omega.{arith}
+use Rattle.nation_tables.specs.Keys.{settling_key}
+use Rattle.nation_tables.specs.Layout.{tag_span}
+use Rattle.nation_tables.proofs.tables.OwnLaws.{row-holds}
+use Rattle.nation_tables.proofs.settling.holder_row.Goals as goal
+
+pub returns : goal.returns
+returns c =
+    let g = c.args in
+    let key = c.settling_key-low in
+    let w = c.word-word in
+    let low : key.result / 2 * 2 ≡ settling_key g.to.0 g.date.0 0 = omega (arith, key.ensures) in
+    let high : (w.result + 1) * tag_span ≡ settling_key (g.to.0 + 1) 0 0 = omega (arith, w.ensures) in
+    row-holds _ _ _ _ _ _ low high c.first_within.ensures

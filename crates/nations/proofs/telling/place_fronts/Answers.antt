@@ -1,0 +1,33 @@
+-- The fronts lie inside, and are lent on.
+use Rattle.nations.proofs.answer.FrontLaws.{fronts-placed}
+use Rattle.nations.proofs.telling.place_fronts.Goals as goal
+
+pub slice_bounds-place_nations-end : goal.slice_bounds-place_nations-end
+slice_bounds-place_nations-end c = c.requires.words
+
+pub slice_bounds-place_nations-end-2 : goal.slice_bounds-place_nations-end-2
+slice_bounds-place_nations-end-2 c = c.requires.initials
+
+pub slice_bounds-place_nations-end-3 : goal.slice_bounds-place_nations-end-3
+slice_bounds-place_nations-end-3 c = c.requires.runs
+
+pub slice_bounds-place_nations-end-4 : goal.slice_bounds-place_nations-end-4
+slice_bounds-place_nations-end-4 c = c.requires.targets
+
+pub slice_bounds-place_nations-end-5 : goal.slice_bounds-place_nations-end-5
+slice_bounds-place_nations-end-5 c = c.requires.started
+
+pub slice_bounds-place_nations-end-6 : goal.slice_bounds-place_nations-end-6
+slice_bounds-place_nations-end-6 c = c.requires.keys
+
+pub slice_bounds-place_nations-end-7 : goal.slice_bounds-place_nations-end-7
+slice_bounds-place_nations-end-7 c = c.requires.turns
+
+pub shape_of-nations : goal.shape_of-nations
+shape_of-nations c = c.place_nations.auto.nations
+
+pub shape_of-entries : goal.shape_of-entries
+shape_of-entries c = c.place_nations.auto.entries
+
+pub returns : goal.returns
+returns c = let a = c.args in let p = c.place_nations in fronts-placed a.sizes a.tag-words.now a.initial-keys.now a.runs.now a.targets.now a.firsts.now a.started.now a.keys.now a.turns.now p.result _ _ _ _ p.ensures

@@ -1,0 +1,28 @@
+-- The number of histories is the same signed number: a slice has room for seven words of each.
+use mathlib.Core.Path.{sym, ap, ◌∙◌}
+use Prim.Native.Nat.{◌*◌, ◌≤◌}
+use native.Mathlib.Omega.{arith}
+use lib.ListN.{length}
+use mir.Syntax.{w64}
+use mir.Facts.{to_z_pos, to_z-of_z}
+use Rattle.histories.specs.Cases.{histories_answer, histories_outcome}
+use Rattle.page.proofs.PlayingLaws.{histories-given, histories-of}
+use Rattle.page.proofs.playing.player_histories.Goals as goal
+
+pub overflow_cast-result : goal.overflow_cast-result
+overflow_cast-result c =
+    let few : 7 * c.in-Rows.n.histories ≤ length c.args.histories.now = histories-given _ _ _ _ _ (sym (ap histories_answer c.in-Rows.is) ∙ ap (λ o. o.answer) c.player_histories.ensures) in
+    omega (arith, few)
+
+pub returns-in-Rows : goal.returns-in-Rows
+returns-in-Rows c =
+    let few : 7 * c.in-Rows.n.histories ≤ length c.args.histories.now = histories-given _ _ _ _ _ (sym (ap histories_answer c.in-Rows.is) ∙ ap (λ o. o.answer) c.player_histories.ensures) in
+    let called = c.player_histories in
+    let told = sym (ap (λ r. histories_outcome r called.new.1.1.1.0 called.new.1.1.1.1.0) c.in-Rows.is) in
+    histories-of _ _ _ _ _ _ (told ∙ called.ensures) (to_z_pos w64 (omega (arith, few)))
+
+pub returns-in-Refused : goal.returns-in-Refused
+returns-in-Refused c =
+    let called = c.player_histories in
+    let told = sym (ap (λ r. histories_outcome r called.new.1.1.1.0 called.new.1.1.1.1.0) c.in-Refused.is) in
+    histories-of _ _ _ _ _ _ (told ∙ called.ensures) (to_z-of_z {w = w64} (record { sfits = c.minus.type-inv }) ∙ c.minus.ensures)

@@ -1,0 +1,28 @@
+-- The answer by its case: a count of at most 60,000 rows is the same signed number.
+use mathlib.Core.Path.{sym, ap, ◌∙◌}
+use Prim.Native.Nat.{◌≤◌}
+use native.Mathlib.Omega.{arith}
+use mir.Syntax.{w64}
+use mir.Facts.{to_z_pos, to_z-of_z}
+use Rattle.owner_changes.specs.Cases.{owners_answer, owners_outcome}
+use Rattle.owner_changes.proofs.OutcomeLaws.{owners-few}
+use Rattle.page.proofs.HostLaws.{returns_of}
+use Rattle.page.proofs.province_owners.Goals as goal
+
+pub overflow_cast-result : goal.overflow_cast-result
+overflow_cast-result c =
+    let few : c.in-Rows.n ≤ 60000 = owners-few _ _ _ (sym (ap owners_answer c.in-Rows.is) ∙ ap (λ o. o.answer) c.province_owners.ensures) in
+    omega (arith, few)
+
+pub returns-in-Rows : goal.returns-in-Rows
+returns-in-Rows c =
+    let few : c.in-Rows.n ≤ 60000 = owners-few _ _ _ (sym (ap owners_answer c.in-Rows.is) ∙ ap (λ o. o.answer) c.province_owners.ensures) in
+    let called = c.province_owners in
+    let told = sym (ap (λ r. owners_outcome r called.new.1.0) c.in-Rows.is) in
+    returns_of (told ∙ called.ensures) (to_z_pos w64 (omega (arith, few)))
+
+pub returns-in-Refused : goal.returns-in-Refused
+returns-in-Refused c =
+    let called = c.province_owners in
+    let told = sym (ap (λ r. owners_outcome r called.new.1.0) c.in-Refused.is) in
+    returns_of (told ∙ called.ensures) (to_z-of_z {w = w64} (record { sfits = c.minus.type-inv }) ∙ c.minus.ensures)

@@ -1,0 +1,29 @@
+-- The number of rows is the same signed number: a slice has fewer words.
+use mathlib.Core.Path.{◌≡◌, sym, ap, ◌∙◌}
+use Prim.Native.Nat.{◌/◌}
+use native.Mathlib.Omega.{arith}
+use lib.ListN.{length}
+use mir.Syntax.{w64}
+use mir.Facts.{to_z_pos, to_z-of_z}
+use Rattle.questions.specs.Cases.{each_answer, each_outcome}
+use Rattle.questions.proofs.ResolveEachLaws.{each-few}
+use Rattle.page.proofs.HostLaws.{returns_of}
+use Rattle.page.proofs.resolving.resolver_resolve_each.Goals as goal
+
+pub overflow_cast-result : goal.overflow_cast-result
+overflow_cast-result c =
+    let few : c.in-Rows.n ≡ length c.args.questions.now / 2 = each-few _ _ _ _ _ (sym (ap each_answer c.in-Rows.is) ∙ ap (λ o. o.answer) c.resolve_each.ensures) in
+    omega (arith, few)
+
+pub returns-in-Rows : goal.returns-in-Rows
+returns-in-Rows c =
+    let few : c.in-Rows.n ≡ length c.args.questions.now / 2 = each-few _ _ _ _ _ (sym (ap each_answer c.in-Rows.is) ∙ ap (λ o. o.answer) c.resolve_each.ensures) in
+    let called = c.resolve_each in
+    let told = sym (ap (λ r. each_outcome r called.new.1.1.1.0) c.in-Rows.is) in
+    returns_of (told ∙ called.ensures) (to_z_pos w64 (omega (arith, few)))
+
+pub returns-in-Refused : goal.returns-in-Refused
+returns-in-Refused c =
+    let called = c.resolve_each in
+    let told = sym (ap (λ r. each_outcome r called.new.1.1.1.0) c.in-Refused.is) in
+    returns_of (told ∙ called.ensures) (to_z-of_z {w = w64} (record { sfits = c.minus.type-inv }) ∙ c.minus.ensures)

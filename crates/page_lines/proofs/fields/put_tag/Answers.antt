@@ -1,0 +1,16 @@
+-- Four stores are the field before the bytes behind it.
+use mathlib.Core.Path.{◌∙◌}
+use mathlib.Core.List.{◌∷◌}
+use native.Mathlib.Omega.{arith}
+use lib.ListN.{length-set}
+use lib.Seq.{sets-eq}
+use Rattle.page_lines.proofs.fields.put_tag.Goals as goal
+
+pub bounds-out-1 : goal.bounds-out-1
+bounds-out-1 c = simp length-set (omega arith)
+
+pub bounds-out-2 : goal.bounds-out-2
+bounds-out-2 c = simp length-set (omega arith)
+
+pub returns : goal.returns
+returns c = sets-eq (_ ∷ _ ∷ _ ∷ _ ∷ []) c.args.out.now 0 (omega arith) ∙ rw c.word-word.ensures

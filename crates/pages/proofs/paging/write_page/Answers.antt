@@ -1,0 +1,32 @@
+-- Each check by its number, in their order; what passes them all is a page begun.
+use mathlib.Core.Path.{◌≡◌, sym, ap, ◌∙◌}
+use Rattle.rules.specs.Page.{selection_of}
+use Rattle.rules.specs.PageOutcomes.{bytes_number}
+use Rattle.page_lines.specs.Selecting.{selection_told}
+use Rattle.page_text.proofs.OutcomeLaws.{tags-counted, tags-uncounted}
+use Rattle.pages.proofs.BeginLaws.{bytes-many, bytes-few}
+use Rattle.pages.proofs.PageLaws.{page-many, page-bad, page-no-tags}
+use Rattle.pages.proofs.paging.write_page.Goals as goal
+
+pub returns-then-s-selection : goal.returns-then-s-selection
+returns-then-s-selection c = page-many _ _ _ (bytes-many _ _ c.if-s-selection.true)
+
+pub returns-then-number-ne0 : goal.returns-then-number-ne0
+returns-then-number-ne0 c =
+    let few : let a = c.args in bytes_number a.s.now a.selection.now ≡ 0 = bytes-few _ _ c.if-s-selection.false in
+    page-bad _ _ _ few _ c.if-number-ne0.true c.check-number.ensures
+
+pub chronicle_page-requires : goal.chronicle_page-requires
+chronicle_page-requires c =
+    let few : let a = c.args in bytes_number a.s.now a.selection.now ≡ 0 = bytes-few _ _ c.if-s-selection.false in
+    record {
+      few = few;
+      accepted = sym c.check-number.ensures ∙ c.if-number-ne0.false;
+      tags = (tags-counted (selection_of c.args.selection.now) (sym (ap selection_told c.in-Tags.is) ∙ c.read_selection.ensures)).0;
+    }
+
+pub returns-in-NotTags : goal.returns-in-NotTags
+returns-in-NotTags c =
+    let few : let a = c.args in bytes_number a.s.now a.selection.now ≡ 0 = bytes-few _ _ c.if-s-selection.false in
+    page-no-tags _ _ _ few (sym c.check-number.ensures ∙ c.if-number-ne0.false)
+    (tags-uncounted (selection_of c.args.selection.now) (sym (ap selection_told c.in-NotTags.is) ∙ c.read_selection.ensures))

@@ -1,0 +1,14 @@
+-- Two stores are the row before the cells behind it.
+use mathlib.Core.Path.{◌∙◌}
+use mathlib.Core.List.{◌∷◌}
+use native.Mathlib.Omega.{arith}
+use lib.ListN.{length-set}
+use lib.Seq.{sets-eq}
+use Rattle.players.proofs.player_rows.put_player.Goals as goal
+
+pub bounds-out-1 : goal.bounds-out-1
+bounds-out-1 c = simp length-set (omega arith)
+
+pub returns : goal.returns
+returns c =
+    sets-eq (_ ∷ _ ∷ []) c.args.out.now 0 (omega arith) ∙ rw c.word.ensures

@@ -1,0 +1,21 @@
+-- By the count of keys up to the highest that may answer.
+use borrow.Author.Rules.{rules}
+use mathlib.Core.Path.{refl}
+use Rattle.questions.specs.Keys.{lowest_key}
+use Rattle.questions.proofs.LookLaws.{looked-none, looked-below, looked-there}
+use Rattle.questions.proofs.blocks.key_before.Goals as goal
+
+pub returns-then-i-eq0 : goal.returns-then-i-eq0
+returns-then-i-eq0 c =
+    let a = c.args in
+    λ s. looked-none a.tag a.date (record { 0 = 0 }) _ (lowest_key a.tag (record { 0 = 0 })) _ refl refl c.requires s (search rules)
+
+pub returns-then-key-lowest_key : goal.returns-then-key-lowest_key
+returns-then-key-lowest_key c =
+    let a = c.args in
+    λ s. looked-below a.tag a.date _ _ _ _ c.kept.ensures c.lowest_key.ensures.0 c.requires s (search rules) (search rules)
+
+pub returns-else-key-lowest_key : goal.returns-else-key-lowest_key
+returns-else-key-lowest_key c =
+    let a = c.args in
+    λ s. looked-there a.tag a.date _ _ _ _ c.kept.ensures c.lowest_key.ensures.0 c.requires s (search rules) (search rules)

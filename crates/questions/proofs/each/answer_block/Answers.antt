@@ -1,0 +1,29 @@
+use native.Mathlib.Omega.{arith}
+use lib.ListN.{length}
+use Rattle.rules.specs.Questions.{questions_in}
+use borrow.Author.Rules.{rules}
+use Rattle.questions.specs.Passes.{block_row}
+use Rattle.questions.proofs.PassLaws.{passing-start, passing-put, passing-done, first-still, second-still, block-row}
+use Rattle.questions.proofs.each.answer_block.Goals as goal
+
+pub loop-i-init : goal.loop-i-init
+loop-i-init c = (search rules, passing-start _ _)
+
+pub loop-i-preserved : goal.loop-i-preserved
+loop-i-preserved c =
+    let l = c.loop-i in
+    let a = c.args in (
+      search rules,
+      passing-put _ _ _ _ l.invariant.1 _ _ _ c.put_words.ensures (omega (arith, c.requires.0, c.question_count-n.ensures, c.loop-i-test.true))
+          (block-row a.questions.now a.keys.now a.owners.now a.out.now l.i _ _ _ _ _ c.updated_row-row.ensures (c.look_up_near-looked.ensures c.requires.1) c.question_at-q.ensures
+          (first-still _ _ _ _ l.invariant.1) (second-still _ _ _ _ l.invariant.1)),
+    )
+
+pub shape_of-out : goal.shape_of-out
+shape_of-out c = c.loop-i.invariant.1.long
+
+pub returns : goal.returns
+returns c =
+    let a = c.args in
+    passing-done (block_row a.questions.now a.keys.now a.owners.now a.out.now) a.out.now c.loop-i.i (length (questions_in a.questions.now)) _ c.loop-i.invariant.1
+    (search rules) (search rules)

@@ -1,0 +1,21 @@
+use borrow.Author.Rules.{rules}
+use mathlib.Core.Path.{refl}
+use Rattle.questions.specs.Passes.{blank_row}
+use Rattle.questions.proofs.PassLaws.{passing-start, passing-put, passing-done}
+use Rattle.questions.proofs.each.clear_rows.Goals as goal
+
+pub loop-i-init : goal.loop-i-init
+loop-i-init c = (search rules, passing-start blank_row _)
+
+pub loop-i-preserved : goal.loop-i-preserved
+loop-i-preserved c =
+    let l = c.loop-i in
+    (search rules, passing-put blank_row _ _ _ l.invariant.1 0 0 _ c.put_words.ensures (search rules) refl)
+
+pub shape_of-out : goal.shape_of-out
+shape_of-out c = c.loop-i.invariant.1.long
+
+pub returns : goal.returns
+returns c =
+    let a = c.args in
+    passing-done blank_row a.out.now c.loop-i.i a.n _ c.loop-i.invariant.1 (search rules) (search rules)

@@ -1,0 +1,24 @@
+use borrow.Author.Rules.{rules}
+use Rattle.questions.specs.Passes.{finished_row}
+use Rattle.questions.proofs.PassLaws.{passing-start, passing-put, passing-done, second-still, finished-row}
+use Rattle.questions.proofs.each.finish_rows.Goals as goal
+
+pub loop-i-init : goal.loop-i-init
+loop-i-init c = (search rules, passing-start _ _)
+
+pub loop-i-preserved : goal.loop-i-preserved
+loop-i-preserved c =
+    let l = c.loop-i in
+    let a = c.args in (
+      search rules,
+      passing-put _ _ _ _ l.invariant.1 _ _ _ c.put_words.ensures (search rules)
+          (finished-row a.nations.now a.out.now l.i _ _ c.finished_row.ensures (second-still _ _ _ _ l.invariant.1)),
+    )
+
+pub shape_of-out : goal.shape_of-out
+shape_of-out c = c.loop-i.invariant.1.long
+
+pub returns : goal.returns
+returns c =
+    let a = c.args in
+    passing-done (finished_row a.nations.now a.out.now) a.out.now c.loop-i.i a.n _ c.loop-i.invariant.1 (search rules) (search rules)

@@ -1,0 +1,11 @@
+-- The number in its cell, or past the last one.
+use Prim.Native.Nat.{◌%◌}
+use Rattle.questions.specs.Layout.{claim_numbers}
+use Rattle.questions.proofs.WordLaws.{no-owner}
+use borrow.Author.Rules.{rules}
+use Rattle.questions.proofs.words.owner_word.Goals as goal
+
+pub returns : goal.returns
+returns c =
+    let a = c.args in
+    no-owner a.owners.now (a.key % claim_numbers) (search rules)

@@ -1,0 +1,36 @@
+-- `OwnerEvents::next` meets its contract. Where the test finds no row, nothing is left. Where it finds one, the row stands whole, so each read is
+-- inside; what was left is that row before what the run behind it has left. Assumes nothing.
+use native.Mathlib.Omega.{arith}
+use lib.ListN.{length}
+use Rattle.format.specs.Rows.{owner_event_at}
+use Rattle.record.proofs.RunLaws.{WholeRow, whole, run_end, run_more}
+use Rattle.record.proofs.cursors.OwnerEvents.next.Goals as goal
+
+pub returns-then-not-has : goal.returns-then-not-has
+returns-then-not-has c = run_end (owner_event_at _) _ _ _ c.has.ensures c.if-not-has.true-raw
+
+pub date_at-requires : goal.date_at-requires
+date_at-requires c =
+    let row-whole : WholeRow (length c.args.s.now) 7 c.args.self.0 = whole _ _ _ c.has.ensures c.if-not-has.false-raw in
+    omega (arith, row-whole)
+
+pub overflow_add-at : goal.overflow_add-at
+overflow_add-at c =
+    let row-whole : WholeRow (length c.args.s.now) 7 c.args.self.0 = whole _ _ _ c.has.ensures c.if-not-has.false-raw in
+    omega (arith, row-whole)
+
+pub tag_at-requires : goal.tag_at-requires
+tag_at-requires c =
+    let row-whole : WholeRow (length c.args.s.now) 7 c.args.self.0 = whole _ _ _ c.has.ensures c.if-not-has.false-raw in
+    omega (arith, row-whole)
+
+pub past-requires : goal.past-requires
+past-requires c =
+    let row-whole : WholeRow (length c.args.s.now) 7 c.args.self.0 = whole _ _ _ c.has.ensures c.if-not-has.false-raw in
+    omega (arith, row-whole)
+
+pub returns : goal.returns
+unfolding owner_event_at
+returns c =
+    rw (c.date_at.ensures, c.tag_at.ensures, c.past.ensures)
+    (run_more (owner_event_at _) _ _ _ c.has.ensures c.if-not-has.false-raw)

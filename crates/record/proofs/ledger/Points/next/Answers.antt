@@ -1,0 +1,36 @@
+-- `Points::next` meets its contract. Where the test finds no row, nothing is left. Where it finds one, the row stands whole, so each read is
+-- inside; what was left is that row before what the run behind it has left. Assumes nothing.
+use native.Mathlib.Omega.{arith}
+use lib.ListN.{length}
+use Rattle.format.specs.Rows.{point_at}
+use Rattle.record.proofs.RunLaws.{WholeRow, whole, run_end, run_more}
+use Rattle.record.proofs.ledger.Points.next.Goals as goal
+
+pub returns-then-not-has : goal.returns-then-not-has
+returns-then-not-has c = run_end (point_at _) _ _ _ c.has.ensures c.if-not-has.true-raw
+
+pub u16_at-requires : goal.u16_at-requires
+u16_at-requires c =
+    let row-whole : WholeRow (length c.args.s.now) 6 c.args.self.0 = whole _ _ _ c.has.ensures c.if-not-has.false-raw in
+    omega (arith, row-whole)
+
+pub overflow_add-at : goal.overflow_add-at
+overflow_add-at c =
+    let row-whole : WholeRow (length c.args.s.now) 6 c.args.self.0 = whole _ _ _ c.has.ensures c.if-not-has.false-raw in
+    omega (arith, row-whole)
+
+pub u32_at-requires : goal.u32_at-requires
+u32_at-requires c =
+    let row-whole : WholeRow (length c.args.s.now) 6 c.args.self.0 = whole _ _ _ c.has.ensures c.if-not-has.false-raw in
+    omega (arith, row-whole)
+
+pub past-requires : goal.past-requires
+past-requires c =
+    let row-whole : WholeRow (length c.args.s.now) 6 c.args.self.0 = whole _ _ _ c.has.ensures c.if-not-has.false-raw in
+    omega (arith, row-whole)
+
+pub returns : goal.returns
+unfolding point_at
+returns c =
+    rw (c.u16_at.ensures.same, c.u32_at.ensures.same, c.past.ensures)
+    (run_more (point_at _) _ _ _ c.has.ensures c.if-not-has.false-raw)

@@ -1,0 +1,13 @@
+-- The section that the head lays out, in its place.
+use mathlib.Core.Path.{◌∙◌}
+use Rattle.format.proofs.HeadLaws.{section-told}
+use Rattle.format.specs.Rows.{owner_event_at}
+use Rattle.format.specs.Refusal.{first_in, owner_event_number}
+use Rattle.format.specs.Head.{events_at}
+use Rattle.record_fields.proofs.fields.events_field.Goals as goal
+
+pub returns : goal.returns
+returns c =
+    let g = c.args in
+    c.dated_rows_number.ensures
+    ∙ section-told (first_in (owner_event_number)) (owner_event_at g.s.now) 7 g.s.now (λ h. events_at h) (λ h. h.events) g.h _ c.requires.0.head c.events_at.ensures

@@ -1,0 +1,27 @@
+use mathlib.Core.Path.{◌≡◌, subst}
+use Prim.Native.Nat.{ℕ, ◌+◌, ◌*◌}
+use native.Mathlib.Omega.{arith}
+use borrow.Author.Rules.{rules}
+use Rattle.record_fields.specs.Tables.{DaysTo}
+use Rattle.record_fields.proofs.DayLaws.{days-none, days-whole}
+use Rattle.record_fields.proofs.tables.day_table.Goals as goal
+
+pub loop-month-init : goal.loop-month-init
+loop-month-init c = (search rules, search rules, days-none)
+
+pub mark_days-requires : goal.mark_days-requires
+mark_days-requires c =
+    let l = c.loop-month in
+    (l.invariant.0, omega arith, l.invariant.2)
+
+pub loop-month-preserved : goal.loop-month-preserved
+loop-month-preserved c =
+    let l = c.loop-month in
+    let next : 100 * l.month + 100 ≡ 100 * (l.month + 1) = omega arith in
+    (omega arith, omega arith, subst (λ (end : ℕ). DaysTo c.mark_days.new.table end) next c.mark_days.ensures)
+
+pub returns : goal.returns
+returns c =
+    let l = c.loop-month in
+    let all : 100 * l.month ≡ 1300 = omega arith in
+    days-whole l.table (subst (λ (end : ℕ). DaysTo l.table end) all l.invariant.2)

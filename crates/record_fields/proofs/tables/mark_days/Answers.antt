@@ -1,0 +1,39 @@
+use Prim.Native.Nat.{◌/◌}
+use mathlib.Core.Path.{◌≡◌}
+use native.Mathlib.Omega.{arith}
+use Rattle.record_fields.proofs.DayLaws.{month-short, day-good, days-open, days-mark, days-close}
+use Rattle.record_fields.proofs.tables.mark_days.Goals as goal
+
+pub overflow_add-end : goal.overflow_add-end
+overflow_add-end c = let short = month-short c.args.month in omega (arith, c.month_days.ensures, c.requires)
+
+pub loop-k-init : goal.loop-k-init
+loop-k-init c =
+    (omega arith, omega arith, days-open c.args.table.now c.args.month c.requires.2)
+
+pub bounds-table-k : goal.bounds-table-k
+bounds-table-k c =
+    let short = month-short c.args.month in
+    omega (arith, c.month_days.ensures, c.requires, c.loop-k.invariant)
+
+pub overflow_add-k-in-loop-k : goal.overflow_add-k-in-loop-k
+overflow_add-k-in-loop-k c =
+    let short = month-short c.args.month in
+    omega (arith, c.month_days.ensures, c.requires, c.loop-k.invariant)
+
+pub loop-k-preserved : goal.loop-k-preserved
+loop-k-preserved c =
+    let month = c.args.month in
+    let short = month-short month in
+    let l = c.loop-k in
+    let in-month : l.k / 100 ≡ month = omega (arith, c.month_days.ensures, l.invariant) in
+    let day = day-good l.k month in-month (omega (arith, l.invariant)) (omega (arith, c.month_days.ensures, l.invariant)) in (
+      omega (arith, l.invariant),
+      omega arith,
+      days-mark l.table l.k l.invariant.2 (omega (arith, c.month_days.ensures, c.requires, l.invariant)) day,
+    )
+
+pub returns : goal.returns
+returns c =
+    let l = c.loop-k in
+    days-close l.table c.args.month l.k (omega (arith, c.month_days.ensures, l.invariant)) l.invariant.2

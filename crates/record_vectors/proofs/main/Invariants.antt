@@ -1,0 +1,11 @@
+-- Each turn counts one record, of which at most all are wrong.
+use mathlib.Core.Path.{◌≡◌}
+use Prim.Native.Nat.{◌-◌, ◌≤◌}
+use lib.ListN.{length}
+use Rattle.record_vectors.proofs.main.Given as goal
+
+abbrev pub invariant-loop-records : goal.invariant-loop-records
+invariant-loop-records l = (length buf ≡ 65536) × (wrong ≤ records) × (records ≤ 100000)
+
+abbrev pub decreases-loop-records : goal.decreases-loop-records
+decreases-loop-records l = 100000 - records

@@ -1,0 +1,83 @@
+use mathlib.Core.Path.{◌≡◌, refl, sym, ap, ◌∙◌}
+use mathlib.Core.List.{◌∷◌, append-nil}
+use Prim.Native.Nat.{◌*◌, ◌≤◌}
+use native.Mathlib.Omega.{arith}
+use lib.ListN.{length}
+use Rattle.format.proofs.CampaignLaws.{told-row, told-end}
+use Rattle.rules.specs.Ledger.{zeros}
+use Rattle.span_points.specs.PointSteps.{read_left, read_told, year_filled, filled_to}
+use Rattle.span_points.proofs.FillsLaws.{fills-start, fills-more, fills-all, fills-last}
+use Rattle.span_points.proofs.filling.write_from.Goals as goal
+
+-- The point that was told is the first of those left.
+more : (c : tie.After-point invariant-loop decreases-loop)
+    → read_left c.before.before.before.before.before.before.before.args.s.now c.before.before.before.before.year.result c.before.before.before.loop.at
+    ≡ c.point.given.0.0 ∷ read_left c.before.before.before.before.before.before.before.args.s.now c.before.before.before.before.year.result c.point.given.0.1.0
+more c = told-row (read_told _ _) c.before.before.next-read.ensures c.point.given.1 refl
+
+pub loop-point-init : goal.loop-point-init
+loop-point-init c = fills-start _ _ _ refl
+
+pub overflow_mul-n : goal.overflow_mul-n
+overflow_mul-n c =
+    let room : 3 * c.loop-point.n ≤ length c.loop-point.out = omega (arith, c.loop-point.invariant.few, c.loop-point.invariant.filling.long) in
+    omega (arith, room, c.loop-point.invariant.filling.long, c.well-formed.1.1.1.1.1.0.0)
+
+pub slice_bounds-write_year-count : goal.slice_bounds-write_year-count
+slice_bounds-write_year-count c =
+    let room : 3 * c.loop-point.n ≤ length c.loop-point.out = omega (arith, c.loop-point.invariant.few, c.loop-point.invariant.filling.long) in
+    omega (arith, room)
+
+pub slice_bounds-write_year-start : goal.slice_bounds-write_year-start
+slice_bounds-write_year-start c =
+    let room : 3 * c.loop-point.n ≤ length c.loop-point.out = omega (arith, c.loop-point.invariant.few, c.loop-point.invariant.filling.long) in
+    omega (arith, room)
+
+pub slice_bounds-write_year-end : goal.slice_bounds-write_year-end
+slice_bounds-write_year-end c =
+    let room : 3 * c.loop-point.n ≤ length c.loop-point.out = omega (arith, c.loop-point.invariant.few, c.loop-point.invariant.filling.long) in
+    omega (arith, room)
+
+pub overflow_add-n : goal.overflow_add-n
+overflow_add-n c =
+    let wrote = fills-more _ _ _ _ _ c.loop-point.invariant (year_filled _ _ c.in-Row.point) _ _ c.write_year-n.new.out (ap (filled_to _ _ _) (more c)) c.write_year-n.ensures in
+    omega (arith, wrote.few, c.well-formed.1.1.1.1.1.0.0)
+
+pub loop-point-smaller : goal.loop-point-smaller
+loop-point-smaller c = omega (arith, ap length (more c))
+
+pub loop-point-preserved : goal.loop-point-preserved
+loop-point-preserved c =
+    fills-more _ _ _ _ _ c.loop-point.invariant (year_filled _ _ c.in-Row.point) _ _ c.write_year-n.new.out (ap (filled_to _ _ _) (more c)) c.write_year-n.ensures
+
+pub overflow_mul-n-in-End : goal.overflow_mul-n-in-End
+overflow_mul-n-in-End c =
+    let room : 3 * c.loop-point.n ≤ length c.loop-point.out = omega (arith, c.loop-point.invariant.few, c.loop-point.invariant.filling.long) in
+    omega (arith, room, c.loop-point.invariant.filling.long, c.well-formed.1.1.1.1.1.0.0)
+
+pub slice_bounds-write_zeros-count : goal.slice_bounds-write_zeros-count
+slice_bounds-write_zeros-count c =
+    let room : 3 * c.loop-point.n ≤ length c.loop-point.out = omega (arith, c.loop-point.invariant.few, c.loop-point.invariant.filling.long) in
+    omega (arith, room)
+
+pub slice_bounds-write_zeros-start : goal.slice_bounds-write_zeros-start
+slice_bounds-write_zeros-start c =
+    let room : 3 * c.loop-point.n ≤ length c.loop-point.out = omega (arith, c.loop-point.invariant.few, c.loop-point.invariant.filling.long) in
+    omega (arith, room)
+
+pub slice_bounds-write_zeros-end : goal.slice_bounds-write_zeros-end
+slice_bounds-write_zeros-end c =
+    let room : 3 * c.loop-point.n ≤ length c.loop-point.out = omega (arith, c.loop-point.invariant.few, c.loop-point.invariant.filling.long) in
+    omega (arith, room)
+
+pub overflow_add-n-in-End : goal.overflow_add-n-in-End
+overflow_add-n-in-End c =
+    let none = told-end (read_told _ _) c.next_read.ensures c.in-End.is refl in
+    let wrote = fills-more _ _ _ _ _ c.loop-point.invariant (zeros _ _ _) [] _ c.write_zeros-n.new.out (ap (filled_to _ _ _) none ∙ sym (append-nil (zeros _ _ _))) c.write_zeros-n.ensures in
+    omega (arith, wrote.few, c.well-formed.1.1.1.1.1.0.0)
+
+pub returns-in-End : goal.returns-in-End
+returns-in-End c =
+    let none = told-end (read_told _ _) c.next_read.ensures c.in-End.is refl in
+    let wrote = fills-more _ _ _ _ _ c.loop-point.invariant (zeros _ _ _) [] _ c.write_zeros-n.new.out (ap (filled_to _ _ _) none ∙ sym (append-nil (zeros _ _ _))) c.write_zeros-n.ensures in
+    fills-last _ _ _ _ _ _ _ _ _ c.year-last.ensures (fills-all _ _ _ _ wrote)
