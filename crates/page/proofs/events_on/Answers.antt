@@ -10,25 +10,22 @@ use Rattle.owner_changes.proofs.OutcomeLaws.{events-few}
 use Rattle.page.proofs.HostLaws.{returns_of, cells-refused, cells-run}
 use Rattle.page.proofs.events_on.Goals as goal
 
--- The run that was given.
-told : (c : tie.After-known-told)
-    → gives (record { first = c.before.first.given.0.0; count = c.before.first.given.0.1.0 })
-    ≡ call_events_on c.before.before.before.before.before.before.before.args.s.now c.before.before.before.before.before.before.before.args.date
-told c =
-    let asked = c.before.before.before in
-    rw asked.before.kept.ensures at (sym (ap events_on_answer c.before.first.given.1) ∙ asked.events-on.ensures)
-
 pub overflow_cast-first : goal.overflow_cast-first
-overflow_cast-first c = omega (arith, (events-few _ _ _ (told c)).0)
+overflow_cast-first c =
+    let told : gives (record { first = c.in-Run.first; count = c.in-Run.count }) ≡ call_events_on c.args.s.now c.args.date = rw c.kept.ensures at (sym (ap events_on_answer c.in-Run.is) ∙ c.events_on.ensures) in
+    omega (arith, (events-few _ _ _ told).0)
 
 pub overflow_cast-count : goal.overflow_cast-count
-overflow_cast-count c = omega (arith, (events-few _ _ _ (told c)).1)
+overflow_cast-count c =
+    let told : gives (record { first = c.in-Run.first; count = c.in-Run.count }) ≡ call_events_on c.args.s.now c.args.date = rw c.kept.ensures at (sym (ap events_on_answer c.in-Run.is) ∙ c.events_on.ensures) in
+    omega (arith, (events-few _ _ _ told).1)
 
 pub returns-in-Run : goal.returns-in-Run
 returns-in-Run c =
-    rw (to_z-of_z {w = w64} (record { sfits = c.put_two.type-inv })) (cells-run _ _ _ _ _ _ (told c) c.put_two.ensures)
+    let told : gives (record { first = c.in-Run.first; count = c.in-Run.count }) ≡ call_events_on c.args.s.now c.args.date = rw c.kept.ensures at (sym (ap events_on_answer c.in-Run.is) ∙ c.events_on.ensures) in
+    rw (to_z-of_z {w = w64} (record { sfits = c.put_two.type_inv })) (cells-run _ _ _ _ _ _ told c.put_two.ensures)
 
 pub returns-in-Refused : goal.returns-in-Refused
 returns-in-Refused c =
     let told = rw c.kept.ensures at (sym (ap events_on_answer c.in-Refused.is) ∙ c.events_on.ensures) in
-    returns_of (cells-refused _ _ _ _ told) (to_z-of_z {w = w64} (record { sfits = c.minus.type-inv }) ∙ c.minus.ensures)
+    returns_of (cells-refused _ _ _ _ told) (to_z-of_z {w = w64} (record { sfits = c.minus.type_inv }) ∙ c.minus.ensures)

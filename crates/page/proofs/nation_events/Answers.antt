@@ -1,7 +1,7 @@
 -- The answer by its case: the counts are written into a slice of their own, and a slice of theirs that is too short is
 -- answered before anything is worked out.
 use mathlib.Core.Path.{◌≡◌, refl, sym, ap, ◌∙◌}
-use mathlib.Core.List.{◌∷◌}
+use mathlib.Core.List.{[], ◌∷◌}
 use Prim.Native.Nat.{ℕ}
 use borrow.Author.Tests.{leb-false, not-true}
 use mir.Syntax.{w64}
@@ -23,7 +23,7 @@ pub returns-then-not-has_counts : goal.returns-then-not-has_counts
 returns-then-not-has_counts c =
     let lacking = leb-false 5 _ (sym c.has_counts.ensures ∙ not-true _ c.if-not-has_counts.true-raw) in
     let number = c.room_number.ensures ∙ ap (λ (n : ℕ). first_of (n ∷ 10 ∷ [])) c.check.ensures in
-    returns_of (slices-short _ _ _ lacking number) (to_z-of_z {w = w64} (record { sfits = c.minus.type-inv }) ∙ c.minus.ensures)
+    returns_of (slices-short _ _ _ lacking number) (to_z-of_z {w = w64} (record { sfits = c.minus.type_inv }) ∙ c.minus.ensures)
 
 pub returns-in-Rows : goal.returns-in-Rows
 returns-in-Rows c =
@@ -37,4 +37,4 @@ pub returns-in-Refused : goal.returns-in-Refused
 returns-in-Refused c =
     let known : tie.After-slice-known11 = c in
     let refusal = told known _ c.in-Refused.is in
-    returns_of (slices-refused _ _ _ _ refusal) (to_z-of_z {w = w64} (record { sfits = c.minus-in-Refused.type-inv }) ∙ c.minus-in-Refused.ensures)
+    returns_of (slices-refused _ _ _ _ refusal) (to_z-of_z {w = w64} (record { sfits = c.minus-in-Refused.type_inv }) ∙ c.minus-in-Refused.ensures)

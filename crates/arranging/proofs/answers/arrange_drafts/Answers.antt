@@ -8,18 +8,15 @@ use Rattle.arranging.proofs.answers.arrange_drafts.Goals as goal
 
 pub returns-then-not-is_ready : goal.returns-then-not-is_ready
 returns-then-not-is_ready c =
-    let a = c.args in
-    arranged-refused (history_rows_in a.drafts.now) a.keys.now a.ironman (history_cells a.histories.now a.names.now)
+    arranged-refused (history_rows_in c.args.drafts.now) c.args.keys.now c.args.ironman (history_cells c.args.histories.now c.args.names.now)
     (sym c.is_ready.ensures ∙ not-true _ c.if-not-is_ready.true-raw)
 
 pub put_drafts-requires : goal.put_drafts-requires
 put_drafts-requires c =
-    let a = c.args in
-    ready-tested (history_rows_in a.drafts.now) a.keys.now (sym c.is_ready.ensures ∙ not-false _ c.if-not-is_ready.false-raw)
+    ready-tested (history_rows_in c.args.drafts.now) c.args.keys.now (sym c.is_ready.ensures ∙ not-false _ c.if-not-is_ready.false-raw)
 
 pub returns : goal.returns
 returns c =
-    let a = c.args in
     c.put_drafts.ensures
-    ∙ arranged-tested (history_rows_in a.drafts.now) a.keys.now a.ironman (history_cells a.histories.now a.names.now)
+    ∙ arranged-tested (history_rows_in c.args.drafts.now) c.args.keys.now c.args.ironman (history_cells c.args.histories.now c.args.names.now)
     (sym c.is_ready.ensures ∙ not-false _ c.if-not-is_ready.false-raw)

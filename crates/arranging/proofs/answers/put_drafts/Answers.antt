@@ -14,17 +14,6 @@ use Rattle.arranging.specs.Arranging.{has_names, kept_of}
 use Rattle.arranging.proofs.ArrangeLaws.{popped-some, kept_less, total-few, arranged-short, arranged-rows}
 use Rattle.arranging.proofs.answers.put_drafts.Goals as goal
 
--- What was tested.
-roomy : (c : tie.Else1)
-    → (7 * (c.before.before.before.before.before.count-drafts.result + c.before.before.kept_of.result) ≤ length (begun c.before).args.histories.now)
-    × (c.before.count-names.result ≤ length (begun c.before).args.names.now)
-roomy c =
-    let n = 7 * (c.before.before.before.before.before.count-drafts.result + c.before.before.kept_of.result) in
-    let rows = length (begun c.before).args.histories.now in
-    let names = length (begun c.before).args.names.now in
-    let t = neither (ltb rows n) (ltb names c.before.count-names.result) c.if1.false in
-    (ltb-false rows n t.0, ltb-false names c.before.count-names.result t.1)
-
 sub-left : (a b : ℕ) → a + b - a ≡ b
 sub-left a b = omega arith
 
@@ -64,7 +53,7 @@ overflow_mul-n c =
 
 pub returns-then-histories-n : goal.returns-then-histories-n
 returns-then-histories-n c =
-    arranged-short c.args.ironman (history_rows_in c.args.drafts.now) c.args.keys.now c.pre.inside (history_cells c.args.histories.now c.args.names.now)
+    arranged-short c.args.ironman (history_rows_in c.args.drafts.now) c.args.keys.now c.requires.inside (history_cells c.args.histories.now c.args.names.now)
     c.is_popped-popped.result c.count_drafts-played.result c.count_drafts-idle.result c.kept_of.result (c.count_drafts-played.result + c.kept_of.result) c.count_names-total.result
     c.is_popped-popped.ensures c.count_drafts-played.ensures c.count_drafts-idle.ensures c.kept_of.ensures refl c.count_names-total.ensures c.if-histories-n.true
 
@@ -81,6 +70,11 @@ write_histories-requires c =
       omega (arith, idle, keep-short (has_names false) ds, c.requires.few, c.count_drafts-idle.ensures),
     ) in
     let left : c.kept_of.result ≡ kept_of c.is_popped-popped.result (history_rows_in c.args.drafts.now) = c.kept_of.ensures ∙ ap (λ (n : ℕ). cond c.is_popped-popped.result (n - 1) n) c.count_drafts-idle.ensures in
+    let roomy : (7 * (c.count_drafts-played.result + c.kept_of.result) ≤ length c.args.histories.now) × (c.count_names-total.result ≤ length c.args.names.now) = let n = 7 * (c.count_drafts-played.result + c.kept_of.result) in
+    let rows = length c.args.histories.now in
+    let names = length c.args.names.now in
+    let t = neither (ltb rows n) (ltb names c.count_names-total.result) c.if-histories-n.false in
+    (ltb-false rows n t.0, ltb-false names c.count_names-total.result t.1) in
     let total : c.count_names-total.result ≤ 2000000 = omega (arith, total-few c.args.keys.now (history_rows_in c.args.drafts.now) c.requires, c.count_names-total.ensures) in
     record {
       counted = c.count_drafts-played.ensures;
@@ -89,16 +83,21 @@ write_histories-requires c =
       few = omega (arith, total);
       many = (few.0, omega (arith, few.1));
       sole = λ h. omega (arith, (popped-some c.args.ironman (history_rows_in c.args.drafts.now) (sym c.is_popped-popped.ensures ∙ h)).0, c.count_drafts-played.ensures);
-      room = omega (arith, (roomy c).0);
+      room = omega (arith, roomy.0);
     }
 
 pub write_names-requires : goal.write_names-requires
 write_names-requires c =
-    record { few = c.pre.few; short = c.pre.short; inside = c.pre.inside; room = omega (arith, (roomy c).1, c.count_names-total.ensures) }
+    let roomy : (7 * (c.count_drafts-played.result + c.kept_of.result) ≤ length c.args.histories.now) × (c.count_names-total.result ≤ length c.args.names.now) = let n = 7 * (c.count_drafts-played.result + c.kept_of.result) in
+    let rows = length c.args.histories.now in
+    let names = length c.args.names.now in
+    let t = neither (ltb rows n) (ltb names c.count_names-total.result) c.if-histories-n.false in
+    (ltb-false rows n t.0, ltb-false names c.count_names-total.result t.1) in
+    record { few = c.requires.few; short = c.requires.short; inside = c.requires.inside; room = omega (arith, roomy.1, c.count_names-total.ensures) }
 
 pub returns : goal.returns
 returns c =
-    arranged-rows c.args.ironman (history_rows_in c.args.drafts.now) c.args.keys.now c.pre.inside (history_cells c.args.histories.now c.args.names.now)
+    arranged-rows c.args.ironman (history_rows_in c.args.drafts.now) c.args.keys.now c.requires.inside (history_cells c.args.histories.now c.args.names.now)
     c.is_popped-popped.result c.count_drafts-played.result c.count_drafts-idle.result c.kept_of.result (c.count_drafts-played.result + c.kept_of.result) c.count_names-total.result
     c.is_popped-popped.ensures c.count_drafts-played.ensures c.count_drafts-idle.ensures c.kept_of.ensures refl c.count_names-total.ensures c.if-histories-n.false
     _ _ c.write_histories.ensures c.write_names.ensures

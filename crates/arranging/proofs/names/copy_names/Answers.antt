@@ -11,18 +11,15 @@ loop-i-init c = filling-new _ _ (simp length-map c.requires)
 
 pub bounds-out-i : goal.bounds-out-i
 bounds-out-i c =
-    let l = c.loop-i in
-    filling-room _ _ _ _ _ l.invariant _ _ (map_next name_in _ l.i c.loop-i-test.true)
+    filling-room _ _ _ _ _ c.loop-i.invariant _ _ (map_next name_in _ c.loop-i.i c.loop-i-test.true)
 
 pub loop-i-preserved : goal.loop-i-preserved
 loop-i-preserved c =
-    let l = c.loop-i in
-    filling-put _ _ _ _ _ l.invariant _ _ (map_next name_in _ l.i c.loop-i-test.true) _ refl
+    filling-put _ _ _ _ _ c.loop-i.invariant _ _ (map_next name_in _ c.loop-i.i c.loop-i-test.true) _ refl
 
 pub shape_of-out : goal.shape_of-out
 shape_of-out c = c.loop-i.invariant.long
 
 pub returns : goal.returns
 returns c =
-    let l = c.loop-i in
-    filling-written _ _ _ _ _ l.invariant (map-end name_in _ l.i (omega (arith, c.loop-i-test.false)))
+    filling-written _ _ _ _ _ c.loop-i.invariant (map-end name_in _ c.loop-i.i (omega (arith, c.loop-i-test.false)))

@@ -9,14 +9,6 @@ use Rattle.history_rows.proofs.HistoryLaws.{histories-next}
 use borrow.Author.Rules.{rules}
 use Rattle.arranging.proofs.names.count_names.Goals as goal
 
--- The names from i on are those of the row that was read, and the others.
-next : (c : tie.After-struct-known invariant-loop decreases-loop)
-    → sum_of (λ d. d.count) (drop c.before.before.before.loop.i (history_rows_in (begun c).args.drafts.now))
-    ≡ (history_told c.before.history-at.result).count + sum_of (λ d. d.count) (drop (c.before.before.before.loop.i + 1) (history_rows_in (begun c).args.drafts.now))
-next c =
-    rw c.before.history-at.ensures
-    (ap (sum_of (λ (d : HistoryRow). d.count)) (histories-next _ _ (omega (arith, c.before.before.loop-test.true, c.before.before.before.before.history-count.ensures))))
-
 pub loop-i-init : goal.loop-i-init
 loop-i-init c = (search rules, search rules, omega arith)
 
@@ -25,12 +17,12 @@ overflow_add-total c = omega (arith, c.loop-i.invariant.1, c.loop-i-test.true, c
 
 pub loop-i-preserved : goal.loop-i-preserved
 loop-i-preserved c =
-    let l = c.loop-i in
-    (search rules, omega (arith, l.invariant.1), omega (arith, next c, l.invariant.2))
+    let next : sum_of (λ d. d.count) (drop c.loop-i.i (history_rows_in c.args.drafts.now)) ≡ (history_told c.history_at-row.result).count + sum_of (λ d. d.count) (drop (c.loop-i.i + 1) (history_rows_in c.args.drafts.now)) = rw c.history_at-row.ensures
+    (ap (sum_of (λ (d : HistoryRow). d.count)) (histories-next _ _ (omega (arith, c.loop-i-test.true, c.history_count-n.ensures)))) in
+    (search rules, omega (arith, c.loop-i.invariant.1), omega (arith, next, c.loop-i.invariant.2))
 
 pub returns : goal.returns
 returns c =
-    let l = c.loop-i in
     let ds = history_rows_in c.args.drafts.now in
-    let none = ap (sum_of (λ (d : HistoryRow). d.count)) (drop_of_length-le ds {i = l.i} (omega (arith, c.loop-i-test.false, c.history_count-n.ensures))) in
-    omega (arith, none, l.invariant.2)
+    let none = ap (sum_of (λ (d : HistoryRow). d.count)) (drop_of_length-le ds {i = c.loop-i.i} (omega (arith, c.loop-i-test.false, c.history_count-n.ensures))) in
+    omega (arith, none, c.loop-i.invariant.2)

@@ -13,21 +13,17 @@ loop-i-init c = (search rules, refl)
 
 pub returns-then-keys-row : goal.returns-then-keys-row
 returns-then-keys-row c =
-    let a = c.args in
-    let l = c.loop-i in
-    all-stop (leads_within a.keys) (history_rows_in a.drafts.now) l.i (l.i + 1) _ (histories-next _ l.i (search rules)) l.invariant.1
-    (sym (ap (leads_within a.keys) c.history_at-row.ensures) ∙ lt-leb _ a.keys c.if-keys-row.true)
+    all-stop (leads_within c.args.keys) (history_rows_in c.args.drafts.now) c.loop-i.i (c.loop-i.i + 1) _ (histories-next _ c.loop-i.i (search rules)) c.loop-i.invariant.1
+    (sym (ap (leads_within c.args.keys) c.history_at-row.ensures) ∙ lt-leb _ c.args.keys c.if-keys-row.true)
 
 pub loop-i-preserved : goal.loop-i-preserved
 loop-i-preserved c =
-    let a = c.args in
-    let l = c.loop-i in (
+    (
       search rules,
-      all_pass (leads_within a.keys) (history_rows_in a.drafts.now) l.i (l.i + 1) _ (histories-next _ l.i (search rules)) l.invariant.1
-          (sym (ap (leads_within a.keys) c.history_at-row.ensures) ∙ le-leb _ a.keys c.if-keys-row.false),
+      all_pass (leads_within c.args.keys) (history_rows_in c.args.drafts.now) c.loop-i.i (c.loop-i.i + 1) _ (histories-next _ c.loop-i.i (search rules)) c.loop-i.invariant.1
+          (sym (ap (leads_within c.args.keys) c.history_at-row.ensures) ∙ le-leb _ c.args.keys c.if-keys-row.false),
     )
 
 pub returns : goal.returns
 returns c =
-    let a = c.args in
-    all_end (leads_within a.keys) (history_rows_in a.drafts.now) c.loop-i.i (search rules) c.loop-i.invariant.1
+    all_end (leads_within c.args.keys) (history_rows_in c.args.drafts.now) c.loop-i.i (search rules) c.loop-i.invariant.1

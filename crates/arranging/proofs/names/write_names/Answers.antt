@@ -1,5 +1,5 @@
 use mathlib.Core.Path.{◌≡◌, ap}
-use mathlib.Core.List.{◌∷◌}
+use mathlib.Core.List.{[], ◌∷◌}
 use Prim.Native.Nat.{◌+◌, ◌≤◌}
 use native.Mathlib.Omega.{arith}
 use lib.ListN.{length, drop, length-take, length-drop, drop_of_length-le}
@@ -13,76 +13,87 @@ use Rattle.arranging.proofs.ArrangeStepLaws.{length-all-names, names-room, names
 use borrow.Author.Rules.{rules}
 use Rattle.arranging.proofs.names.write_names.Goals as goal
 
--- The rows from i on begin with the row that was read.
-next : (c : tie.After-history-at invariant-loop decreases-loop)
-    → drop c.before.before.loop.i (history_rows_in (begun c).args.drafts.now)
-    ≡ history_told c.history-at.result ∷ drop (c.before.before.loop.i + 1) (history_rows_in (begun c).args.drafts.now)
-next c =
-    rw c.history-at.ensures (histories-next _ _ (omega (arith, c.before.loop-test.true, c.before.before.before.history-count.ensures)))
-
--- It leads to keys.
-inside : (c : tie.After-history-at invariant-loop decreases-loop)
-    → (history_told c.history-at.result).first + (history_told c.history-at.result).count ≤ length (begun c).args.keys.now
-inside c =
-    inside-here (begun c).args.keys.now (history_rows_in (begun c).args.drafts.now) c.before.before.loop.i _ _ (begun c).requires.inside (next c)
-
 pub loop-i-init : goal.loop-i-init
 loop-i-init c =
     (search rules, filling-new _ _ (omega (arith, length-all-names c.args.keys.now (history_rows_in c.args.drafts.now) c.requires.inside, c.requires.room)))
 
 pub overflow_add-end : goal.overflow_add-end
 overflow_add-end c =
-    omega (arith, inside c, c.requires.short)
+    let next : drop c.loop-i.i (history_rows_in c.args.drafts.now) ≡ history_told c.history_at-row.result ∷ drop (c.loop-i.i + 1) (history_rows_in c.args.drafts.now) = rw c.history_at-row.ensures (histories-next _ _ (omega (arith, c.loop-i-test.true, c.history_count-n.ensures))) in
+    let inside : (history_told c.history_at-row.result).first + (history_told c.history_at-row.result).count ≤ length c.args.keys.now = inside-here c.args.keys.now (history_rows_in c.args.drafts.now) c.loop-i.i _ _ c.requires.inside next in
+    omega (arith, inside, c.requires.short)
 
 pub offset_bounds-keys-first : goal.offset_bounds-keys-first
 offset_bounds-keys-first c =
-    omega (arith, inside c, c.requires.short)
+    let next : drop c.loop-i.i (history_rows_in c.args.drafts.now) ≡ history_told c.history_at-row.result ∷ drop (c.loop-i.i + 1) (history_rows_in c.args.drafts.now) = rw c.history_at-row.ensures (histories-next _ _ (omega (arith, c.loop-i-test.true, c.history_count-n.ensures))) in
+    let inside : (history_told c.history_at-row.result).first + (history_told c.history_at-row.result).count ≤ length c.args.keys.now = inside-here c.args.keys.now (history_rows_in c.args.drafts.now) c.loop-i.i _ _ c.requires.inside next in
+    omega (arith, inside, c.requires.short)
 
 pub slice_bounds-copy_names-count : goal.slice_bounds-copy_names-count
 slice_bounds-copy_names-count c =
-    omega (arith, inside c, c.requires.short)
+    let next : drop c.loop-i.i (history_rows_in c.args.drafts.now) ≡ history_told c.history_at-row.result ∷ drop (c.loop-i.i + 1) (history_rows_in c.args.drafts.now) = rw c.history_at-row.ensures (histories-next _ _ (omega (arith, c.loop-i-test.true, c.history_count-n.ensures))) in
+    let inside : (history_told c.history_at-row.result).first + (history_told c.history_at-row.result).count ≤ length c.args.keys.now = inside-here c.args.keys.now (history_rows_in c.args.drafts.now) c.loop-i.i _ _ c.requires.inside next in
+    omega (arith, inside, c.requires.short)
 
 pub slice_bounds-copy_names-start : goal.slice_bounds-copy_names-start
 slice_bounds-copy_names-start c =
-    omega (arith, inside c, c.requires.short)
+    let next : drop c.loop-i.i (history_rows_in c.args.drafts.now) ≡ history_told c.history_at-row.result ∷ drop (c.loop-i.i + 1) (history_rows_in c.args.drafts.now) = rw c.history_at-row.ensures (histories-next _ _ (omega (arith, c.loop-i-test.true, c.history_count-n.ensures))) in
+    let inside : (history_told c.history_at-row.result).first + (history_told c.history_at-row.result).count ≤ length c.args.keys.now = inside-here c.args.keys.now (history_rows_in c.args.drafts.now) c.loop-i.i _ _ c.requires.inside next in
+    omega (arith, inside, c.requires.short)
 
 pub slice_bounds-copy_names-end : goal.slice_bounds-copy_names-end
 slice_bounds-copy_names-end c =
-    omega (arith, inside c, c.requires.short)
+    let next : drop c.loop-i.i (history_rows_in c.args.drafts.now) ≡ history_told c.history_at-row.result ∷ drop (c.loop-i.i + 1) (history_rows_in c.args.drafts.now) = rw c.history_at-row.ensures (histories-next _ _ (omega (arith, c.loop-i-test.true, c.history_count-n.ensures))) in
+    let inside : (history_told c.history_at-row.result).first + (history_told c.history_at-row.result).count ≤ length c.args.keys.now = inside-here c.args.keys.now (history_rows_in c.args.drafts.now) c.loop-i.i _ _ c.requires.inside next in
+    omega (arith, inside, c.requires.short)
 
 pub offset_bounds-out-k : goal.offset_bounds-out-k
 offset_bounds-out-k c =
-    omega (arith, c.loop-i.invariant.0, c.loop-i-test.true, c.history_count-n.ensures, c.requires.few, inside c, c.requires.short)
+    let next : drop c.loop-i.i (history_rows_in c.args.drafts.now) ≡ history_told c.history_at-row.result ∷ drop (c.loop-i.i + 1) (history_rows_in c.args.drafts.now) = rw c.history_at-row.ensures (histories-next _ _ (omega (arith, c.loop-i-test.true, c.history_count-n.ensures))) in
+    let inside : (history_told c.history_at-row.result).first + (history_told c.history_at-row.result).count ≤ length c.args.keys.now = inside-here c.args.keys.now (history_rows_in c.args.drafts.now) c.loop-i.i _ _ c.requires.inside next in
+    omega (arith, c.loop-i.invariant.0, c.loop-i-test.true, c.history_count-n.ensures, c.requires.few, inside, c.requires.short)
 
 pub slice_bounds-copy_names-count-in-loop-i : goal.slice_bounds-copy_names-count-in-loop-i
 slice_bounds-copy_names-count-in-loop-i c =
-    let room : c.loop-i.k + (history_told c.history_at-row.result).count ≤ length c.loop-i.out = names-room _ _ _ [] c.args.keys.now _ _ _ _ c.loop-i.invariant.1 (next c) (inside c) in
+    let next : drop c.loop-i.i (history_rows_in c.args.drafts.now) ≡ history_told c.history_at-row.result ∷ drop (c.loop-i.i + 1) (history_rows_in c.args.drafts.now) = rw c.history_at-row.ensures (histories-next _ _ (omega (arith, c.loop-i-test.true, c.history_count-n.ensures))) in
+    let inside : (history_told c.history_at-row.result).first + (history_told c.history_at-row.result).count ≤ length c.args.keys.now = inside-here c.args.keys.now (history_rows_in c.args.drafts.now) c.loop-i.i _ _ c.requires.inside next in
+    let room : c.loop-i.k + (history_told c.history_at-row.result).count ≤ length c.loop-i.out = names-room _ _ _ [] c.args.keys.now _ _ _ _ c.loop-i.invariant.1 next inside in
     omega (arith, room)
 
 pub slice_bounds-copy_names-start-in-loop-i : goal.slice_bounds-copy_names-start-in-loop-i
 slice_bounds-copy_names-start-in-loop-i c =
-    let room : c.loop-i.k + (history_told c.history_at-row.result).count ≤ length c.loop-i.out = names-room _ _ _ [] c.args.keys.now _ _ _ _ c.loop-i.invariant.1 (next c) (inside c) in
+    let next : drop c.loop-i.i (history_rows_in c.args.drafts.now) ≡ history_told c.history_at-row.result ∷ drop (c.loop-i.i + 1) (history_rows_in c.args.drafts.now) = rw c.history_at-row.ensures (histories-next _ _ (omega (arith, c.loop-i-test.true, c.history_count-n.ensures))) in
+    let inside : (history_told c.history_at-row.result).first + (history_told c.history_at-row.result).count ≤ length c.args.keys.now = inside-here c.args.keys.now (history_rows_in c.args.drafts.now) c.loop-i.i _ _ c.requires.inside next in
+    let room : c.loop-i.k + (history_told c.history_at-row.result).count ≤ length c.loop-i.out = names-room _ _ _ [] c.args.keys.now _ _ _ _ c.loop-i.invariant.1 next inside in
     omega (arith, room)
 
 pub slice_bounds-copy_names-end-in-loop-i : goal.slice_bounds-copy_names-end-in-loop-i
 slice_bounds-copy_names-end-in-loop-i c =
-    let room : c.loop-i.k + (history_told c.history_at-row.result).count ≤ length c.loop-i.out = names-room _ _ _ [] c.args.keys.now _ _ _ _ c.loop-i.invariant.1 (next c) (inside c) in
+    let next : drop c.loop-i.i (history_rows_in c.args.drafts.now) ≡ history_told c.history_at-row.result ∷ drop (c.loop-i.i + 1) (history_rows_in c.args.drafts.now) = rw c.history_at-row.ensures (histories-next _ _ (omega (arith, c.loop-i-test.true, c.history_count-n.ensures))) in
+    let inside : (history_told c.history_at-row.result).first + (history_told c.history_at-row.result).count ≤ length c.args.keys.now = inside-here c.args.keys.now (history_rows_in c.args.drafts.now) c.loop-i.i _ _ c.requires.inside next in
+    let room : c.loop-i.k + (history_told c.history_at-row.result).count ≤ length c.loop-i.out = names-room _ _ _ [] c.args.keys.now _ _ _ _ c.loop-i.invariant.1 next inside in
     omega (arith, room)
 
 pub copy_names-requires : goal.copy_names-requires
 copy_names-requires c =
-    let room : c.loop-i.k + (history_told c.history_at-row.result).count ≤ length c.loop-i.out = names-room _ _ _ [] c.args.keys.now _ _ _ _ c.loop-i.invariant.1 (next c) (inside c) in
-    simp (length-take, length-drop) (omega (arith, room, inside c))
+    let next : drop c.loop-i.i (history_rows_in c.args.drafts.now) ≡ history_told c.history_at-row.result ∷ drop (c.loop-i.i + 1) (history_rows_in c.args.drafts.now) = rw c.history_at-row.ensures (histories-next _ _ (omega (arith, c.loop-i-test.true, c.history_count-n.ensures))) in
+    let inside : (history_told c.history_at-row.result).first + (history_told c.history_at-row.result).count ≤ length c.args.keys.now = inside-here c.args.keys.now (history_rows_in c.args.drafts.now) c.loop-i.i _ _ c.requires.inside next in
+    let room : c.loop-i.k + (history_told c.history_at-row.result).count ≤ length c.loop-i.out = names-room _ _ _ [] c.args.keys.now _ _ _ _ c.loop-i.invariant.1 next inside in
+    simp (length-take, length-drop) (omega (arith, room, inside))
 
 pub overflow_add-k : goal.overflow_add-k
 overflow_add-k c =
-    omega (arith, c.loop-i.invariant.0, c.loop-i-test.true, c.history_count-n.ensures, c.requires.few, inside c, c.requires.short)
+    let next : drop c.loop-i.i (history_rows_in c.args.drafts.now) ≡ history_told c.history_at-row.result ∷ drop (c.loop-i.i + 1) (history_rows_in c.args.drafts.now) = rw c.history_at-row.ensures (histories-next _ _ (omega (arith, c.loop-i-test.true, c.history_count-n.ensures))) in
+    let inside : (history_told c.history_at-row.result).first + (history_told c.history_at-row.result).count ≤ length c.args.keys.now = inside-here c.args.keys.now (history_rows_in c.args.drafts.now) c.loop-i.i _ _ c.requires.inside next in
+    omega (arith, c.loop-i.invariant.0, c.loop-i-test.true, c.history_count-n.ensures, c.requires.few, inside, c.requires.short)
 
 pub loop-i-preserved : goal.loop-i-preserved
 loop-i-preserved c =
-    let l = c.loop-i in (
-      omega (arith, l.invariant.0, inside c, c.requires.short),
-      names_more _ _ _ c.copy_names.new.out c.args.keys.now _ _ _ _ l.invariant.1 (next c) (inside c) c.copy_names.ensures,
+    let next : drop c.loop-i.i (history_rows_in c.args.drafts.now) ≡ history_told c.history_at-row.result ∷ drop (c.loop-i.i + 1) (history_rows_in c.args.drafts.now) = rw c.history_at-row.ensures (histories-next _ _ (omega (arith, c.loop-i-test.true, c.history_count-n.ensures))) in
+    let inside : (history_told c.history_at-row.result).first + (history_told c.history_at-row.result).count ≤ length c.args.keys.now = inside-here c.args.keys.now (history_rows_in c.args.drafts.now) c.loop-i.i _ _ c.requires.inside next in
+    (
+      omega (arith, c.loop-i.invariant.0, inside, c.requires.short),
+      names_more _ _ _ c.copy_names.new.out c.args.keys.now _ _ _ _ c.loop-i.invariant.1 next inside c.copy_names.ensures,
     )
 
 pub shape_of-out : goal.shape_of-out
@@ -90,6 +101,5 @@ shape_of-out c = c.loop-i.invariant.1.long
 
 pub returns : goal.returns
 returns c =
-    let l = c.loop-i in
     let ds = history_rows_in c.args.drafts.now in
-    filling-written _ _ _ _ _ l.invariant.1 (ap (join_of (names_at c.args.keys.now)) (drop_of_length-le ds {i = l.i} (omega (arith, c.loop-i-test.false, c.history_count-n.ensures))))
+    filling-written _ _ _ _ _ c.loop-i.invariant.1 (ap (join_of (names_at c.args.keys.now)) (drop_of_length-le ds {i = c.loop-i.i} (omega (arith, c.loop-i-test.false, c.history_count-n.ensures))))

@@ -11,22 +11,14 @@ use Rattle.arranging.specs.Arranging.{has_names, kept_words, draft_words}
 use Rattle.arranging.proofs.ArrangeLaws.{length-written, sum-part, sum-idle, length-drafted, kept-written, kept-long, drafted-plain, drafted-popped}
 use Rattle.arranging.proofs.rows.write_histories.Goals as goal
 
--- Both passes have written.
-wholly : (c : tie.After-write-kind2)
-    → take (7 * (begun c).args.played) c.before.before.before.before.write-kind.new.1.1.1.1.0
-    ++ (c.write-kind2.new.1.1.1.1.0 ++ drop (length c.before.before.before.before.write-kind.new.1.1.1.1.0 - 7 * (begun c).args.played) (drop (7 * (begun c).args.played) c.before.before.before.before.write-kind.new.1.1.1.1.0))
-    ≡ written (kept_words (history_rows_in (begun c).args.rows.now) (begun c).args.kept) (begun c).args.out.now
-wholly c =
-    let b = begun c in
-    kept-written (history_rows_in b.args.rows.now) b.args.popped b.args.played b.args.kept b.pre.counted b.pre.left b.args.names b.args.out.now _ _ b.pre.named b.pre.room
-    c.before.before.before.before.write-kind.ensures c.write-kind2.ensures
-
 -- And the first history has taken an initial.
 pub returns-then-popped : goal.returns-then-popped
 returns-then-popped c =
+    let wholly : take (7 * c.args.played) c.write_kind.new.out ++ (c.write_kind-2.new.out ++ drop (length c.write_kind.new.out - 7 * c.args.played) (drop (7 * c.args.played) c.write_kind.new.out)) ≡ written (kept_words (history_rows_in c.args.rows.now) c.args.kept) c.args.out.now = kept-written (history_rows_in c.args.rows.now) c.args.popped c.args.played c.args.kept c.requires.counted c.requires.left c.args.names c.args.out.now _ _ c.requires.named c.requires.room
+    c.write_kind.ensures c.write_kind-2.ensures in
     let e = c.if-popped.true in
-    drafted-popped (history_rows_in c.args.rows.now) c.args.popped _ _ c.pre.counted c.pre.left e (c.pre.sole e) _ _ _
-    (c.word.ensures ∙ ap (λ (d : HistoryRow). d.initial.0) c.last_draft-last.ensures) (wholly c)
+    drafted-popped (history_rows_in c.args.rows.now) c.args.popped _ _ c.requires.counted c.requires.left e (c.requires.sole e) _ _ _
+    (c.word.ensures ∙ ap (λ (d : HistoryRow). d.initial.0) c.last_draft-last.ensures) wholly
 
 pub write_kind-requires : goal.write_kind-requires
 write_kind-requires c =
@@ -66,15 +58,19 @@ write_kind-requires-2 c =
 
 pub bounds-out-0 : goal.bounds-out-0
 bounds-out-0 c =
-    omega (arith, ap length (wholly c), kept-long (history_rows_in c.args.rows.now) c.args.popped _ _ c.pre.counted c.pre.left (c.pre.sole c.if-popped.true) c.args.out.now)
+    let wholly : take (7 * c.args.played) c.write_kind.new.out ++ (c.write_kind-2.new.out ++ drop (length c.write_kind.new.out - 7 * c.args.played) (drop (7 * c.args.played) c.write_kind.new.out)) ≡ written (kept_words (history_rows_in c.args.rows.now) c.args.kept) c.args.out.now = kept-written (history_rows_in c.args.rows.now) c.args.popped c.args.played c.args.kept c.requires.counted c.requires.left c.args.names c.args.out.now _ _ c.requires.named c.requires.room
+    c.write_kind.ensures c.write_kind-2.ensures in
+    omega (arith, ap length wholly, kept-long (history_rows_in c.args.rows.now) c.args.popped _ _ c.requires.counted c.requires.left (c.requires.sole c.if-popped.true) c.args.out.now)
 
 pub shape_of-out-then-popped : goal.shape_of-out-then-popped
 shape_of-out-then-popped c =
-    ap length (taken c) ∙ length-written (draft_words c.args.popped (history_rows_in c.args.rows.now)) c.args.out.now (omega (arith, length-drafted c.args.popped (history_rows_in c.args.rows.now), c.pre.counted, c.pre.left, c.pre.room))
+    ap length (taken c) ∙ length-written (draft_words c.args.popped (history_rows_in c.args.rows.now)) c.args.out.now (omega (arith, length-drafted c.args.popped (history_rows_in c.args.rows.now), c.requires.counted, c.requires.left, c.requires.room))
 
 pub returns-then-popped : goal.returns-then-popped
 returns-then-popped c = taken c
 
 pub returns-else-popped : goal.returns-else-popped
 returns-else-popped c =
-    drafted-plain (history_rows_in c.args.rows.now) c.args.popped _ _ c.pre.counted c.pre.left c.if-popped.false _ _ (wholly c)
+    let wholly : take (7 * c.args.played) c.write_kind.new.out ++ (c.write_kind-2.new.out ++ drop (length c.write_kind.new.out - 7 * c.args.played) (drop (7 * c.args.played) c.write_kind.new.out)) ≡ written (kept_words (history_rows_in c.args.rows.now) c.args.kept) c.args.out.now = kept-written (history_rows_in c.args.rows.now) c.args.popped c.args.played c.args.kept c.requires.counted c.requires.left c.args.names c.args.out.now _ _ c.requires.named c.requires.room
+    c.write_kind.ensures c.write_kind-2.ensures in
+    drafted-plain (history_rows_in c.args.rows.now) c.args.popped _ _ c.requires.counted c.requires.left c.if-popped.false _ _ wholly

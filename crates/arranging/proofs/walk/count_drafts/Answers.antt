@@ -10,21 +10,19 @@ use Rattle.history_rows.specs.Cases.{history_told}
 use Rattle.arranging.specs.Arranging.{has_names, draft_told}
 use Rattle.arranging.proofs.walk.count_drafts.Goals as goal
 
--- The draft that was told is the first of those left.
-more : (c : tie.After-rest invariant-loop decreases-loop)
-    → keep (has_names (begun c).args.named) (drop c.before.before.before.loop.at (history_rows_in (begun c).args.rows.now))
-    ≡ history_told c.rest.given.0.0 ∷ keep (has_names (begun c).args.named) (drop c.rest.given.0.1.0 (history_rows_in (begun c).args.rows.now))
-more c = told-row (draft_told _ _) c.before.before.next-draft.ensures c.rest.given.1 refl
-
 pub overflow_add-n : goal.overflow_add-n
 overflow_add-n c =
-    omega (arith, c.loop-rest.invariant, keep-short (has_names c.args.named) (history_rows_in c.args.rows.now), c.pre)
+    omega (arith, c.loop-rest.invariant, keep-short (has_names c.args.named) (history_rows_in c.args.rows.now), c.requires)
 
 pub loop-rest-smaller : goal.loop-rest-smaller
-loop-rest-smaller c = omega (arith, ap length (more c))
+loop-rest-smaller c =
+    let more : keep (has_names c.args.named) (drop c.loop-rest.at (history_rows_in c.args.rows.now)) ≡ history_told c.in-Row.field-0 ∷ keep (has_names c.args.named) (drop c.in-Row.rest (history_rows_in c.args.rows.now)) = told-row (draft_told _ _) c.next_draft.ensures c.in-Row.is refl in
+    omega (arith, ap length more)
 
 pub loop-rest-preserved : goal.loop-rest-preserved
-loop-rest-preserved c = omega (arith, ap length (more c), c.loop-rest.invariant)
+loop-rest-preserved c =
+    let more : keep (has_names c.args.named) (drop c.loop-rest.at (history_rows_in c.args.rows.now)) ≡ history_told c.in-Row.field-0 ∷ keep (has_names c.args.named) (drop c.in-Row.rest (history_rows_in c.args.rows.now)) = told-row (draft_told _ _) c.next_draft.ensures c.in-Row.is refl in
+    omega (arith, ap length more, c.loop-rest.invariant)
 
 pub returns-in-End : goal.returns-in-End
 returns-in-End c =

@@ -1,5 +1,6 @@
 -- The invariant: the last of those passed, before those left. Those left measure the loop.
 use mathlib.Core.Path.{◌≡◌}
+use mathlib.Core.List.{[]}
 use lib.ListN.{length, drop}
 use Rattle.lists.specs.Lists.{keep, last_or}
 use Rattle.rules.specs.HistoryRows.{history_row_of, history_rows_in}

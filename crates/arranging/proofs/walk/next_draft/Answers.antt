@@ -10,25 +10,19 @@ use Rattle.arranging.specs.Arranging.{has_names}
 use Rattle.arranging.proofs.KeptLaws.{kept_here, kept-past, kept-end}
 use Rattle.arranging.proofs.walk.next_draft.Goals as goal
 
--- The rows from i on begin with the row that was read.
-next : (c : tie.After-has-names invariant-loop decreases-loop)
-    → drop c.before.before.before.loop.i (history_rows_in (begun c).args.rows.now)
-    ≡ history_told c.before.history-at.result ∷ drop (c.before.before.before.loop.i + 1) (history_rows_in (begun c).args.rows.now)
-next c =
-    rw c.before.history-at.ensures (histories-next _ _ (omega (arith, c.before.before.loop-test.true, c.before.before.before.before.history-count.ensures)))
-
 pub loop-i-init : goal.loop-i-init
 loop-i-init c = refl
 
 pub returns-then-has_names : goal.returns-then-has_names
 returns-then-has_names c =
-    c.loop-i.invariant ∙ kept_here (has_names _) _ _ (next c) (sym c.has_names.ensures ∙ c.if-has_names.true)
+    let next : drop c.loop-i.i (history_rows_in c.args.rows.now) ≡ history_told c.history_at-row.result ∷ drop (c.loop-i.i + 1) (history_rows_in c.args.rows.now) = rw c.history_at-row.ensures (histories-next _ _ (omega (arith, c.loop-i-test.true, c.history_count-n.ensures))) in
+    c.loop-i.invariant ∙ kept_here (has_names _) _ _ next (sym c.has_names.ensures ∙ c.if-has_names.true)
 
 pub loop-i-preserved : goal.loop-i-preserved
 loop-i-preserved c =
-    c.loop-i.invariant ∙ kept-past (has_names _) _ _ (next c) (sym c.has_names.ensures ∙ c.if-has_names.false)
+    let next : drop c.loop-i.i (history_rows_in c.args.rows.now) ≡ history_told c.history_at-row.result ∷ drop (c.loop-i.i + 1) (history_rows_in c.args.rows.now) = rw c.history_at-row.ensures (histories-next _ _ (omega (arith, c.loop-i-test.true, c.history_count-n.ensures))) in
+    c.loop-i.invariant ∙ kept-past (has_names _) _ _ next (sym c.has_names.ensures ∙ c.if-has_names.false)
 
 pub returns : goal.returns
 returns c =
-    let l = c.loop-i in
-    l.invariant ∙ kept-end (has_names _) _ l.i (omega (arith, c.loop-i-test.false, c.history_count-n.ensures))
+    c.loop-i.invariant ∙ kept-end (has_names _) _ c.loop-i.i (omega (arith, c.loop-i-test.false, c.history_count-n.ensures))

@@ -11,11 +11,10 @@ loop-at-init c = (refl, c.requires)
 
 pub returns-then-e-le-LAST_JOINING : goal.returns-then-e-le-LAST_JOINING
 returns-then-e-le-LAST_JOINING c =
-    let l = c.loop-at in
     let told = c.next.ensures in
     record {
-      told = l.invariant.0 ∙ walk-joining _ l.war c.in-Row.events c.in-Row.wars c.in-Row.is told c.in-Row-next.e c.in-Row-next.left c.in-Row-next.is c.if-e-le-LAST_JOINING.true;
-      few = walk-few _ l.war c.in-Row.events c.in-Row.wars c.in-Row.is told c.in-Row-next.e c.in-Row-next.left c.in-Row-next.is l.invariant.1;
+      told = c.loop-at.invariant.0 ∙ walk-joining _ c.loop-at.war c.in-Row.events c.in-Row.wars c.in-Row.is told c.in-Row-next.e c.in-Row-next.left c.in-Row-next.is c.if-e-le-LAST_JOINING.true;
+      few = walk-few _ c.loop-at.war c.in-Row.events c.in-Row.wars c.in-Row.is told c.in-Row-next.e c.in-Row-next.left c.in-Row-next.is c.loop-at.invariant.1;
     }
 
 pub loop-at-smaller-else-e-le-LAST_JOINING : goal.loop-at-smaller-else-e-le-LAST_JOINING
@@ -24,16 +23,14 @@ loop-at-smaller-else-e-le-LAST_JOINING c =
 
 pub loop-at-preserved-else-e-le-LAST_JOINING : goal.loop-at-preserved-else-e-le-LAST_JOINING
 loop-at-preserved-else-e-le-LAST_JOINING c =
-    let l = c.loop-at in
     let told = c.next.ensures in (
-      l.invariant.0 ∙ walk-past _ l.war c.in-Row.events c.in-Row.wars c.in-Row.is told c.in-Row-next.e c.in-Row-next.left c.in-Row-next.is c.if-e-le-LAST_JOINING.false,
-      walk-few _ l.war c.in-Row.events c.in-Row.wars c.in-Row.is told c.in-Row-next.e c.in-Row-next.left c.in-Row-next.is l.invariant.1,
+      c.loop-at.invariant.0 ∙ walk-past _ c.loop-at.war c.in-Row.events c.in-Row.wars c.in-Row.is told c.in-Row-next.e c.in-Row-next.left c.in-Row-next.is c.if-e-le-LAST_JOINING.false,
+      walk-few _ c.loop-at.war c.in-Row.events c.in-Row.wars c.in-Row.is told c.in-Row-next.e c.in-Row-next.left c.in-Row-next.is c.loop-at.invariant.1,
     )
 
 pub overflow_add-war : goal.overflow_add-war
 overflow_add-war c =
-    let l = c.loop-at in
-    omega (arith, walk-on-few _ l.war c.in-Row.events c.in-Row.wars c.in-Row.is c.next.ensures c.in-End-next.is l.invariant.1)
+    omega (arith, walk-on-few _ c.loop-at.war c.in-Row.events c.in-Row.wars c.in-Row.is c.next.ensures c.in-End-next.is c.loop-at.invariant.1)
 
 pub loop-at-smaller : goal.loop-at-smaller
 loop-at-smaller c =
@@ -45,18 +42,16 @@ loop-at-smaller c =
 
 pub loop-at-preserved : goal.loop-at-preserved
 loop-at-preserved c =
-    let l = c.loop-at in
     let told = c.next.ensures in
     let end = c.in-End-next.is in (
-      l.invariant.0 ∙ walk-on _ l.war c.in-Row.events c.in-Row.wars c.in-Row.is told end ∙ ap (joinings_from (l.war + 1)) c.next-at.ensures,
+      c.loop-at.invariant.0 ∙ walk-on _ c.loop-at.war c.in-Row.events c.in-Row.wars c.in-Row.is told end ∙ ap (joinings_from (c.loop-at.war + 1)) c.next-at.ensures,
       omega (
         arith,
-        walk-on-few _ l.war c.in-Row.events c.in-Row.wars c.in-Row.is told end l.invariant.1,
+        walk-on-few _ c.loop-at.war c.in-Row.events c.in-Row.wars c.in-Row.is told end c.loop-at.invariant.1,
         ap length c.next-at.ensures,
       ),
     )
 
 pub returns-in-End : goal.returns-in-End
 returns-in-End c =
-    let l = c.loop-at in
-    record { told = l.invariant.0 ∙ walk_end _ l.war c.in-End.is; few = tt }
+    record { told = c.loop-at.invariant.0 ∙ walk_end _ c.loop-at.war c.in-End.is; few = tt }

@@ -6,8 +6,7 @@ use Rattle.bookings.proofs.passes.book_rows.Goals as goal
 
 pub claim_rows-requires : goal.claim_rows-requires
 claim_rows-requires c =
-    let ready = c.requires in
-    record { few = ready.few.wars; room = omega (arith, ready.counted, ready.room) }
+    record { few = c.requires.few.wars; room = omega (arith, c.requires.counted, c.requires.room) }
 
 pub shape_of-out-then-nation_count-ge-ROW_OWNERS : goal.shape_of-out-then-nation_count-ge-ROW_OWNERS
 shape_of-out-then-nation_count-ge-ROW_OWNERS c = c.claim_rows.auto.out
@@ -20,11 +19,9 @@ hold_blocks-requires c = c.requires
 
 pub finish_bookings-requires : goal.finish_bookings-requires
 finish_bookings-requires c =
-    let ready = c.requires in
-    record { few = ready.few.wars; room = omega (arith, ready.counted, ready.room, c.hold_blocks.auto.out) }
+    record { few = c.requires.few.wars; room = omega (arith, c.requires.counted, c.requires.room, c.hold_blocks.auto.out) }
 
 pub returns : goal.returns
 returns c =
-    let a = c.args in
-    final-rows a.nations.now a.entries.now c.requires.shaped (omega (arith, c.nation_count.ensures, c.if-nation_count-ge-ROW_OWNERS.false))
-    (joinings_left a.s.now a.start) a.out.now _ _ c.hold_blocks.ensures c.finish_bookings.ensures
+    final-rows c.args.nations.now c.args.entries.now c.requires.shaped (omega (arith, c.nation_count.ensures, c.if-nation_count-ge-ROW_OWNERS.false))
+    (joinings_left c.args.s.now c.args.start) c.args.out.now _ _ c.hold_blocks.ensures c.finish_bookings.ensures

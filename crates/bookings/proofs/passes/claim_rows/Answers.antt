@@ -7,36 +7,34 @@ use Rattle.bookings.proofs.JoiningLaws.{joining-row, joining-few, joining-end}
 use Rattle.bookings.proofs.BookingPassLaws.{passing-start, passing-room, passing-next, passing-end}
 use Rattle.bookings.proofs.passes.claim_rows.Goals as goal
 
--- The joining that was told is the first of those left.
-more : (c : tie.After-x invariant-loop decreases-loop)
-    → joinings_left c.before.before.before.before.before.before.before.before.args.s.now c.before.before.before.loop.walk
-    ≡ joining_of c.x.given.0.0 ∷ joinings_left c.before.before.before.before.before.before.before.before.args.s.now c.x.given.0.1.0
-more c = joining-row c.before.before.next-joining.ensures c.x.given.1
-
 pub loop-x-init : goal.loop-x-init
 loop-x-init c =
-    let ready = c.requires in
-    (ready.few, passing-start _ _ _ ready.room)
+    (c.requires.few, passing-start _ _ _ c.requires.room)
 
 pub next_joining-requires : goal.next_joining-requires
 next_joining-requires c = c.loop-x.invariant.0
 
 pub claim_row-requires : goal.claim_row-requires
 claim_row-requires c =
-    passing-room _ _ _ c.loop-x.invariant.1 (more c)
+    let more : joinings_left c.args.s.now c.loop-x.walk ≡ joining_of c.in-Row.x ∷ joinings_left c.args.s.now c.in-Row.rest = joining-row c.next_joining.ensures c.in-Row.is in
+    passing-room _ _ _ c.loop-x.invariant.1 more
 
 pub overflow_add-k : goal.overflow_add-k
 overflow_add-k c =
-    omega (arith, passing-room _ _ _ c.loop-x.invariant.1 (more c), c.loop-x.invariant.1.long, c.well-formed.1.1.1.1.0.0)
+    let more : joinings_left c.args.s.now c.loop-x.walk ≡ joining_of c.in-Row.x ∷ joinings_left c.args.s.now c.in-Row.rest = joining-row c.next_joining.ensures c.in-Row.is in
+    omega (arith, passing-room _ _ _ c.loop-x.invariant.1 more, c.loop-x.invariant.1.long, c.well_formed.1.1.1.1.0.0)
 
 pub loop-x-smaller : goal.loop-x-smaller
-loop-x-smaller c = omega (arith, ap length (more c))
+loop-x-smaller c =
+    let more : joinings_left c.args.s.now c.loop-x.walk ≡ joining_of c.in-Row.x ∷ joinings_left c.args.s.now c.in-Row.rest = joining-row c.next_joining.ensures c.in-Row.is in
+    omega (arith, ap length more)
 
 pub loop-x-preserved : goal.loop-x-preserved
 loop-x-preserved c =
-    let l = c.loop-x in (
+    let more : joinings_left c.args.s.now c.loop-x.walk ≡ joining_of c.in-Row.x ∷ joinings_left c.args.s.now c.in-Row.rest = joining-row c.next_joining.ensures c.in-Row.is in
+    (
       joining-few c.next_joining.ensures c.in-Row.is,
-      passing-next _ _ _ l.invariant.1 (λ j r. refl) (more c) _ c.claim_row.ensures,
+      passing-next _ _ _ c.loop-x.invariant.1 (λ j r. refl) more _ c.claim_row.ensures,
     )
 
 pub shape_of-out-in-End : goal.shape_of-out-in-End

@@ -16,20 +16,17 @@ loop-i-init c =
 
 pub bounds-out-i : goal.bounds-out-i
 bounds-out-i c =
-    let l = c.loop-i in
-    omega (arith, l.invariant.1.long, c.requires, c.loop-i-test.true)
+    omega (arith, c.loop-i.invariant.1.long, c.requires, c.loop-i-test.true)
 
 pub loop-i-preserved : goal.loop-i-preserved
 loop-i-preserved c =
-    let l = c.loop-i in
-    (search rules, filling-one _ _ _ _ _ l.invariant.1 0 _ (replicate_next c.args.n l.i 0 c.loop-i-test.true))
+    (search rules, filling-one _ _ _ _ _ c.loop-i.invariant.1 0 _ (replicate_next c.args.n c.loop-i.i 0 c.loop-i-test.true))
 
 pub shape_of-out : goal.shape_of-out
 shape_of-out c = c.loop-i.invariant.1.long
 
 pub returns : goal.returns
 returns c =
-    let l = c.loop-i in
     let n = c.args.n in
-    let done = filling-written _ _ _ _ _ l.invariant.1 (replicate-end n l.i 0 c.loop-i-test.false) in
+    let done = filling-written _ _ _ _ _ c.loop-i.invariant.1 (replicate-end n c.loop-i.i 0 c.loop-i-test.false) in
     rw (length-replicate {A = ℕ} n 0) at done

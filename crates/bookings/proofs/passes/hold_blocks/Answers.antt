@@ -11,15 +11,14 @@ use borrow.Author.Rules.{rules}
 use Rattle.bookings.proofs.passes.hold_blocks.Goals as goal
 
 pub overflow_mul-n : goal.overflow_mul-n
-overflow_mul-n c = omega (arith, c.requires.room, c.well-formed.1.1.1.1.1.0.0)
+overflow_mul-n c = omega (arith, c.requires.room, c.well_formed.1.1.1.1.1.0.0)
 
 pub clear_words-requires : goal.clear_words-requires
 clear_words-requires c = c.requires.room
 
 pub loop-start-init : goal.loop-start-init
 loop-start-init c =
-    let a = c.args in
-    blocks_start a.nations.now a.entries.now (joinings_left a.s.now a.start) a.n a.out.now _ _ _ _ _ c.pre.counted c.clear_words.ensures c.start-walk.ensures
+    blocks_start c.args.nations.now c.args.entries.now (joinings_left c.args.s.now c.args.start) c.args.n c.args.out.now _ _ _ _ _ c.requires.counted c.clear_words.ensures c.start-walk.ensures
     (length-replicate {A = ℕ} 24576 0) (length-replicate {A = ℕ} 24576 0) (length-replicate {A = ℕ} 24576 0)
 
 pub shape_of-out-then-taken-eq0 : goal.shape_of-out-then-taken-eq0
@@ -28,18 +27,17 @@ shape_of-out-then-taken-eq0 c =
 
 pub returns-then-taken-eq0 : goal.returns-then-taken-eq0
 returns-then-taken-eq0 c =
-    let a = c.args in
     block_last _ _ _ _ _ _ _ _ _ c.loop-start.invariant
-    (nothing_left _ _ _ _ _ _ _ _ _ _ c.sort_block-block.ensures (omega (arith, c.loop-start.invariant.keys-long, c.loop-start.invariant.owners-long)) (search rules))
-    ∙ rows-over (best_booking_row (claims_in a.nations.now a.entries.now)) (joinings_left a.s.now a.start) a.n a.out.now _ c.pre.counted c.clear_words.ensures
+    (nothing_left _ _ _ _ _ _ _ _ _ _ c.sort_block-block.ensures (omega (arith, c.loop-start.invariant.keys_long, c.loop-start.invariant.owners_long)) (search rules))
+    ∙ rows-over (best_booking_row (claims_in c.args.nations.now c.args.entries.now)) (joinings_left c.args.s.now c.args.start) c.args.n c.args.out.now _ c.requires.counted c.clear_words.ensures
 
 pub slice_bounds-hold_rows-end : goal.slice_bounds-hold_rows-end
 slice_bounds-hold_rows-end c = sorted-inside _ _ _ _ _ _ _ _ _ _ c.sort_block-block.ensures
 
 pub hold_rows-requires : goal.hold_rows-requires
 hold_rows-requires c =
-    let ready = c.requires in (
-      record { few = ready.few.wars; room = omega (arith, ready.counted, ready.room, c.loop-start.invariant.long, c.clear_words.auto.out) },
+    (
+      record { few = c.requires.few.wars; room = omega (arith, c.requires.counted, c.requires.room, c.loop-start.invariant.long, c.clear_words.auto.out) },
       part-in-order _ _ _ _ _ _ _ _ _ _ c.sort_block-block.ensures,
     )
 
@@ -49,8 +47,6 @@ loop-start-smaller c =
 
 pub loop-start-preserved : goal.loop-start-preserved
 loop-start-preserved c =
-    let ready = c.pre in
-    let held = c.hold_rows in
     let kept = c.sort_block-block.auto.1.1.1 in
-    blocks-next _ _ _ _ _ _ _ _ _ c.loop-start.invariant _ _ _ _ _ _ ready.shaped ready.good c.sort_block-block.ensures held.ensures
-    held.auto.1.1.1.1.0 kept.0 kept.1.0 kept.1.1.0
+    blocks-next _ _ _ _ _ _ _ _ _ c.loop-start.invariant _ _ _ _ _ _ c.requires.shaped c.requires.good c.sort_block-block.ensures c.hold_rows.ensures
+    c.hold_rows.auto.out kept.0 kept.1.0 kept.1.1.0

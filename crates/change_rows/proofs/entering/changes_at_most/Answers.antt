@@ -9,25 +9,21 @@ use Rattle.rules.specs.Changes.{province_changes}
 use Rattle.change_keys.specs.ChangeSteps.{change_of, changes_ahead, changes_left, change_told}
 use Rattle.change_rows.proofs.entering.changes_at_most.Goals as goal
 
--- The change that was told is the first of those left.
-more : (c : tie.After-rest invariant-loop decreases-loop)
-    → changes_left c.before.before.before.before.before.before.args.s.now c.before.before.before.loop.at
-    ≡ change_of c.rest.given.0.0 ∷ changes_left c.before.before.before.before.before.before.args.s.now c.rest.given.0.1.0
-more c = told-row (change_told _) c.before.before.next-change.ensures c.rest.given.1 refl
-
 pub returns-then-left-eq0 : goal.returns-then-left-eq0
 returns-then-left-eq0 c =
-    let l = c.loop-rest in
+    let more : changes_left c.args.s.now c.loop-rest.at ≡ change_of c.in-Row.field-0 ∷ changes_left c.args.s.now c.in-Row.rest = told-row (change_told _) c.next_change.ensures c.in-Row.is refl in
     let ahead = ap (λ ps. length (join_of province_changes ps)) c.next-at.ensures in
-    sym (lt-leb (length (changes_ahead c.args.s.now c.args.provinces)) c.args.most (omega (arith, l.invariant, ap length (more c), c.if-left-eq0.true, ahead)))
+    sym (lt-leb (length (changes_ahead c.args.s.now c.args.provinces)) c.args.most (omega (arith, c.loop-rest.invariant, ap length more, c.if-left-eq0.true, ahead)))
 
 pub loop-rest-smaller : goal.loop-rest-smaller
-loop-rest-smaller c = omega (arith, ap length (more c))
+loop-rest-smaller c =
+    let more : changes_left c.args.s.now c.loop-rest.at ≡ change_of c.in-Row.field-0 ∷ changes_left c.args.s.now c.in-Row.rest = told-row (change_told _) c.next_change.ensures c.in-Row.is refl in
+    omega (arith, ap length more)
 
 pub loop-rest-preserved : goal.loop-rest-preserved
 loop-rest-preserved c =
-    let l = c.loop-rest in
-    omega (arith, l.invariant, ap length (more c), c.if-left-eq0.false)
+    let more : changes_left c.args.s.now c.loop-rest.at ≡ change_of c.in-Row.field-0 ∷ changes_left c.args.s.now c.in-Row.rest = told-row (change_told _) c.next_change.ensures c.in-Row.is refl in
+    omega (arith, c.loop-rest.invariant, ap length more, c.if-left-eq0.false)
 
 pub returns-in-End : goal.returns-in-End
 returns-in-End c =

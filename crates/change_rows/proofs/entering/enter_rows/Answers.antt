@@ -13,12 +13,6 @@ use Rattle.change_keys.specs.ChangeSteps.{change_of, changes_left, change_told}
 use Rattle.change_rows.proofs.EnterRowLaws.{enter-start, enter-room, enter-more, enter-done, rows-entered}
 use Rattle.change_rows.proofs.entering.enter_rows.Goals as goal
 
--- The change that was told is the first of those left.
-more : (c : tie.After-x invariant-loop decreases-loop)
-    → changes_left c.before.before.before.before.before.before.before.args.s.now c.before.before.before.loop.at
-    ≡ change_of c.x.given.0.0 ∷ changes_left c.before.before.before.before.before.before.before.args.s.now c.x.given.0.1.0
-more c = told-row (change_told _) c.before.before.next-change.ensures c.x.given.1 refl
-
 pub loop-x-init : goal.loop-x-init
 loop-x-init c =
     let ahead = ap (λ ps. length (join_of province_changes ps)) c.next-at.ensures in
@@ -26,23 +20,25 @@ loop-x-init c =
 
 pub overflow_add-falls : goal.overflow_add-falls
 overflow_add-falls c =
-    let l = c.loop-x in
-    omega (arith, l.invariant.few, l.invariant.rows.long, c.well-formed.1.1.0.0, enter-room l.invariant (more c), c.one-falls.ensures, one-small (ltb c.change_key-key.result l.last))
+    let more : changes_left c.args.s.now c.loop-x.at ≡ change_of c.in-Row.x ∷ changes_left c.args.s.now c.in-Row.rest = told-row (change_told _) c.next_change.ensures c.in-Row.is refl in
+    omega (arith, c.loop-x.invariant.few, c.loop-x.invariant.rows.long, c.well_formed.1.1.0.0, enter-room c.loop-x.invariant more, c.one-falls.ensures, one-small (ltb c.change_key-key.result c.loop-x.last))
 
 pub put_change-requires : goal.put_change-requires
 put_change-requires c =
-    let l = c.loop-x in
-    simp (length-take, length-drop) (omega (arith, enter-room l.invariant (more c)))
+    let more : changes_left c.args.s.now c.loop-x.at ≡ change_of c.in-Row.x ∷ changes_left c.args.s.now c.in-Row.rest = told-row (change_told _) c.next_change.ensures c.in-Row.is refl in
+    simp (length-take, length-drop) (omega (arith, enter-room c.loop-x.invariant more))
 
 pub loop-x-smaller : goal.loop-x-smaller
-loop-x-smaller c = omega (arith, ap length (more c))
+loop-x-smaller c =
+    let more : changes_left c.args.s.now c.loop-x.at ≡ change_of c.in-Row.x ∷ changes_left c.args.s.now c.in-Row.rest = told-row (change_told _) c.next_change.ensures c.in-Row.is refl in
+    omega (arith, ap length more)
 
 pub loop-x-preserved : goal.loop-x-preserved
 loop-x-preserved c =
-    let l = c.loop-x in
+    let more : changes_left c.args.s.now c.loop-x.at ≡ change_of c.in-Row.x ∷ changes_left c.args.s.now c.in-Row.rest = told-row (change_told _) c.next_change.ensures c.in-Row.is refl in
     let x = change_of c.in-Row.x in
-    let wrote = behind l.out (change_words x) c.put_change.new.out (change_width * l.count) (enter-room l.invariant (more c)) c.put_change.ensures in
-    enter-more l.invariant (more c) c.change_key-key.result c.one-falls.result c.change_key-key.ensures c.one-falls.ensures wrote
+    let wrote = behind c.loop-x.out (change_words x) c.put_change.new.out (change_width * c.loop-x.count) (enter-room c.loop-x.invariant more) c.put_change.ensures in
+    enter-more c.loop-x.invariant more c.change_key-key.result c.one-falls.result c.change_key-key.ensures c.one-falls.ensures wrote
 
 pub shape_of-out-in-End : goal.shape_of-out-in-End
 shape_of-out-in-End c = c.loop-x.invariant.rows.long

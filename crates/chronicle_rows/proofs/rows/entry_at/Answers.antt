@@ -6,5 +6,4 @@ use Rattle.chronicle_rows.proofs.rows.entry_at.Goals as goal
 
 pub returns : goal.returns
 returns c =
-    let row = c.entry_row-row in
-    ap (λ (k : Kind). record { date = row.result.date; kind = k }) c.kind_of-kind.ensures ∙ ap entry_of row.ensures
+    ap (λ (k : Kind). record { date = c.entry_row-row.result.date; kind = k }) c.kind_of-kind.ensures ∙ ap entry_of c.entry_row-row.ensures

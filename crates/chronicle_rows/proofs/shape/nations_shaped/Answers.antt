@@ -9,27 +9,24 @@ use Rattle.chronicle_rows.proofs.RowAtLaws.{nations-next}
 use Rattle.chronicle_rows.proofs.LentShapeLaws.{follow-pass, follow-stop, follow-end}
 use Rattle.chronicle_rows.proofs.shape.nations_shaped.Goals as goal
 
--- The rows from i on begin with the row that was read.
-more : (c : tie.After-tags-shaped invariant-loop decreases-loop)
-    → drop c.before.before.before.before.before.loop.i (nation_rows_in c.before.before.before.before.before.before.before.before.args.nations.now)
-    ≡ nation_told c.before.before.before.nation-at.result ∷ drop (c.before.before.before.before.before.loop.i + 1) (nation_rows_in c.before.before.before.before.before.before.before.before.args.nations.now)
-more c = rw c.before.before.before.nation-at.ensures (nations-next _ _ (search rules))
-
 pub loop-i-init : goal.loop-i-init
 loop-i-init c = record { inside = search rules; room = search rules; tells = refl }
 
 pub returns-then-not-tags_shaped-first : goal.returns-then-not-tags_shaped-first
 returns-then-not-tags_shaped-first c =
-    follow-stop _ _ _ _ _ (more c) (search rules) c.loop-i.invariant _ c.tags_shaped.ensures c.if-not-tags_shaped-first.true-raw
+    let more : drop c.loop-i.i (nation_rows_in c.args.nations.now) ≡ nation_told c.nation_at-nation.result ∷ drop (c.loop-i.i + 1) (nation_rows_in c.args.nations.now) = rw c.nation_at-nation.ensures (nations-next _ _ (search rules)) in
+    follow-stop _ _ _ _ _ more (search rules) c.loop-i.invariant _ c.tags_shaped.ensures c.if-not-tags_shaped-first.true-raw
 
 pub overflow_add-next : goal.overflow_add-next
 overflow_add-next c =
-    let few = (follow-pass _ _ _ _ _ (more c) (search rules) c.loop-i.invariant _ c.tags_shaped.ensures c.if-not-tags_shaped-first.false-raw).room in
+    let more : drop c.loop-i.i (nation_rows_in c.args.nations.now) ≡ nation_told c.nation_at-nation.result ∷ drop (c.loop-i.i + 1) (nation_rows_in c.args.nations.now) = rw c.nation_at-nation.ensures (nations-next _ _ (search rules)) in
+    let few = (follow-pass _ _ _ _ _ more (search rules) c.loop-i.invariant _ c.tags_shaped.ensures c.if-not-tags_shaped-first.false-raw).room in
     search rules
 
 pub loop-i-preserved : goal.loop-i-preserved
 loop-i-preserved c =
-    follow-pass _ _ _ _ _ (more c) (search rules) c.loop-i.invariant _ c.tags_shaped.ensures c.if-not-tags_shaped-first.false-raw
+    let more : drop c.loop-i.i (nation_rows_in c.args.nations.now) ≡ nation_told c.nation_at-nation.result ∷ drop (c.loop-i.i + 1) (nation_rows_in c.args.nations.now) = rw c.nation_at-nation.ensures (nations-next _ _ (search rules)) in
+    follow-pass _ _ _ _ _ more (search rules) c.loop-i.invariant _ c.tags_shaped.ensures c.if-not-tags_shaped-first.false-raw
 
 pub returns : goal.returns
 returns c =

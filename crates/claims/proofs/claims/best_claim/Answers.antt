@@ -7,8 +7,7 @@ use Rattle.claims.proofs.claims.best_claim.Goals as goal
 
 pub loop-nation-init : goal.loop-nation-init
 loop-nation-init c =
-    let a = c.args in
-    best-all a.nations.now a.entries.now a.tag a.date _ c.nothing_yet-best.ensures
+    best-all c.args.nations.now c.args.entries.now c.args.tag c.args.date _ c.nothing_yet-best.ensures
 
 pub loop-nation-preserved : goal.loop-nation-preserved
 loop-nation-preserved c =
@@ -16,5 +15,4 @@ loop-nation-preserved c =
 
 pub returns : goal.returns
 returns c =
-    let a = c.args in
-    c.best_of.ensures ∙ scan-end a.tag a.date _ _ _ (claims-end a.nations.now a.entries.now c.loop-nation.nation (search rules)) c.loop-nation.invariant
+    c.best_of.ensures ∙ scan-end c.args.tag c.args.date _ _ _ (claims-end c.args.nations.now c.args.entries.now c.loop-nation.nation (search rules)) c.loop-nation.invariant

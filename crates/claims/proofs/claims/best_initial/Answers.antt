@@ -6,19 +6,14 @@ use Rattle.claims.proofs.claims.best_initial.Goals as goal
 
 pub loop-nation-init : goal.loop-nation-init
 loop-nation-init c =
-    let a = c.args in
-    scan-all a.tag c.kept-start.result (initial_claims a.nations.now 0) _ c.nothing_yet-best.ensures
+    scan-all c.args.tag c.kept-start.result (initial_claims c.args.nations.now 0) _ c.nothing_yet-best.ensures
 
 pub loop-nation-preserved : goal.loop-nation-preserved
 loop-nation-preserved c =
-    let start = c.kept-start in
-    let a = c.args in
-    scan_step a.tag start.result _ _ _ _ _ _ (initials-next _ _ _ _ (search rules) c.nation_at-row.ensures start.ensures) c.better-best.ensures c.loop-nation.invariant
+    scan_step c.args.tag c.kept-start.result _ _ _ _ _ _ (initials-next _ _ _ _ (search rules) c.nation_at-row.ensures c.kept-start.ensures) c.better-best.ensures c.loop-nation.invariant
 
 pub returns : goal.returns
 returns c =
-    let start = c.kept-start in
-    let a = c.args in
     c.best_of.ensures
-    ∙ from_zero a.tag start.result _ (initial_claims a.nations.now 0) start.ensures
-    (scan-end a.tag start.result _ _ _ (initials-end _ c.loop-nation.nation (search rules)) c.loop-nation.invariant)
+    ∙ from_zero c.args.tag c.kept-start.result _ (initial_claims c.args.nations.now 0) c.kept-start.ensures
+    (scan-end c.args.tag c.kept-start.result _ _ _ (initials-end _ c.loop-nation.nation (search rules)) c.loop-nation.invariant)

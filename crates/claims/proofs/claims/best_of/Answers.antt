@@ -5,10 +5,8 @@ use Rattle.claims.proofs.claims.best_of.Goals as goal
 
 pub returns-then-best-eq0 : goal.returns-then-best-eq0
 returns-then-best-eq0 c =
-    let a = c.args in
-    sym (none_found a.best.found a.best.claim c.if-best-eq0.true)
+    sym (none_found c.args.best.found c.args.best.claim c.if-best-eq0.true)
 
 pub returns-else-best-eq0 : goal.returns-else-best-eq0
 returns-else-best-eq0 c =
-    let a = c.args in
-    sym (one_found a.best.found a.best.claim c.if-best-eq0.false)
+    sym (one_found c.args.best.found c.args.best.claim c.if-best-eq0.false)

@@ -4,5 +4,4 @@ use Rattle.claims.proofs.claims.best_of_nation.Goals as goal
 
 pub returns : goal.returns
 returns c =
-    let a = c.args in
-    best-nation a.nations.now a.entries.now a.i _ _ a.tag a.date _ _ _ c.nation_at-row.ensures c.kept.ensures c.better-own.ensures c.best_switch.ensures
+    best-nation c.args.nations.now c.args.entries.now c.args.i _ _ c.args.tag c.args.date _ _ _ c.nation_at-row.ensures c.kept.ensures c.better-own.ensures c.best_switch.ensures

@@ -22,5 +22,4 @@ loop-entry-preserved c =
 
 pub returns : goal.returns
 returns c =
-    let a = c.args in
-    scan-end _ _ _ _ _ (switches-end a.entries.now a.nation c.loop-entry.entry a.end (search rules)) c.loop-entry.invariant
+    scan-end _ _ _ _ _ (switches-end c.args.entries.now c.args.nation c.loop-entry.entry c.args.end (search rules)) c.loop-entry.invariant

@@ -10,12 +10,11 @@ loop-i-init c = (refl, λ ts few sorted. marked_start c.args.nations.now ts c.ar
 
 pub loop-i-preserved : goal.loop-i-preserved
 loop-i-preserved c =
-    let l = c.loop-i in
     let counted = c.nation_count-n.ensures in (
-      c.mark_cell.auto.cells ∙ l.invariant.0,
+      c.mark_cell.auto.cells ∙ c.loop-i.invariant.0,
       λ ts few sorted.
-          marked_next _ ts l.cells l.i _ (omega (arith, c.loop-i-test.true, counted)) _ _ _ (ap (λ (r : NationRow). r.stored) c.nation_at-row.ensures) (c.first_place.ensures ts few sorted) c.mark_cell.ensures
-          ∙ l.invariant.1 ts few sorted,
+          marked_next _ ts c.loop-i.cells c.loop-i.i _ (omega (arith, c.loop-i-test.true, counted)) _ _ _ (ap (λ (r : NationRow). r.stored) c.nation_at-row.ensures) (c.first_place.ensures ts few sorted) c.mark_cell.ensures
+          ∙ c.loop-i.invariant.1 ts few sorted,
     )
 
 pub shape_of-cells : goal.shape_of-cells
@@ -23,6 +22,5 @@ shape_of-cells c = c.loop-i.invariant.0
 
 pub returns : goal.returns
 returns c =
-    let l = c.loop-i in
     λ ts few sorted.
-    sym (marked-end _ ts l.cells l.i _ (omega (arith, c.loop-i-test.false, c.nation_count-n.ensures))) ∙ l.invariant.1 ts few sorted
+    sym (marked-end _ ts c.loop-i.cells c.loop-i.i _ (omega (arith, c.loop-i-test.false, c.nation_count-n.ensures))) ∙ c.loop-i.invariant.1 ts few sorted

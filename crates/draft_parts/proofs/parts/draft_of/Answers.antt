@@ -25,5 +25,4 @@ overflow_cast-result c =
 
 pub returns : goal.returns
 returns c =
-    let a = c.args in
-    draft-told a.row.human a.row.has_switched_nation a.row.cities a.word (nation_told a.n) a.first a.count _ _ _ _ (to_z-of_z {w = w32} {z = a.row.cities} (sfits_of {w = w32} {z = a.row.cities} c.struct_told-1.given.1.1.1.1.0.1)) c.is_released-released.ensures c.one.ensures c.one-2.ensures
+    draft-told c.args.row.human c.args.row.has_switched_nation c.args.row.cities c.args.word (nation_told c.args.n) c.args.first c.args.count _ _ _ _ (to_z-of_z {w = w32} {z = c.args.row.cities} (sfits_of {w = w32} {z = c.args.row.cities} c.struct_told-1.given.1.1.1.1.0.1)) c.is_released-released.ensures c.one.ensures c.one-2.ensures

@@ -7,5 +7,4 @@ use Rattle.draft_parts.proofs.parts.is_released.Goals as goal
 
 pub returns : goal.returns
 returns c =
-    let a = c.args in
-    released-told a.human a.switched a.cities (nation_told a.n) a.count _ _ c.same.ensures (to_z-of_z {w = w32} c.ranges.cities)
+    released-told c.args.human c.args.switched c.args.cities (nation_told c.args.n) c.args.count _ _ c.same.ensures (to_z-of_z {w = w32} c.ranges.cities)

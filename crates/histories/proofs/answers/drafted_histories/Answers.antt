@@ -1,6 +1,6 @@
 -- Players and countries of an accepted record are few, so the tables have room.
 use mathlib.Core.Path.{◌≡◌, refl, ◌∙◌}
-use mathlib.Core.List.{map}
+use mathlib.Core.List.{[], map}
 use Prim.Native.Nat.{◌-◌, ◌*◌, ◌%◌, ◌≤◌}
 use native.Mathlib.Omega.{arith}
 use lib.Dec.{leb}
@@ -20,18 +20,6 @@ use Rattle.lists.proofs.WriteLaws.{from_first}
 use Rattle.histories.proofs.HistoryOutcomeLaws.{few-players, few-countries, outcome-told}
 use Rattle.histories.proofs.answers.drafted_histories.Goals as goal
 
--- The players' keys in order.
-sorted : (c : tie.After-sort-players)
-    → take (c.sort-players.result - 0) c.sort-players.new.1.1.1.0
-    ≡ sort_by leb (map player_key (players_left (begun c).args.s.now (begun c).args.rows.multiplayer (record { number = 0; strings = (begun c).args.rows.strings })))
-sorted c = from_first c.sort-players.result c.sort-players.new.1.1.1.0 _ c.sort-players.ensures.cells
-
--- The drafts of all histories.
-drafted : (c : tie.After-draft-rows)
-    → take (7 * c.draft-rows.result - 0) c.draft-rows.new.1.1.1.1.0
-    ≡ join_of history_row_words (map (λ k. draft_with (begun c.before.before.before.before.before).args.nations.now (take (c.before.before.before.before.before.sort-players.result - 0) c.before.before.before.before.before.sort-players.new.1.1.1.0) k (stored_word (begun c.before.before.before.before.before).args.nations.now k.tag % 4294967296)) (played_left (begun c.before.before.before.before.before).args.s.now (begun c.before.before.before.before.before).args.rows.countries))
-drafted c = from_first (7 * c.draft-rows.result) c.draft-rows.new.1.1.1.1.0 _ c.draft-rows.ensures.rows
-
 pub sort_players-players-requires : goal.sort_players-players-requires
 sort_players-players-requires c =
     record { few = few-players _ [] _ c.requires; room = refl }
@@ -43,21 +31,22 @@ slice_bounds-draft_rows-end c =
 
 pub draft_rows-n-requires : goal.draft_rows-n-requires
 draft_rows-n-requires c =
+    let sorted : take (c.sort_players-players.result - 0) c.sort_players-players.new.keys ≡ sort_by leb (map player_key (players_left c.args.s.now c.args.rows.multiplayer (record { number = 0; strings = c.args.rows.strings }))) = from_first c.sort_players-players.result c.sort_players-players.new.keys _ c.sort_players-players.ensures.cells in
     record {
-      few = few-countries _ [] _ c.pre;
-      ordered = rw (sorted c) (sort-again _);
+      few = few-countries _ [] _ c.requires;
+      ordered = rw sorted (sort-again _);
       short = simp length-take (omega (arith, c.sort_players-players.ensures.long));
       room = refl;
     }
 
 pub overflow_mul-n : goal.overflow_mul-n
 overflow_mul-n c =
-    let few : c.draft_rows-n.result ≤ 2000 = omega (arith, c.draft_rows-n.ensures.counted, keep-short (λ (k : Country). k.was_player) (countries_left c.args.s.now c.args.rows.countries), few-countries c.args.s.now [] c.args.rows c.pre) in
+    let few : c.draft_rows-n.result ≤ 2000 = omega (arith, c.draft_rows-n.ensures.counted, keep-short (λ (k : Country). k.was_player) (countries_left c.args.s.now c.args.rows.countries), few-countries c.args.s.now [] c.args.rows c.requires) in
     omega (arith, few)
 
 pub slice_bounds-arrange_drafts-end : goal.slice_bounds-arrange_drafts-end
 slice_bounds-arrange_drafts-end c =
-    let few : c.draft_rows-n.result ≤ 2000 = omega (arith, c.draft_rows-n.ensures.counted, keep-short (λ (k : Country). k.was_player) (countries_left c.args.s.now c.args.rows.countries), few-countries c.args.s.now [] c.args.rows c.pre) in
+    let few : c.draft_rows-n.result ≤ 2000 = omega (arith, c.draft_rows-n.ensures.counted, keep-short (λ (k : Country). k.was_player) (countries_left c.args.s.now c.args.rows.countries), few-countries c.args.s.now [] c.args.rows c.requires) in
     omega (arith, few, c.draft_rows-n.ensures.long)
 
 pub slice_bounds-arrange_drafts-end-2 : goal.slice_bounds-arrange_drafts-end-2
@@ -67,6 +56,8 @@ slice_bounds-arrange_drafts-end-2 c =
 
 pub returns : goal.returns
 returns c =
+    let drafted : take (7 * c.draft_rows-n.result - 0) c.draft_rows-n.new.out ≡ join_of history_row_words (map (λ k. draft_with c.args.nations.now (take (c.sort_players-players.result - 0) c.sort_players-players.new.keys) k (stored_word c.args.nations.now k.tag % 4294967296)) (played_left c.args.s.now c.args.rows.countries)) = from_first (7 * c.draft_rows-n.result) c.draft_rows-n.new.out _ c.draft_rows-n.ensures.rows in
+    let sorted : take (c.sort_players-players.result - 0) c.sort_players-players.new.keys ≡ sort_by leb (map player_key (players_left c.args.s.now c.args.rows.multiplayer (record { number = 0; strings = c.args.rows.strings }))) = from_first c.sort_players-players.result c.sort_players-players.new.keys _ c.sort_players-players.ensures.cells in
     λ es shaped numbered.
     c.arrange_drafts.ensures
-    ∙ outcome-told c.args.s.now c.args.nations.now c.args.rows c.pre _ _ (sorted c) (drafted c) es shaped numbered _
+    ∙ outcome-told c.args.s.now c.args.nations.now c.args.rows c.requires _ _ sorted drafted es shaped numbered _

@@ -1,5 +1,5 @@
 use mathlib.Core.Path.{◌≡◌, refl, ap}
-use mathlib.Core.List.{List, ◌∷◌, ◌++◌, map}
+use mathlib.Core.List.{List, [], ◌∷◌, ◌++◌, map}
 use native.Mathlib.Omega.{arith}
 use lib.ListN.{length, length-map}
 use Rattle.lists.specs.Lists.{join_of}
@@ -7,73 +7,83 @@ use Rattle.lists.proofs.FillLaws.{filling-new, filling-count, filling-written}
 use Rattle.format.proofs.CampaignLaws.{told-row, told-end}
 use Rattle.format.specs.Campaign.{Country}
 use Rattle.record.specs.Cursors.{country_of}
-use Rattle.rules.specs.HistoryRows.{history_row_words}
+use Rattle.rules.specs.HistoryRows.{HistoryRow, history_row_words}
 use Rattle.histories.specs.Tables.{tags_left}
 use Rattle.histories.specs.Drafts.{played_left, played_told, draft_for}
 use Rattle.history_rows.proofs.PutLaws.{length-rows, row_room, row_more}
 use Rattle.histories.proofs.drafts.fill_drafts.Goals as goal
-
--- The country that was told is the first of those left.
-more : (c : tie.After-row invariant-loop decreases-loop)
-    → played_left (begun c).args.s.now c.before.before.before.loop.at
-    ≡ country_of (begun c).args.s.now c.row.given.0.0 ∷ played_left (begun c).args.s.now c.row.given.0.1.0
-more c = told-row (played_told _) c.before.before.next-played.ensures c.row.given.1 refl
-
--- So is its draft.
-row : (c : tie.After-row invariant-loop decreases-loop)
-    → join_of history_row_words (map (draft_of-loop c) (played_left (begun c).args.s.now c.before.before.before.loop.at))
-    ≡ history_row_words (draft_of-loop c (country_of (begun c).args.s.now c.row.given.0.0)) ++ join_of history_row_words (map (draft_of-loop c) (played_left (begun c).args.s.now c.row.given.0.1.0))
-row c = ap (λ (ks : List Country). join_of history_row_words (map (draft_of-loop c) ks)) (more c)
 
 pub loop-row-init : goal.loop-row-init
 loop-row-init c =
     filling-new _ _ (omega (arith, length-rows (map (draft_for c.args.nations.now (tags_left c.args.s.now c.args.countries) c.args.cells.now c.args.keys.now) (played_left c.args.s.now c.args.countries)), length-map (played_left c.args.s.now c.args.countries) (draft_for c.args.nations.now (tags_left c.args.s.now c.args.countries) c.args.cells.now c.args.keys.now), c.requires.room))
 
 pub draft_for-draft-requires : goal.draft_for-draft-requires
-draft_for-draft-requires c = (c.pre.ordered, c.pre.short)
+draft_for-draft-requires c = (c.requires.ordered, c.requires.short)
 
 pub overflow_mul-n : goal.overflow_mul-n
 overflow_mul-n c =
-    omega (arith, row_room _ _ _ _ _ [] _ _ c.loop-row.invariant (row c), c.loop-row.invariant.long, c.requires.small)
+    let draft_of-loop : Country → HistoryRow = draft_for c.args.nations.now (tags_left c.args.s.now c.args.countries) c.args.cells.now c.args.keys.now in
+    let more : played_left c.args.s.now c.loop-row.at ≡ country_of c.args.s.now c.in-Row.row ∷ played_left c.args.s.now c.in-Row.rest = told-row (played_told _) c.next_played.ensures c.in-Row.is refl in
+    let row : join_of history_row_words (map draft_of-loop (played_left c.args.s.now c.loop-row.at)) ≡ history_row_words (draft_of-loop (country_of c.args.s.now c.in-Row.row)) ++ join_of history_row_words (map draft_of-loop (played_left c.args.s.now c.in-Row.rest)) = ap (λ (ks : List Country). join_of history_row_words (map draft_of-loop ks)) more in
+    omega (arith, row_room _ _ _ _ _ [] _ _ c.loop-row.invariant row, c.loop-row.invariant.long, c.requires.small)
 
 pub offset_bounds-out-n : goal.offset_bounds-out-n
 offset_bounds-out-n c =
-    omega (arith, row_room _ _ _ _ _ [] _ _ c.loop-row.invariant (row c), c.loop-row.invariant.long, c.requires.small)
+    let draft_of-loop : Country → HistoryRow = draft_for c.args.nations.now (tags_left c.args.s.now c.args.countries) c.args.cells.now c.args.keys.now in
+    let more : played_left c.args.s.now c.loop-row.at ≡ country_of c.args.s.now c.in-Row.row ∷ played_left c.args.s.now c.in-Row.rest = told-row (played_told _) c.next_played.ensures c.in-Row.is refl in
+    let row : join_of history_row_words (map draft_of-loop (played_left c.args.s.now c.loop-row.at)) ≡ history_row_words (draft_of-loop (country_of c.args.s.now c.in-Row.row)) ++ join_of history_row_words (map draft_of-loop (played_left c.args.s.now c.in-Row.rest)) = ap (λ (ks : List Country). join_of history_row_words (map draft_of-loop ks)) more in
+    omega (arith, row_room _ _ _ _ _ [] _ _ c.loop-row.invariant row, c.loop-row.invariant.long, c.requires.small)
 
 pub slice_bounds-put_history-count : goal.slice_bounds-put_history-count
 slice_bounds-put_history-count c =
-    omega (arith, row_room _ _ _ _ _ [] _ _ c.loop-row.invariant (row c))
+    let draft_of-loop : Country → HistoryRow = draft_for c.args.nations.now (tags_left c.args.s.now c.args.countries) c.args.cells.now c.args.keys.now in
+    let more : played_left c.args.s.now c.loop-row.at ≡ country_of c.args.s.now c.in-Row.row ∷ played_left c.args.s.now c.in-Row.rest = told-row (played_told _) c.next_played.ensures c.in-Row.is refl in
+    let row : join_of history_row_words (map draft_of-loop (played_left c.args.s.now c.loop-row.at)) ≡ history_row_words (draft_of-loop (country_of c.args.s.now c.in-Row.row)) ++ join_of history_row_words (map draft_of-loop (played_left c.args.s.now c.in-Row.rest)) = ap (λ (ks : List Country). join_of history_row_words (map draft_of-loop ks)) more in
+    omega (arith, row_room _ _ _ _ _ [] _ _ c.loop-row.invariant row)
 
 pub slice_bounds-put_history-start : goal.slice_bounds-put_history-start
 slice_bounds-put_history-start c =
-    omega (arith, row_room _ _ _ _ _ [] _ _ c.loop-row.invariant (row c))
+    let draft_of-loop : Country → HistoryRow = draft_for c.args.nations.now (tags_left c.args.s.now c.args.countries) c.args.cells.now c.args.keys.now in
+    let more : played_left c.args.s.now c.loop-row.at ≡ country_of c.args.s.now c.in-Row.row ∷ played_left c.args.s.now c.in-Row.rest = told-row (played_told _) c.next_played.ensures c.in-Row.is refl in
+    let row : join_of history_row_words (map draft_of-loop (played_left c.args.s.now c.loop-row.at)) ≡ history_row_words (draft_of-loop (country_of c.args.s.now c.in-Row.row)) ++ join_of history_row_words (map draft_of-loop (played_left c.args.s.now c.in-Row.rest)) = ap (λ (ks : List Country). join_of history_row_words (map draft_of-loop ks)) more in
+    omega (arith, row_room _ _ _ _ _ [] _ _ c.loop-row.invariant row)
 
 pub slice_bounds-put_history-end : goal.slice_bounds-put_history-end
 slice_bounds-put_history-end c =
-    omega (arith, row_room _ _ _ _ _ [] _ _ c.loop-row.invariant (row c))
+    let draft_of-loop : Country → HistoryRow = draft_for c.args.nations.now (tags_left c.args.s.now c.args.countries) c.args.cells.now c.args.keys.now in
+    let more : played_left c.args.s.now c.loop-row.at ≡ country_of c.args.s.now c.in-Row.row ∷ played_left c.args.s.now c.in-Row.rest = told-row (played_told _) c.next_played.ensures c.in-Row.is refl in
+    let row : join_of history_row_words (map draft_of-loop (played_left c.args.s.now c.loop-row.at)) ≡ history_row_words (draft_of-loop (country_of c.args.s.now c.in-Row.row)) ++ join_of history_row_words (map draft_of-loop (played_left c.args.s.now c.in-Row.rest)) = ap (λ (ks : List Country). join_of history_row_words (map draft_of-loop ks)) more in
+    omega (arith, row_room _ _ _ _ _ [] _ _ c.loop-row.invariant row)
 
 pub overflow_add-n : goal.overflow_add-n
 overflow_add-n c =
-    omega (arith, row_room _ _ _ _ _ [] _ _ c.loop-row.invariant (row c), c.loop-row.invariant.long, c.requires.small)
+    let draft_of-loop : Country → HistoryRow = draft_for c.args.nations.now (tags_left c.args.s.now c.args.countries) c.args.cells.now c.args.keys.now in
+    let more : played_left c.args.s.now c.loop-row.at ≡ country_of c.args.s.now c.in-Row.row ∷ played_left c.args.s.now c.in-Row.rest = told-row (played_told _) c.next_played.ensures c.in-Row.is refl in
+    let row : join_of history_row_words (map draft_of-loop (played_left c.args.s.now c.loop-row.at)) ≡ history_row_words (draft_of-loop (country_of c.args.s.now c.in-Row.row)) ++ join_of history_row_words (map draft_of-loop (played_left c.args.s.now c.in-Row.rest)) = ap (λ (ks : List Country). join_of history_row_words (map draft_of-loop ks)) more in
+    omega (arith, row_room _ _ _ _ _ [] _ _ c.loop-row.invariant row, c.loop-row.invariant.long, c.requires.small)
 
 pub loop-row-smaller : goal.loop-row-smaller
-loop-row-smaller c = omega (arith, ap length (more c))
+loop-row-smaller c =
+    let more : played_left c.args.s.now c.loop-row.at ≡ country_of c.args.s.now c.in-Row.row ∷ played_left c.args.s.now c.in-Row.rest = told-row (played_told _) c.next_played.ensures c.in-Row.is refl in
+    omega (arith, ap length more)
 
 pub loop-row-preserved : goal.loop-row-preserved
 loop-row-preserved c =
-    let d = c.draft_for-draft.ensures c.args.s.now (tags_left c.args.s.now c.args.countries) c.pre.few c.pre.indexed in
-    row_more _ _ _ _ _ c.put_history.new.out _ _ c.loop-row.invariant (row c) _ d c.put_history.ensures
+    let draft_of-loop : Country → HistoryRow = draft_for c.args.nations.now (tags_left c.args.s.now c.args.countries) c.args.cells.now c.args.keys.now in
+    let more : played_left c.args.s.now c.loop-row.at ≡ country_of c.args.s.now c.in-Row.row ∷ played_left c.args.s.now c.in-Row.rest = told-row (played_told _) c.next_played.ensures c.in-Row.is refl in
+    let row : join_of history_row_words (map draft_of-loop (played_left c.args.s.now c.loop-row.at)) ≡ history_row_words (draft_of-loop (country_of c.args.s.now c.in-Row.row)) ++ join_of history_row_words (map draft_of-loop (played_left c.args.s.now c.in-Row.rest)) = ap (λ (ks : List Country). join_of history_row_words (map draft_of-loop ks)) more in
+    let d = c.draft_for-draft.ensures c.args.s.now (tags_left c.args.s.now c.args.countries) c.requires.few c.requires.indexed in
+    row_more _ _ _ _ _ c.put_history.new.out _ _ c.loop-row.invariant row _ d c.put_history.ensures
 
 pub shape_of-out-in-End : goal.shape_of-out-in-End
 shape_of-out-in-End c = c.loop-row.invariant.long
 
 pub returns-in-End : goal.returns-in-End
 returns-in-End c =
-    let l = c.loop-row in
     let draft = draft_for c.args.nations.now (tags_left c.args.s.now c.args.countries) c.args.cells.now c.args.keys.now in
     let all = played_left c.args.s.now c.args.countries in
     let end = ap (λ (ks : List Country). join_of history_row_words (map draft ks)) (told-end (played_told _) c.next_played.ensures c.in-End.is refl) in
     record {
-      counted = omega (arith, filling-count _ _ _ _ _ l.invariant end, length-rows (map draft all), length-map all draft);
-      rows = filling-written _ _ _ _ _ l.invariant end;
+      counted = omega (arith, filling-count _ _ _ _ _ c.loop-row.invariant end, length-rows (map draft all), length-map all draft);
+      rows = filling-written _ _ _ _ _ c.loop-row.invariant end;
     }

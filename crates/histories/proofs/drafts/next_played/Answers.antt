@@ -9,25 +9,23 @@ use Rattle.record.specs.Cursors.{countries_left, country_of, country_told}
 use Rattle.arranging.proofs.KeptLaws.{kept_here, kept-past}
 use Rattle.histories.proofs.drafts.next_played.Goals as goal
 
--- The country that was told is the first of those left.
-more : (c : tie.After-row invariant-loop decreases-loop)
-    → countries_left (begun c).args.s.now c.before.before.before.loop.at
-    ≡ country_of (begun c).args.s.now c.row.given.0.0 ∷ countries_left (begun c).args.s.now c.row.given.0.1.0
-more c = told-row (country_told _) c.before.before.next.ensures c.row.given.1 refl
-
 pub loop-row-init : goal.loop-row-init
 loop-row-init c = refl
 
 pub returns-then-row : goal.returns-then-row
 returns-then-row c =
-    c.loop-row.invariant ∙ kept_here (λ (k : Country). k.was_player) _ _ (more c) c.if-row.true
+    let more : countries_left c.args.s.now c.loop-row.at ≡ country_of c.args.s.now c.in-Row.row ∷ countries_left c.args.s.now c.in-Row.rest = told-row (country_told _) c.next.ensures c.in-Row.is refl in
+    c.loop-row.invariant ∙ kept_here (λ (k : Country). k.was_player) _ _ more c.if-row.true
 
 pub loop-row-smaller : goal.loop-row-smaller
-loop-row-smaller c = omega (arith, ap length (more c))
+loop-row-smaller c =
+    let more : countries_left c.args.s.now c.loop-row.at ≡ country_of c.args.s.now c.in-Row.row ∷ countries_left c.args.s.now c.in-Row.rest = told-row (country_told _) c.next.ensures c.in-Row.is refl in
+    omega (arith, ap length more)
 
 pub loop-row-preserved : goal.loop-row-preserved
 loop-row-preserved c =
-    c.loop-row.invariant ∙ kept-past (λ (k : Country). k.was_player) _ _ (more c) c.if-row.false
+    let more : countries_left c.args.s.now c.loop-row.at ≡ country_of c.args.s.now c.in-Row.row ∷ countries_left c.args.s.now c.in-Row.rest = told-row (country_told _) c.next.ensures c.in-Row.is refl in
+    c.loop-row.invariant ∙ kept-past (λ (k : Country). k.was_player) _ _ more c.if-row.false
 
 pub returns-in-End : goal.returns-in-End
 returns-in-End c =

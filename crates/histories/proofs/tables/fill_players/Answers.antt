@@ -8,31 +8,28 @@ use Rattle.players.specs.PlayerSteps.{player_in, players_left, player_told}
 use Rattle.histories.specs.Tables.{player_key}
 use Rattle.histories.proofs.tables.fill_players.Goals as goal
 
--- The player that was told is the first of those left.
-more : (c : tie.After-player invariant-loop decreases-loop)
-    → players_left (begun c).args.s.now (begun c).args.multiplayer c.before.before.before.loop.at
-    ≡ player_in c.player.given.0.0 ∷ players_left (begun c).args.s.now (begun c).args.multiplayer c.player.given.0.1.0
-more c = told-row (player_told _ _) c.before.before.next-player.ensures c.player.given.1 refl
-
 pub loop-player-init : goal.loop-player-init
 loop-player-init c = filling-new _ _ (simp length-map c.requires)
 
 pub bounds-keys-n : goal.bounds-keys-n
 bounds-keys-n c =
-    filling-room _ _ _ _ _ c.loop-player.invariant _ _ (ap (map player_key) (more c))
+    let more : players_left c.args.s.now c.args.multiplayer c.loop-player.at ≡ player_in c.in-Row.player ∷ players_left c.args.s.now c.args.multiplayer c.in-Row.rest = told-row (player_told _ _) c.next_player.ensures c.in-Row.is refl in
+    filling-room _ _ _ _ _ c.loop-player.invariant _ _ (ap (map player_key) more)
 
 pub loop-player-smaller : goal.loop-player-smaller
-loop-player-smaller c = omega (arith, ap length (more c))
+loop-player-smaller c =
+    let more : players_left c.args.s.now c.args.multiplayer c.loop-player.at ≡ player_in c.in-Row.player ∷ players_left c.args.s.now c.args.multiplayer c.in-Row.rest = told-row (player_told _ _) c.next_player.ensures c.in-Row.is refl in
+    omega (arith, ap length more)
 
 pub loop-player-preserved : goal.loop-player-preserved
 loop-player-preserved c =
-    filling-put _ _ _ _ _ c.loop-player.invariant _ _ (ap (map player_key) (more c)) _ c.tag_key.ensures
+    let more : players_left c.args.s.now c.args.multiplayer c.loop-player.at ≡ player_in c.in-Row.player ∷ players_left c.args.s.now c.args.multiplayer c.in-Row.rest = told-row (player_told _ _) c.next_player.ensures c.in-Row.is refl in
+    filling-put _ _ _ _ _ c.loop-player.invariant _ _ (ap (map player_key) more) _ c.tag_key.ensures
 
 pub shape_of-keys-in-End : goal.shape_of-keys-in-End
 shape_of-keys-in-End c = c.loop-player.invariant.long
 
 pub returns-in-End : goal.returns-in-End
 returns-in-End c =
-    let l = c.loop-player in
     let end = ap (map player_key) (told-end (player_told _ _) c.next_player.ensures c.in-End.is refl) in
-    (filling-count _ _ _ _ _ l.invariant end ∙ simp length-map, filling-written _ _ _ _ _ l.invariant end)
+    (filling-count _ _ _ _ _ c.loop-player.invariant end ∙ simp length-map, filling-written _ _ _ _ _ c.loop-player.invariant end)

@@ -1,6 +1,6 @@
 -- Seven stores are the row before the cells behind it, if there are as many cells.
 use mathlib.Core.Path.{◌∙◌}
-use mathlib.Core.List.{◌∷◌}
+use mathlib.Core.List.{[], ◌∷◌}
 use Prim.Native.Nat.{◌≤◌}
 use native.Mathlib.Omega.{arith}
 use lib.ListN.{length, length-set}
@@ -33,7 +33,6 @@ bounds-out-6 c = simp length-set (omega arith)
 
 pub returns : goal.returns
 returns c =
-    let a = c.args in
-    let long : 7 ≤ length a.out.now = search rules in
-    sets-eq (_ ∷ _ ∷ _ ∷ _ ∷ _ ∷ _ ∷ _ ∷ []) a.out.now 0 (omega arith)
-    ∙ rw (c.word.ensures, c.word-2.ensures, c.word-3.ensures) (put_whole (history_told a.x) a.out.now long)
+    let long : 7 ≤ length c.args.out.now = search rules in
+    sets-eq (_ ∷ _ ∷ _ ∷ _ ∷ _ ∷ _ ∷ _ ∷ []) c.args.out.now 0 (omega arith)
+    ∙ rw (c.word.ensures, c.word-2.ensures, c.word-3.ensures) (put_whole (history_told c.args.x) c.args.out.now long)

@@ -12,21 +12,17 @@ loop-i-init c = (search rules, refl)
 
 pub returns-then-not-row_shaped : goal.returns-then-not-row_shaped
 returns-then-not-row_shaped c =
-    let a = c.args in
-    let l = c.loop-i in
-    all-stop (history_shaped a.nations) (history_rows_in a.histories.now) l.i (l.i + 1) _ (histories-next _ l.i (search rules)) l.invariant.1
-    (sym (ap (history_shaped a.nations) c.history_at.ensures) ∙ sym c.row_shaped.ensures ∙ not-true _ c.if-not-row_shaped.true-raw)
+    all-stop (history_shaped c.args.nations) (history_rows_in c.args.histories.now) c.loop-i.i (c.loop-i.i + 1) _ (histories-next _ c.loop-i.i (search rules)) c.loop-i.invariant.1
+    (sym (ap (history_shaped c.args.nations) c.history_at.ensures) ∙ sym c.row_shaped.ensures ∙ not-true _ c.if-not-row_shaped.true-raw)
 
 pub loop-i-preserved : goal.loop-i-preserved
 loop-i-preserved c =
-    let a = c.args in
-    let l = c.loop-i in (
+    (
       search rules,
-      all_pass (history_shaped a.nations) (history_rows_in a.histories.now) l.i (l.i + 1) _ (histories-next _ l.i (search rules)) l.invariant.1
-          (sym (ap (history_shaped a.nations) c.history_at.ensures) ∙ sym c.row_shaped.ensures ∙ not-false _ c.if-not-row_shaped.false-raw),
+      all_pass (history_shaped c.args.nations) (history_rows_in c.args.histories.now) c.loop-i.i (c.loop-i.i + 1) _ (histories-next _ c.loop-i.i (search rules)) c.loop-i.invariant.1
+          (sym (ap (history_shaped c.args.nations) c.history_at.ensures) ∙ sym c.row_shaped.ensures ∙ not-false _ c.if-not-row_shaped.false-raw),
     )
 
 pub returns : goal.returns
 returns c =
-    let a = c.args in
-    all_end (history_shaped a.nations) (history_rows_in a.histories.now) c.loop-i.i (search rules) c.loop-i.invariant.1
+    all_end (history_shaped c.args.nations) (history_rows_in c.args.histories.now) c.loop-i.i (search rules) c.loop-i.invariant.1

@@ -6,14 +6,6 @@ use Rattle.history_rows.proofs.LackLaws.{appeared_from, appeared-end, appeared-h
 use borrow.Author.Rules.{rules}
 use Rattle.history_rows.proofs.starting.has_appeared.Goals as goal
 
--- All entries of the nation whose row was read.
-whole : (c : tie.After-struct-known2 invariant-loop decreases-loop)
-    → appeared_from c.before.before.before.before.before.before.args.entries.now c.before.before.nation-at.result.first (c.before.before.nation-at.result.first + c.before.before.nation-at.result.count)
-    ≡ appeared_in c.before.before.before.before.before.before.args.nations.now c.before.before.before.before.before.before.args.entries.now c.before.before.before.before.before.before.args.nation
-whole c =
-    let row = c.before.before.nation-at in
-    nation-walk _ _ _ (search rules) _ _ (ap (λ (r : NationRow). r.first) row.ensures) (ap (λ (r : NationRow). r.count) row.ensures)
-
 pub returns-then-nation-eq0 : goal.returns-then-nation-eq0
 returns-then-nation-eq0 c = bare-history _ _ c.args.nation (search rules)
 
@@ -22,8 +14,9 @@ loop-at-init c = refl
 
 pub returns-then-is_appeared : goal.returns-then-is_appeared
 returns-then-is_appeared c =
+    let whole : appeared_from c.args.entries.now c.nation_at-row.result.first (c.nation_at-row.result.first + c.nation_at-row.result.count) ≡ appeared_in c.args.nations.now c.args.entries.now c.args.nation = nation-walk _ _ _ (search rules) _ _ (ap (λ (r : NationRow). r.first) c.nation_at-row.ensures) (ap (λ (r : NationRow). r.count) c.nation_at-row.ensures) in
     sym (appeared-here _ _ _ _ (search rules) c.entry_at-e.ensures (sym c.is_appeared.ensures ∙ c.if-is_appeared.true))
-    ∙ (c.loop-at.invariant ∙ whole c)
+    ∙ (c.loop-at.invariant ∙ whole)
 
 pub loop-at-preserved : goal.loop-at-preserved
 loop-at-preserved c =
@@ -31,5 +24,6 @@ loop-at-preserved c =
 
 pub returns : goal.returns
 returns c =
+    let whole : appeared_from c.args.entries.now c.nation_at-row.result.first (c.nation_at-row.result.first + c.nation_at-row.result.count) ≡ appeared_in c.args.nations.now c.args.entries.now c.args.nation = nation-walk _ _ _ (search rules) _ _ (ap (λ (r : NationRow). r.first) c.nation_at-row.ensures) (ap (λ (r : NationRow). r.count) c.nation_at-row.ensures) in
     let row = c.nation_at-row.result in
-    sym (appeared-end _ c.loop-at.at (row.first + row.count) (search rules)) ∙ (c.loop-at.invariant ∙ whole c)
+    sym (appeared-end _ c.loop-at.at (row.first + row.count) (search rules)) ∙ (c.loop-at.invariant ∙ whole)

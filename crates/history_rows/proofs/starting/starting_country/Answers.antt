@@ -7,11 +7,6 @@ use Rattle.rules.specs.HistoryRows.{histories_shaped}
 use Rattle.history_rows.proofs.LackLaws.{nations-many, chronicle-refused, histories-refused, starting-gives}
 use Rattle.history_rows.proofs.starting.starting_country.Goals as goal
 
--- What the test of the histories tells.
-tested : (c : tie.After-is-history-shaped)
-    → c.is-history-shaped.result ≡ histories_shaped (nations_in c.before.before.before.before.before.before.before.args.nations.now c.before.before.before.before.before.before.before.args.entries.now) c.before.before.before.before.before.before.before.args.histories.now
-tested c = c.is-history-shaped.ensures _ (c.before.nation-count.ensures ∙ sym (nations-many _ _ (shaped c.before.before)))
-
 pub returns-then-not-is_well_shaped : goal.returns-then-not-is_well_shaped
 returns-then-not-is_well_shaped c =
     chronicle-refused _ _ _ (sym c.is_well_shaped.ensures ∙ not-true _ c.if-not-is_well_shaped.true-raw)
@@ -19,9 +14,11 @@ returns-then-not-is_well_shaped c =
 pub returns-then-not-is_history_shaped : goal.returns-then-not-is_history_shaped
 returns-then-not-is_history_shaped c =
     let shaped : well_shaped c.args.nations.now c.args.entries.now ≡ true = sym c.is_well_shaped.ensures ∙ not-false _ c.if-not-is_well_shaped.false-raw in
-    histories-refused _ _ _ shaped (sym (tested c) ∙ not-true _ c.if-not-is_history_shaped.true-raw)
+    let tested : c.is_history_shaped.result ≡ histories_shaped (nations_in c.args.nations.now c.args.entries.now) c.args.histories.now = c.is_history_shaped.ensures _ (c.nation_count.ensures ∙ sym (nations-many _ _ shaped)) in
+    histories-refused _ _ _ shaped (sym tested ∙ not-true _ c.if-not-is_history_shaped.true-raw)
 
 pub returns : goal.returns
 returns c =
     let shaped : well_shaped c.args.nations.now c.args.entries.now ≡ true = sym c.is_well_shaped.ensures ∙ not-false _ c.if-not-is_well_shaped.false-raw in
-    c.starting_in.ensures ∙ starting-gives _ _ _ shaped (sym (tested c) ∙ not-false _ c.if-not-is_history_shaped.false-raw)
+    let tested : c.is_history_shaped.result ≡ histories_shaped (nations_in c.args.nations.now c.args.entries.now) c.args.histories.now = c.is_history_shaped.ensures _ (c.nation_count.ensures ∙ sym (nations-many _ _ shaped)) in
+    c.starting_in.ensures ∙ starting-gives _ _ _ shaped (sym tested ∙ not-false _ c.if-not-is_history_shaped.false-raw)

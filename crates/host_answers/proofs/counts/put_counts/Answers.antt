@@ -1,6 +1,6 @@
 -- Five stores are the counts before the cells behind them.
 use mathlib.Core.Path.{sym, ◌∙◌}
-use mathlib.Core.List.{◌∷◌}
+use mathlib.Core.List.{[], ◌∷◌}
 use Prim.Native.Nat.{◌≤◌}
 use native.Mathlib.Omega.{arith}
 use borrow.Author.Tests.{leb-true, leb-false, not-true, not-false}
@@ -42,6 +42,5 @@ bounds-out-4 c =
 pub returns : goal.returns
 returns c =
     let room : 5 ≤ length c.args.out.now = leb-true 5 _ (sym c.has_counts.ensures ∙ not-false _ c.if-not-has_counts.false-raw) in
-    let a = c.args in
     let long = room in
-    sets-eq (_ ∷ _ ∷ _ ∷ _ ∷ _ ∷ []) a.out.now 0 (omega (arith, long)) ∙ counts-long a.counts a.out.now long
+    sets-eq (_ ∷ _ ∷ _ ∷ _ ∷ _ ∷ []) c.args.out.now 0 (omega (arith, long)) ∙ counts-long c.args.counts c.args.out.now long

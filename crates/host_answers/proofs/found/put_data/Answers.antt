@@ -9,7 +9,7 @@ use Rattle.host_answers.proofs.found.put_data.Goals as goal
 
 pub returns-in-Found : goal.returns-in-Found
 returns-in-Found c =
-    rw (to_z-of_z {w = w64} (record { sfits = c.put_two.type-inv }))
+    rw (to_z-of_z {w = w64} (record { sfits = c.put_two.type_inv }))
     (found_some data_words _ _ _ _ _ (ap resolved_answer c.in-Found.is) (rw (c.word.ensures, c.word-in-Found.ensures) at c.put_two.ensures))
 
 pub returns-in-Nothing : goal.returns-in-Nothing
@@ -17,4 +17,4 @@ returns-in-Nothing c = found_none data_words _ _ (ap resolved_answer c.in-Nothin
 
 pub returns-in-Refused : goal.returns-in-Refused
 returns-in-Refused c =
-    found-refused data_words _ _ _ _ (ap resolved_answer c.in-Refused.is) (to_z-of_z {w = w64} (record { sfits = c.minus.type-inv }) ∙ c.minus.ensures)
+    found-refused data_words _ _ _ _ (ap resolved_answer c.in-Refused.is) (to_z-of_z {w = w64} (record { sfits = c.minus.type_inv }) ∙ c.minus.ensures)

@@ -13,7 +13,7 @@ pub returns-then-out-lt1 : goal.returns-then-out-lt1
 returns-then-out-lt1 c =
     let tag = c.in-Found.tag in
     found_some starting_words _ _ tag _ _ (ap starting_answer c.in-Found.is)
-    (words-short (starting_words tag) _ _ c.if-out-lt1.true (to_z-of_z {w = w64} (record { sfits = c.minus.type-inv }) ∙ c.minus.ensures))
+    (words-short (starting_words tag) _ _ c.if-out-lt1.true (to_z-of_z {w = w64} (record { sfits = c.minus.type_inv }) ∙ c.minus.ensures))
 
 pub returns-else-out-lt1 : goal.returns-else-out-lt1
 returns-else-out-lt1 c =
@@ -27,4 +27,4 @@ returns-in-Nothing c = found_none starting_words _ _ (ap starting_answer c.in-No
 
 pub returns-in-Refused : goal.returns-in-Refused
 returns-in-Refused c =
-    found-refused starting_words _ _ _ _ (ap starting_answer c.in-Refused.is) (to_z-of_z {w = w64} (record { sfits = c.minus-in-Refused.type-inv }) ∙ c.minus-in-Refused.ensures)
+    found-refused starting_words _ _ _ _ (ap starting_answer c.in-Refused.is) (to_z-of_z {w = w64} (record { sfits = c.minus-in-Refused.type_inv }) ∙ c.minus-in-Refused.ensures)

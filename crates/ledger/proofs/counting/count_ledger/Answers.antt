@@ -4,14 +4,6 @@ use Rattle.ledger.specs.Ledgers.{row_ledger, ledger_left}
 use Rattle.ledger.proofs.LedgerLaws.{count-start, count-end, count-full, walk-all, walk-fewer, walk_end, span-counted}
 use Rattle.ledger.proofs.counting.count_ledger.Goals as goal
 
--- All points are left there.
-all : (c : tie.After-begin invariant-loop decreases-loop)
-    → ledger_left (begun c).args.s.now (begun c).args.entries.now (begun c).args.frame.current c.begin.result
-    ≡ row_ledger (begun c).args.s.now (begun c).args.entries.now (begun c).args.nation
-all c =
-    let start = begun c in
-    walk-all start.args.s.now start.args.entries.now start.args.frame start.args.nation c.begin.result start.pre.0 c.begin.ensures
-
 pub loop-n-init : goal.loop-n-init
 loop-n-init c = count-start _ _
 
@@ -35,8 +27,11 @@ loop-n-smaller c =
 
 pub returns-in-End : goal.returns-in-End
 returns-in-End c =
-    count-end c.loop-n.invariant _ (all c)
+    let all : ledger_left c.args.s.now c.args.entries.now c.args.frame.current c.begin-walk.result ≡ row_ledger c.args.s.now c.args.entries.now c.args.nation = walk-all c.args.s.now c.args.entries.now c.args.frame c.args.nation c.begin-walk.result c.requires.0 c.begin-walk.ensures in
+    count-end c.loop-n.invariant _ all
     (walk_end c.args.s.now c.args.entries.now c.args.frame.current c.loop-n.walk c.next.ensures c.in-End.is)
 
 pub returns : goal.returns
-returns c = count-full c.loop-n.invariant _ (all c) (omega (arith, c.loop-n-test.false))
+returns c =
+    let all : ledger_left c.args.s.now c.args.entries.now c.args.frame.current c.begin-walk.result ≡ row_ledger c.args.s.now c.args.entries.now c.args.nation = walk-all c.args.s.now c.args.entries.now c.args.frame c.args.nation c.begin-walk.result c.requires.0 c.begin-walk.ensures in
+    count-full c.loop-n.invariant _ all (omega (arith, c.loop-n-test.false))

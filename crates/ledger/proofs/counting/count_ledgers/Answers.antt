@@ -5,8 +5,7 @@ use Rattle.ledger.proofs.counting.count_ledgers.Goals as goal
 
 pub loop-i-init : goal.loop-i-init
 loop-i-init c =
-    let a = c.args in
-    (omega arith, nations-start a.s.now a.nations.now a.entries.now c.nation_count-end.result a.most)
+    (omega arith, nations-start c.args.s.now c.args.nations.now c.args.entries.now c.nation_count-end.result c.args.most)
 
 pub overflow_sub-most : goal.overflow_sub-most
 overflow_sub-most c = c.loop-i.invariant.1.few
@@ -30,7 +29,5 @@ loop-i-smaller c = omega (arith, c.loop-i-test.true)
 
 pub returns : goal.returns
 returns c =
-    let a = c.args in
-    let end = c.nation_count-end in
-    count-end c.loop-i.invariant.1 _ (nations-all a.s.now a.nations.now a.entries.now end.ensures)
-    (nations-none a.s.now a.nations.now a.entries.now c.loop-i.i end.result (omega (arith, c.loop-i-test.false)))
+    count-end c.loop-i.invariant.1 _ (nations-all c.args.s.now c.args.nations.now c.args.entries.now c.nation_count-end.ensures)
+    (nations-none c.args.s.now c.args.nations.now c.args.entries.now c.loop-i.i c.nation_count-end.result (omega (arith, c.loop-i-test.false)))

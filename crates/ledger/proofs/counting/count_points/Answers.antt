@@ -13,11 +13,9 @@ points_of-requires c = c.requires
 
 pub returns-in-Found : goal.returns-in-Found
 returns-in-Found c =
-    let a = c.args in
     c.count_span.ensures
-    ∙ ap (λ (ps : List LedgerPoint). min (length ps) a.most) (points-found a.s.now a.span c.points_of.ensures _ c.in-Found.is)
+    ∙ ap (λ (ps : List LedgerPoint). min (length ps) c.args.most) (points-found c.args.s.now c.args.span c.points_of.ensures _ c.in-Found.is)
 
 pub returns-in-Nothing : goal.returns-in-Nothing
 returns-in-Nothing c =
-    let a = c.args in
-    omega (arith, ap length (points_none a.s.now a.span c.points_of.ensures c.in-Nothing.is))
+    omega (arith, ap length (points_none c.args.s.now c.args.span c.points_of.ensures c.in-Nothing.is))

@@ -9,21 +9,21 @@ pub loop-row-init : goal.loop-row-init
 loop-row-init c = naming-start _ _ _ _ c.requires.at_first_ledger c.requires.keys_len.0 c.requires.keys_len.1
 
 pub offset_bounds-keys-n : goal.offset_bounds-keys-n
-offset_bounds-keys-n c = let l = c.loop-row in omega (arith, l.invariant.few)
+offset_bounds-keys-n c = omega (arith, c.loop-row.invariant.few)
 
 pub bounds-keys-n : goal.bounds-keys-n
 bounds-keys-n c =
     (naming-room c.loop-row.invariant (told-row (ledger_told _) c.next.ensures c.in-Row.is refl)).0
 
 pub overflow_mul-places : goal.overflow_mul-places
-overflow_mul-places c = let l = c.loop-row in omega (arith, l.invariant.few-points)
+overflow_mul-places c = omega (arith, c.loop-row.invariant.few_points)
 
 pub overflow_add-places : goal.overflow_add-places
 overflow_add-places c =
     omega (arith, naming-points c.loop-row.invariant (told-row (ledger_told _) c.next.ensures c.in-Row.is refl) _ c.len-count.ensures)
 
 pub offset_bounds-places-n : goal.offset_bounds-places-n
-offset_bounds-places-n c = let l = c.loop-row in omega (arith, l.invariant.few)
+offset_bounds-places-n c = omega (arith, c.loop-row.invariant.few)
 
 pub bounds-places-n : goal.bounds-places-n
 bounds-places-n c =
@@ -34,7 +34,7 @@ overflow_add-first c =
     omega (arith, naming-points c.loop-row.invariant (told-row (ledger_told _) c.next.ensures c.in-Row.is refl) _ c.len-count.ensures)
 
 pub overflow_add-n : goal.overflow_add-n
-overflow_add-n c = let l = c.loop-row in omega (arith, l.invariant.few)
+overflow_add-n c = omega (arith, c.loop-row.invariant.few)
 
 pub loop-row-smaller : goal.loop-row-smaller
 loop-row-smaller c =

@@ -4,8 +4,7 @@ use Rattle.ledger.proofs.ledgers.asked_ledgers.Goals as goal
 
 pub returns-then-not-is_well_shaped : goal.returns-then-not-is_well_shaped
 returns-then-not-is_well_shaped c =
-    let a = c.args in
-    ledgers-torn a.s.now a.nations.now a.entries.now a.out.now a.counts.now c.pre.first.accepted _ c.is_well_shaped.ensures c.if-not-is_well_shaped.true-raw
+    ledgers-torn c.args.s.now c.args.nations.now c.args.entries.now c.args.out.now c.args.counts.now c.requires.first.accepted _ c.is_well_shaped.ensures c.if-not-is_well_shaped.true-raw
 
 pub ledgers_of-requires : goal.ledgers_of-requires
 ledgers_of-requires c = c.requires
@@ -18,6 +17,5 @@ shape_of-counts c = c.ledgers_of.auto.counts
 
 pub returns : goal.returns
 returns c =
-    let a = c.args in
-    ledgers-asked a.s.now a.nations.now a.entries.now a.out.now a.counts.now c.pre.first.accepted _ c.is_well_shaped.ensures c.if-not-is_well_shaped.false-raw
+    ledgers-asked c.args.s.now c.args.nations.now c.args.entries.now c.args.out.now c.args.counts.now c.requires.first.accepted _ c.is_well_shaped.ensures c.if-not-is_well_shaped.false-raw
     c.ledgers_of.ensures

@@ -6,21 +6,18 @@ use Rattle.ledger.proofs.ledgers.counted_ledgers.Goals as goal
 
 pub returns-then-counts-nation_count : goal.returns-then-counts-nation_count
 returns-then-counts-nation_count c =
-    let a = c.args in
-    counts-short a.s.now a.nations.now a.entries.now a.out.now a.counts.now _ c.nation_count.ensures c.if-counts-nation_count.true
+    counts-short c.args.s.now c.args.nations.now c.args.entries.now c.args.out.now c.args.counts.now _ c.nation_count.ensures c.if-counts-nation_count.true
 
 pub count_ledgers-n-requires : goal.count_ledgers-n-requires
 count_ledgers-n-requires c = c.requires
 
 pub returns-then-room-n : goal.returns-then-room-n
 returns-then-room-n c =
-    let a = c.args in
-    rows_short a.s.now a.nations.now a.entries.now a.out.now a.counts.now _ c.count_ledgers-n.ensures c.if-room-n.true
+    rows_short c.args.s.now c.args.nations.now c.args.entries.now c.args.out.now c.args.counts.now _ c.count_ledgers-n.ensures c.if-room-n.true
 
 pub write_ledgers-requires : goal.write_ledgers-requires
-write_ledgers-requires c =
-    let a = c.args in record { framed = c.requires; entries_in_bounds = (
-        (room-few (row_ledgers a.s.now a.nations.now a.entries.now) a.out.now _ c.count_ledgers-n.ensures c.if-room-n.false).1,
+write_ledgers-requires c = record { framed = c.requires; entries_in_bounds = (
+        (room-few (row_ledgers c.args.s.now c.args.nations.now c.args.entries.now) c.args.out.now _ c.count_ledgers-n.ensures c.if-room-n.false).1,
         omega (arith, c.nation_count.ensures, c.if-counts-nation_count.false),
       ) }
 
@@ -32,6 +29,5 @@ shape_of-counts c = c.write_ledgers.auto.counts
 
 pub returns : goal.returns
 returns c =
-    let a = c.args in
-    ledgers-given a.s.now a.nations.now a.entries.now a.out.now a.counts.now _ c.count_ledgers-n.ensures c.if-room-n.false
+    ledgers-given c.args.s.now c.args.nations.now c.args.entries.now c.args.out.now c.args.counts.now _ c.count_ledgers-n.ensures c.if-room-n.false
     (omega (arith, c.nation_count.ensures, c.if-counts-nation_count.false)) _ _ c.write_ledgers.ensures

@@ -9,8 +9,7 @@ count_ledger-n-requires c = c.requires
 
 pub returns-then-room-n : goal.returns-then-room-n
 returns-then-room-n c =
-    let a = c.args in
-    room-short (row_ledger a.s.now a.entries.now a.row) a.out.now _ c.count_ledger-n.ensures c.if-room-n.true
+    room-short (row_ledger c.args.s.now c.args.entries.now c.args.row) c.args.out.now _ c.count_ledger-n.ensures c.if-room-n.true
 
 pub write_ledger-requires : goal.write_ledger-requires
 write_ledger-requires c = c.requires
@@ -20,7 +19,6 @@ shape_of-out c = c.write_ledger.auto.out
 
 pub returns : goal.returns
 returns c =
-    let a = c.args in
-    let ps = row_ledger a.s.now a.entries.now a.row in
-    let few = room-few ps a.out.now _ c.count_ledger-n.ensures c.if-room-n.false in
-    room-rows ps a.out.now _ c.count_ledger-n.ensures c.if-room-n.false _ (fills-whole ps _ _ _ c.write_ledger.ensures few.1).1
+    let ps = row_ledger c.args.s.now c.args.entries.now c.args.row in
+    let few = room-few ps c.args.out.now _ c.count_ledger-n.ensures c.if-room-n.false in
+    room-rows ps c.args.out.now _ c.count_ledger-n.ensures c.if-room-n.false _ (fills-whole ps _ _ _ c.write_ledger.ensures few.1).1

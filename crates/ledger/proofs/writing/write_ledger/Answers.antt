@@ -5,14 +5,6 @@ use Rattle.span_points.proofs.FillsLaws.{fills-start}
 use Rattle.ledger.proofs.LedgerLaws.{rows_inside, rows-filled, walk-all, walk-fewer, walk_end, span-passed}
 use Rattle.ledger.proofs.writing.write_ledger.Goals as goal
 
--- All points are left there.
-all : (c : tie.After-begin invariant-loop decreases-loop)
-    → ledger_left (begun c).args.s.now (begun c).args.entries.now (begun c).args.frame.current c.begin.result
-    ≡ row_ledger (begun c).args.s.now (begun c).args.entries.now (begun c).args.nation
-all c =
-    let start = begun c in
-    walk-all start.args.s.now start.args.entries.now start.args.frame start.args.nation c.begin.result start.pre.0 c.begin.ensures
-
 pub loop-span-init : goal.loop-span-init
 loop-span-init c = fills-start _ _ _ refl
 
@@ -29,7 +21,7 @@ pub slice_bounds-write_points-start : goal.slice_bounds-write_points-start
 slice_bounds-write_points-start c = rows_inside c.loop-span.invariant
 
 pub write_points-n-requires : goal.write_points-n-requires
-write_points-n-requires c = c.pre.1
+write_points-n-requires c = c.requires.1
 
 pub loop-span-smaller : goal.loop-span-smaller
 loop-span-smaller c =
@@ -49,5 +41,6 @@ shape_of-out-in-End c = c.loop-span.invariant.filling.long
 
 pub returns-in-End : goal.returns-in-End
 returns-in-End c =
-    rows-filled c.loop-span.invariant _ (all c)
+    let all : ledger_left c.args.s.now c.args.entries.now c.args.frame.current c.begin-walk.result ≡ row_ledger c.args.s.now c.args.entries.now c.args.nation = walk-all c.args.s.now c.args.entries.now c.args.frame c.args.nation c.begin-walk.result c.requires.0 c.begin-walk.ensures in
+    rows-filled c.loop-span.invariant _ all
     (walk_end c.args.s.now c.args.entries.now c.args.frame.current c.loop-span.walk c.next.ensures c.in-End.is)

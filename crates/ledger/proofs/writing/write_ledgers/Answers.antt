@@ -5,16 +5,15 @@ use Rattle.ledger.proofs.writing.write_ledgers.Goals as goal
 
 pub loop-i-init : goal.loop-i-init
 loop-i-init c =
-    let a = c.args in
-    ledgers-start a.s.now a.nations.now a.entries.now c.nation_count-end.result a.out.now a.counts.now c.nation_count-end.ensures c.requires.entries_in_bounds.0 c.requires.entries_in_bounds.1
+    ledgers-start c.args.s.now c.args.nations.now c.args.entries.now c.nation_count-end.result c.args.out.now c.args.counts.now c.nation_count-end.ensures c.requires.entries_in_bounds.0 c.requires.entries_in_bounds.1
 
 pub overflow_mul-k : goal.overflow_mul-k
 overflow_mul-k c =
-    omega (arith, rows_inside c.loop-i.invariant.rows, c.loop-i.invariant.rows.filling.long, c.well-formed.1.1.1.1.1.1.0)
+    omega (arith, rows_inside c.loop-i.invariant.rows, c.loop-i.invariant.rows.filling.long, c.well_formed.1.1.1.1.1.1.0)
 
 pub offset_bounds-out-k : goal.offset_bounds-out-k
 offset_bounds-out-k c =
-    omega (arith, rows_inside c.loop-i.invariant.rows, c.loop-i.invariant.rows.filling.long, c.well-formed.1.1.1.1.1.1.0)
+    omega (arith, rows_inside c.loop-i.invariant.rows, c.loop-i.invariant.rows.filling.long, c.well_formed.1.1.1.1.1.1.0)
 
 pub slice_bounds-write_ledger-count : goal.slice_bounds-write_ledger-count
 slice_bounds-write_ledger-count c = rows_inside c.loop-i.invariant.rows
@@ -23,7 +22,7 @@ pub slice_bounds-write_ledger-start : goal.slice_bounds-write_ledger-start
 slice_bounds-write_ledger-start c = rows_inside c.loop-i.invariant.rows
 
 pub write_ledger-n-requires : goal.write_ledger-n-requires
-write_ledger-n-requires c = c.pre.0
+write_ledger-n-requires c = c.requires.framed
 
 pub loop-i-preserved : goal.loop-i-preserved
 loop-i-preserved c =
@@ -31,7 +30,7 @@ loop-i-preserved c =
 
 pub offset_bounds-counts-i : goal.offset_bounds-counts-i
 offset_bounds-counts-i c =
-    omega (arith, counts-room _ _ _ _ _ _ c.loop-i.invariant c.loop-i-test.true, c.loop-i.invariant.counted.long, c.well-formed.1.1.1.1.1.1.1.0)
+    omega (arith, counts-room _ _ _ _ _ _ c.loop-i.invariant c.loop-i-test.true, c.loop-i.invariant.counted.long, c.well_formed.1.1.1.1.1.1.1.0)
 
 pub bounds-counts-i : goal.bounds-counts-i
 bounds-counts-i c =
@@ -39,7 +38,7 @@ bounds-counts-i c =
 
 pub overflow_add-passed : goal.overflow_add-passed
 overflow_add-passed c =
-    omega (arith, (loop-again c).rows.few, c.well-formed.1.1.1.1.1.1.0)
+    omega (arith, (loop-again c).rows.few, c.well_formed.1.1.1.1.1.1.0)
 
 pub loop-i-smaller : goal.loop-i-smaller
 loop-i-smaller c = omega (arith, c.loop-i-test.true)

@@ -10,10 +10,8 @@ shape_of-out c = c.write_span.auto.out
 
 pub returns-in-Found : goal.returns-in-Found
 returns-in-Found c =
-    let a = c.args in
-    fills_same _ _ _ _ _ c.write_span.ensures (points-found a.s.now a.span c.points_of.ensures _ c.in-Found.is)
+    fills_same _ _ _ _ _ c.write_span.ensures (points-found c.args.s.now c.args.span c.points_of.ensures _ c.in-Found.is)
 
 pub returns-in-Nothing : goal.returns-in-Nothing
 returns-in-Nothing c =
-    let a = c.args in
-    fills-none _ _ (points_none a.s.now a.span c.points_of.ensures c.in-Nothing.is)
+    fills-none _ _ (points_none c.args.s.now c.args.span c.points_of.ensures c.in-Nothing.is)

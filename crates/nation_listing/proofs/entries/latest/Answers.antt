@@ -5,10 +5,8 @@ use Rattle.nation_listing.proofs.entries.latest.Goals as goal
 
 pub returns-then-n-eq0 : goal.returns-then-n-eq0
 returns-then-n-eq0 c =
-    let a = c.args in
-    latest-none a.targets.now a.run.now a.initial (omega arith)
+    latest-none c.args.targets.now c.args.run.now c.args.initial (omega arith)
 
 pub returns : goal.returns
 returns c =
-    let a = c.args in
-    latest-some a.targets.now a.run.now a.initial _ (omega arith) c.switch_target.ensures
+    latest-some c.args.targets.now c.args.run.now c.args.initial _ (omega arith) c.switch_target.ensures

@@ -9,10 +9,8 @@ returns-then-run-i c = rw (drop_of_length-le c.args.run.now {i = c.args.i} c.if-
 
 pub returns-in-Life : goal.returns-in-Life
 returns-in-Life c =
-    let a = c.args in
-    rw (drop-cons a.run.now a.i 0 (omega arith), c.in-Life.is, c.not_after.ensures, c.switch_date.ensures)
+    rw (drop-cons c.args.run.now c.args.i 0 (omega arith), c.in-Life.is, c.not_after.ensures, c.switch_date.ensures)
 
 pub returns-in-End : goal.returns-in-End
 returns-in-End c =
-    let a = c.args in
-    rw (drop-cons a.run.now a.i 0 (omega arith), c.in-End.is)
+    rw (drop-cons c.args.run.now c.args.i 0 (omega arith), c.in-End.is)

@@ -35,13 +35,11 @@ loop-key-init c = merging-none _ _ _ _ _ _ _ _ _ c.next-life.ensures c.requires.
 
 pub overflow_mul-at : goal.overflow_mul-at
 overflow_mul-at c =
-    let g = c.well-formed in
     let l = c.loop-key.invariant.cells.fits in
     search rules
 
 pub offset_bounds-run-i : goal.offset_bounds-run-i
 offset_bounds-run-i c =
-    let g = c.good in
     let l = inside c in
     search rules
 
@@ -55,13 +53,11 @@ put_entry-requires c =
 
 pub overflow_add-i : goal.overflow_add-i
 overflow_add-i c =
-    let g = c.good in
     let l = inside c in
     search rules
 
 pub overflow_add-k : goal.overflow_add-k
 overflow_add-k c =
-    let g = c.good in
     let l = room c in
     let n = c.loop-key.invariant.cells.long in
     search rules
@@ -72,16 +68,11 @@ loop-key-smaller-then-switch_first c =
 
 pub loop-key-preserved-then-switch_first : goal.loop-key-preserved-then-switch_first
 loop-key-preserved-then-switch_first c =
-    let l = c.loop-key in
-    let a = c.args in
-    let row = entry_row_words (entry_row (switch_in a.targets.now (get_or a.run.now l.i 0))) in
+    let row = entry_row_words (entry_row (switch_in c.args.targets.now (get_or c.args.run.now c.loop-key.i 0))) in
     let wrote =
-    behind l.out row c.put_entry.new.out (entry_width * l.k) (room c)
+    behind c.loop-key.out row c.put_entry.new.out (entry_width * c.loop-key.k) (room c)
     (rw (c.switch_date.ensures, c.switch_target.ensures) at c.put_entry.ensures) in
-    switch-more _ _ _ _ _ _ _ _ _ _ _ _ l.invariant (sym c.switch_first.ensures ∙ c.if-switch_first.true) _ wrote
-
-pub enum_known-life : goal.enum_known-life
-enum_known-life c = c.in-Life.keys1
+    switch-more _ _ _ _ _ _ _ _ _ _ _ _ c.loop-key.invariant (sym c.switch_first.ensures ∙ c.if-switch_first.true) _ wrote
 
 pub put_entry-requires-in-Life : goal.put_entry-requires-in-Life
 put_entry-requires-in-Life c =
@@ -91,11 +82,10 @@ put_entry-requires-in-Life c =
 pub next-life-requires-in-Life : goal.next-life-requires-in-Life
 next-life-requires-in-Life c =
     let none = sym c.switch_first.ensures ∙ c.if-switch_first.false in
-    (c.pre.0, life-light _ _ _ _ _ _ _ _ _ _ _ _ c.loop-key.invariant none _ _ _ c.in-Life.is)
+    (c.requires.chained, life-light _ _ _ _ _ _ _ _ _ _ _ _ c.loop-key.invariant none _ _ _ c.in-Life.is)
 
 pub overflow_add-k-in-Life : goal.overflow_add-k-in-Life
 overflow_add-k-in-Life c =
-    let g = c.good in
     let l = told-room c in
     let n = c.loop-key.invariant.cells.long in
     search rules
@@ -107,16 +97,12 @@ loop-key-smaller c =
 
 pub loop-key-preserved : goal.loop-key-preserved
 loop-key-preserved c =
-    let l = c.loop-key in
     let none = sym c.switch_first.ensures ∙ c.if-switch_first.false in
     let row = entry_row_words (entry_row (life_entry c.in-Life.date c.in-Life.falls)) in
     let wrote =
-    behind l.out row c.put_entry-in-Life.new.out (entry_width * l.k) (told-room c)
+    behind c.loop-key.out row c.put_entry-in-Life.new.out (entry_width * c.loop-key.k) (told-room c)
     (rw c.life_kind.ensures at c.put_entry-in-Life.ensures) in
-    life-more _ _ _ _ _ _ _ _ _ _ _ _ l.invariant none _ _ _ c.in-Life.is _ c.next-life-in-Life.ensures _ wrote
-
-pub enum_told-1 : goal.enum_told-1
-enum_told-1 c = c.in-End.keys2
+    life-more _ _ _ _ _ _ _ _ _ _ _ _ c.loop-key.invariant none _ _ _ c.in-Life.is _ c.next-life-in-Life.ensures _ wrote
 
 pub shape_of-out-in-End : goal.shape_of-out-in-End
 shape_of-out-in-End c = c.loop-key.invariant.cells.long

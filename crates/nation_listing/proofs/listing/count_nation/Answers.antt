@@ -24,8 +24,7 @@ count-lived-requires c =
 
 pub overflow_sub-result : goal.overflow_sub-result
 overflow_sub-result c =
-    let a = c.args in
-    rw (c.run_start-from.ensures, c.run_start-end.ensures) (run-rises (row_in (get_or a.initial-keys.now a.i 0)) a.runs.now)
+    rw (c.run_start-from.ensures, c.run_start-end.ensures) (run-rises (row_in (get_or c.args.initial_keys.now c.args.i 0)) c.args.runs.now)
 
 pub overflow_add-result : goal.overflow_add-result
 overflow_add-result c =

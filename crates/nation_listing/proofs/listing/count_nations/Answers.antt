@@ -10,18 +10,15 @@ count_nation-one-requires c = (c.requires, c.loop-i-test.true)
 
 pub overflow_add-nations : goal.overflow_add-nations
 overflow_add-nations c =
-    let l = c.loop-i in
-    omega (arith, nations-counting-few _ _ _ _ l.invariant c.pre c.loop-i-test.true _ c.count_nation-one.ensures)
+    omega (arith, nations-counting-few _ _ _ _ c.loop-i.invariant c.requires c.loop-i-test.true _ c.count_nation-one.ensures)
 
 pub overflow_add-entries : goal.overflow_add-entries
 overflow_add-entries c =
-    let l = c.loop-i in
-    omega (arith, nations-counting-short _ _ _ _ l.invariant c.pre c.loop-i-test.true _ c.count_nation-one.ensures)
+    omega (arith, nations-counting-short _ _ _ _ c.loop-i.invariant c.requires c.loop-i-test.true _ c.count_nation-one.ensures)
 
 pub loop-i-preserved : goal.loop-i-preserved
 loop-i-preserved c =
-    let l = c.loop-i in
-    nations-counting-more _ _ _ _ l.invariant c.pre c.loop-i-test.true _ c.count_nation-one.ensures
+    nations-counting-more _ _ _ _ c.loop-i.invariant c.requires c.loop-i-test.true _ c.count_nation-one.ensures
 
 pub returns : goal.returns
 returns c = nations-counting-done _ _ _ _ c.loop-i.invariant c.loop-i-test.false

@@ -1,5 +1,6 @@
 -- The invariant: the nations and entries of the keys passed are counted, and with those of the keys left they are all. The measure is the number
 -- of keys left.
+use mathlib.Core.List.{[]}
 use Prim.Native.Nat.{◌-◌}
 use lib.ListN.{length}
 use Rattle.nation_tables.specs.Gathering.{cells_from}

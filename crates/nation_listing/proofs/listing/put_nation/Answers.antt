@@ -2,7 +2,7 @@
 use lib.Seq.{sets-eq}
 use native.Mathlib.Omega.{arith}
 use lib.ListN.{length-set}
-use mathlib.Core.List.{◌∷◌}
+use mathlib.Core.List.{[], ◌∷◌}
 use Rattle.nation_listing.proofs.listing.put_nation.Goals as goal
 
 pub bounds-out-1 : goal.bounds-out-1

@@ -30,7 +30,7 @@ first_lives-walk-requires c =
 
 pub is_listed-requires : goal.is_listed-requires
 is_listed-requires c =
-    (c.pre.0.initials, key-narrow _ c.pre.0 _ c.pre.1.0.0)
+    (c.requires.readable.initials, key-narrow _ c.requires.readable _ c.requires.i_in_bounds.0)
 
 pub run_start-from-requires : goal.run_start-from-requires
 run_start-from-requires c = (c.requires.readable.runs, omega arith)
@@ -40,11 +40,11 @@ run_start-end-requires c = (c.requires.readable.runs, omega arith)
 
 pub overflow_cast-key : goal.overflow_cast-key
 overflow_cast-key c =
-    omega (arith, key-narrow _ c.pre.0 _ c.pre.1.0.0)
+    omega (arith, key-narrow _ c.requires.readable _ c.requires.i_in_bounds.0)
 
 pub offset_bounds-runs-from : goal.offset_bounds-runs-from
 offset_bounds-runs-from c =
-    omega (arith, from_end c, end-inside c, c.well-formed)
+    omega (arith, from_end c, end-inside c, c.well_formed)
 
 pub slice_bounds-run-count : goal.slice_bounds-run-count
 slice_bounds-run-count c = from_end c
@@ -59,27 +59,27 @@ pub write_entries-count-requires : goal.write_entries-count-requires
 write_entries-count-requires c =
     let listed = sym c.is_listed.ensures ∙ c.if-is_listed.true in
     let room =
-    room-entries _ c.pre.0 _ c.pre.1.0.0 _ c.first_lives-walk.ensures listed
+    room-entries _ c.requires.readable _ c.requires.i_in_bounds.0 _ c.first_lives-walk.ensures listed
     _ _ c.run_start-from.ensures c.run_start-end.ensures
-    _ _ c.pre.1.1 in
-    (c.pre.0.chained, (key-light _ c.pre.0 _ c.pre.1.0.0 _ c.first_lives-walk.ensures, room))
+    _ _ c.requires.nations_room in
+    (c.requires.readable.chained, (key-light _ c.requires.readable _ c.requires.i_in_bounds.0 _ c.first_lives-walk.ensures, room))
 
 pub bounds-tag_words-row : goal.bounds-tag_words-row
 bounds-tag_words-row c =
-    key-tagged _ c.pre.0 _ c.pre.1.0.0
+    key-tagged _ c.requires.readable _ c.requires.i_in_bounds.0
 
 pub put_nation-requires : goal.put_nation-requires
 put_nation-requires c =
     let listed = sym c.is_listed.ensures ∙ c.if-is_listed.true in
     let count =
-    count-narrow _ c.pre.0 _ c.pre.1.0.0 _ c.first_lives-walk.ensures listed
+    count-narrow _ c.requires.readable _ c.requires.i_in_bounds.0 _ c.first_lives-walk.ensures listed
     _ _ c.run_start-from.ensures c.run_start-end.ensures
     _ _ _ c.write_entries-count.ensures in
     let room =
-    room_row _ c.pre.0 _ c.pre.1.0.0 _ c.first_lives-walk.ensures listed
+    room_row _ c.requires.readable _ c.requires.i_in_bounds.0 _ c.first_lives-walk.ensures listed
     _ _ c.run_start-from.ensures c.run_start-end.ensures
-    _ _ c.pre.1.1 in
-    (room, c.pre.1.0.1, omega (arith, count))
+    _ _ c.requires.nations_room in
+    (room, c.requires.i_in_bounds.1, omega (arith, count))
 
 pub shape_of-nations-then-is_listed : goal.shape_of-nations-then-is_listed
 shape_of-nations-then-is_listed c = c.put_nation.auto.out
@@ -90,10 +90,10 @@ shape_of-entries-then-is_listed c = c.write_entries-count.auto.out
 pub returns-then-is_listed : goal.returns-then-is_listed
 returns-then-is_listed c =
     let listed = sym c.is_listed.ensures ∙ c.if-is_listed.true in
-    put-listed _ c.pre.0 _ c.pre.1.0.0 _ c.first_lives-walk.ensures listed
+    put-listed _ c.requires.readable _ c.requires.i_in_bounds.0 _ c.first_lives-walk.ensures listed
     _ _ c.run_start-from.ensures c.run_start-end.ensures
     _ _ _ c.write_entries-count.ensures _ _ _ _ _ _ c.kept-initial.ensures c.latest-latest.ensures c.kept-stored.ensures c.put_nation.ensures
 
 pub returns : goal.returns
 returns c =
-    put-silent _ c.pre.0 _ c.pre.1.0.0 _ c.first_lives-walk.ensures (sym c.is_listed.ensures ∙ c.if-is_listed.false) _ _ _
+    put-silent _ c.requires.readable _ c.requires.i_in_bounds.0 _ c.first_lives-walk.ensures (sym c.is_listed.ensures ∙ c.if-is_listed.false) _ _ _

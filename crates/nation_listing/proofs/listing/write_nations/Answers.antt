@@ -12,84 +12,81 @@ loop-i-init c = listing_none _ _ _ c.requires.nations_room
 
 pub overflow_mul-at : goal.overflow_mul-at
 overflow_mul-at c =
-    omega (arith, c.well-formed.1.1.1.1.1.1.1.1.1.0.0, c.loop-i.invariant.nations.fits, c.loop-i.invariant.nations.long)
+    omega (arith, c.well_formed.1.1.1.1.1.1.1.1.1.0.0, c.loop-i.invariant.nations.fits, c.loop-i.invariant.nations.long)
 
 pub overflow_mul-behind : goal.overflow_mul-behind
 overflow_mul-behind c =
-    omega (arith, c.well-formed.1.1.1.1.1.1.1.1.1.1.0.0, c.loop-i.invariant.lives.fits, c.loop-i.invariant.lives.long)
+    omega (arith, c.well_formed.1.1.1.1.1.1.1.1.1.1.0.0, c.loop-i.invariant.lives.fits, c.loop-i.invariant.lives.long)
 
 pub offset_bounds-nations-at : goal.offset_bounds-nations-at
 offset_bounds-nations-at c =
-    let g = c.well-formed in
     let l = c.loop-i.invariant.nations.fits in
     let k = c.loop-i.invariant.nations.long in
     search rules
 
 pub slice_bounds-write_nation-count : goal.slice_bounds-write_nation-count
 slice_bounds-write_nation-count c =
-    omega (arith, c.well-formed.1.1.1.1.1.1.1.1.1.0.0, c.loop-i.invariant.nations.fits, c.loop-i.invariant.nations.long)
+    omega (arith, c.well_formed.1.1.1.1.1.1.1.1.1.0.0, c.loop-i.invariant.nations.fits, c.loop-i.invariant.nations.long)
 
 pub slice_bounds-write_nation-start : goal.slice_bounds-write_nation-start
 slice_bounds-write_nation-start c =
-    omega (arith, c.well-formed.1.1.1.1.1.1.1.1.1.0.0, c.loop-i.invariant.nations.fits, c.loop-i.invariant.nations.long)
+    omega (arith, c.well_formed.1.1.1.1.1.1.1.1.1.0.0, c.loop-i.invariant.nations.fits, c.loop-i.invariant.nations.long)
 
 pub slice_bounds-write_nation-end : goal.slice_bounds-write_nation-end
 slice_bounds-write_nation-end c =
-    omega (arith, c.well-formed.1.1.1.1.1.1.1.1.1.0.0, c.loop-i.invariant.nations.fits, c.loop-i.invariant.nations.long)
+    omega (arith, c.well_formed.1.1.1.1.1.1.1.1.1.0.0, c.loop-i.invariant.nations.fits, c.loop-i.invariant.nations.long)
 
 pub offset_bounds-entries-behind : goal.offset_bounds-entries-behind
 offset_bounds-entries-behind c =
-    omega (arith, c.well-formed.1.1.1.1.1.1.1.1.1.1.0.0, c.loop-i.invariant.lives.fits, c.loop-i.invariant.lives.long)
+    omega (arith, c.well_formed.1.1.1.1.1.1.1.1.1.1.0.0, c.loop-i.invariant.lives.fits, c.loop-i.invariant.lives.long)
 
 pub slice_bounds-write_nation-count-in-loop-i : goal.slice_bounds-write_nation-count-in-loop-i
 slice_bounds-write_nation-count-in-loop-i c =
-    omega (arith, c.well-formed.1.1.1.1.1.1.1.1.1.1.0.0, c.loop-i.invariant.lives.fits, c.loop-i.invariant.lives.long)
+    omega (arith, c.well_formed.1.1.1.1.1.1.1.1.1.1.0.0, c.loop-i.invariant.lives.fits, c.loop-i.invariant.lives.long)
 
 pub slice_bounds-write_nation-start-in-loop-i : goal.slice_bounds-write_nation-start-in-loop-i
 slice_bounds-write_nation-start-in-loop-i c =
-    omega (arith, c.well-formed.1.1.1.1.1.1.1.1.1.1.0.0, c.loop-i.invariant.lives.fits, c.loop-i.invariant.lives.long)
+    omega (arith, c.well_formed.1.1.1.1.1.1.1.1.1.1.0.0, c.loop-i.invariant.lives.fits, c.loop-i.invariant.lives.long)
 
 pub slice_bounds-write_nation-end-in-loop-i : goal.slice_bounds-write_nation-end-in-loop-i
 slice_bounds-write_nation-end-in-loop-i c =
-    omega (arith, c.well-formed.1.1.1.1.1.1.1.1.1.1.0.0, c.loop-i.invariant.lives.fits, c.loop-i.invariant.lives.long)
+    omega (arith, c.well_formed.1.1.1.1.1.1.1.1.1.1.0.0, c.loop-i.invariant.lives.fits, c.loop-i.invariant.lives.long)
 
 pub write_nation-put-requires : goal.write_nation-put-requires
 write_nation-put-requires c =
-    let readable = c.pre.0 in
+    let readable = c.requires.readable in
     let h = c.loop-i-test.true in
-    let l = c.loop-i in (
+    (
       readable,
       (
-        (h, omega (arith, l.invariant.short, readable.few)),
-        listing-room _ _ _ _ _ _ _ _ l.invariant h,
+        (h, omega (arith, c.loop-i.invariant.short, readable.few)),
+        listing-room _ _ _ _ _ _ _ _ c.loop-i.invariant h,
       ),
     )
 
 pub overflow_add-n : goal.overflow_add-n
 overflow_add-n c =
-    let long = c.well-formed.1.1.1.1.1.1.1.1.1.0.0 in
+    let long = c.well_formed.1.1.1.1.1.1.1.1.1.0.0 in
     let inside = nations-inside _ _ _ _ _ _ _ _ c.loop-i.invariant c.loop-i-test.true _ c.write_nation-put.ensures.listed in
     omega (arith, long, inside, c.loop-i.invariant.nations.long)
 
 pub overflow_add-first : goal.overflow_add-first
 overflow_add-first c =
-    let long = c.well-formed.1.1.1.1.1.1.1.1.1.1.0.0 in
+    let long = c.well_formed.1.1.1.1.1.1.1.1.1.1.0.0 in
     let inside = entries-inside _ _ _ _ _ _ _ _ c.loop-i.invariant c.loop-i-test.true _ c.write_nation-put.ensures.listed in
     omega (arith, long, inside, c.loop-i.invariant.lives.long)
 
 pub overflow_add-i : goal.overflow_add-i
 overflow_add-i c =
-    omega (arith, c.loop-i-test.true, c.pre.0.few)
+    omega (arith, c.loop-i-test.true, c.requires.readable.few)
 
 pub loop-i-preserved : goal.loop-i-preserved
 loop-i-preserved c =
-    let put = c.write_nation-put in
-    let l = c.loop-i in
     let h = c.loop-i-test.true in
-    let after = put.new.1.1.1.1.1.1.1.1.1.1.1 in
-    let rows = behind l.nations _ after.0 (nation_width * l.n) (rows_fit _ _ _ _ _ _ _ _ l.invariant h) put.ensures.rows in
-    let told = behind l.entries _ after.1.0 (entry_width * l.first) (entries_fit _ _ _ _ _ _ _ _ l.invariant h) put.ensures.entries in
-    listing-more _ _ _ _ _ _ _ _ l.invariant h c.pre.0 _ put.ensures.listed _ _ rows told
+    let after = c.write_nation-put.new.1.1.1.1.1.1.1.1.1.1.1 in
+    let rows = behind c.loop-i.nations _ after.0 (nation_width * c.loop-i.n) (rows_fit _ _ _ _ _ _ _ _ c.loop-i.invariant h) c.write_nation-put.ensures.rows in
+    let told = behind c.loop-i.entries _ after.1.0 (entry_width * c.loop-i.first) (entries_fit _ _ _ _ _ _ _ _ c.loop-i.invariant h) c.write_nation-put.ensures.entries in
+    listing-more _ _ _ _ _ _ _ _ c.loop-i.invariant h c.requires.readable _ c.write_nation-put.ensures.listed _ _ rows told
 
 pub shape_of-nations : goal.shape_of-nations
 shape_of-nations c = c.loop-i.invariant.nations.long

@@ -7,7 +7,7 @@ pub loop-i-init : goal.loop-i-init
 loop-i-init c = refl
 
 pub loop-i-preserved : goal.loop-i-preserved
-loop-i-preserved c = let l = c.loop-i in each_more few_slots _ l.good l.i l.invariant c.loop-i-test.true
+loop-i-preserved c = each_more few_slots _ c.loop-i.good c.loop-i.i c.loop-i.invariant c.loop-i-test.true
 
 pub returns : goal.returns
-returns c = let l = c.loop-i in each-end few_slots _ l.good l.i l.invariant c.loop-i-test.false
+returns c = each-end few_slots _ c.loop-i.good c.loop-i.i c.loop-i.invariant c.loop-i-test.false

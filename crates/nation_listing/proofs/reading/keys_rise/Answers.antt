@@ -6,7 +6,7 @@ pub loop-i-init : goal.loop-i-init
 loop-i-init c = refl
 
 pub loop-i-preserved : goal.loop-i-preserved
-loop-i-preserved c = let l = c.loop-i in rise-more _ l.good l.last l.i l.invariant c.loop-i-test.true
+loop-i-preserved c = rise-more _ c.loop-i.good c.loop-i.last c.loop-i.i c.loop-i.invariant c.loop-i-test.true
 
 pub returns : goal.returns
-returns c = let l = c.loop-i in rise-end _ l.good l.last l.i l.invariant c.loop-i-test.false
+returns c = rise-end _ c.loop-i.good c.loop-i.last c.loop-i.i c.loop-i.invariant c.loop-i-test.false

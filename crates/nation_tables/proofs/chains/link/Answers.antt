@@ -6,16 +6,16 @@ use Rattle.nation_tables.proofs.slots.ChainLaws.{both-none, both-step, both-done
 use Rattle.nation_tables.proofs.chains.link.Goals as goal
 
 pub loop-k-init : goal.loop-k-init
-loop-k-init c = let p = c.requires in both-none _ _ p.0 p.1.0 p.1.1
+loop-k-init c = both-none _ _ c.requires.turns_len_bound c.requires.fresh.0 c.requires.fresh.1
 
 pub bounds-turns-k : goal.bounds-turns-k
-bounds-turns-k c = let l = c.loop-k in omega (arith, l.invariant.inside, l.invariant.long)
+bounds-turns-k c = omega (arith, c.loop-k.invariant.inside, c.loop-k.invariant.long)
 
 pub overflow_cast-turn : goal.overflow_cast-turn
 overflow_cast-turn c = omega (arith, c.slice_known-in-loop-k-1.given (c.loop-k.k - 1))
 
 pub bounds-turns-k-in-loop-k : goal.bounds-turns-k-in-loop-k
-bounds-turns-k-in-loop-k c = let l = c.loop-k in omega (arith, l.invariant.inside, l.invariant.long)
+bounds-turns-k-in-loop-k c = omega (arith, c.loop-k.invariant.inside, c.loop-k.invariant.long)
 
 pub loop-k-preserved : goal.loop-k-preserved
 loop-k-preserved c = both-step _ _ _ _ _ c.loop-k.invariant (search rules) _ _ _ _ c.push_loss-loss.ensures c.push_gain-gain.ensures
@@ -27,4 +27,4 @@ pub shape_of-firsts : goal.shape_of-firsts
 shape_of-firsts c = c.loop-k.invariant.rows
 
 pub returns : goal.returns
-returns c = let l = c.loop-k in let e : l.k ≡ 0 = omega arith in both-done _ _ _ _ _ l.invariant e
+returns c = let e : c.loop-k.k ≡ 0 = omega arith in both-done _ _ _ _ _ c.loop-k.invariant e

@@ -8,5 +8,4 @@ returns-then-firsts-row c = loss-outside _ _ _ c.if-firsts-row.true
 
 pub returns : goal.returns
 returns c =
-    let a = c.args in
-    loss-inside a.firsts.now a.row a.k c.if-firsts-row.false (omega (arith, c.slice_known-1.given a.row))
+    loss-inside c.args.firsts.now c.args.row c.args.k c.if-firsts-row.false (omega (arith, c.slice_known-1.given c.args.row))

@@ -15,13 +15,11 @@ loop-i-init c =
 
 pub loop-i-preserved : goal.loop-i-preserved
 loop-i-preserved c =
-    let l = c.loop-i in
-    (search rules, filling-put _ _ _ _ _ l.invariant.1 _ _ (keys-next c.args.words.now c.args.n l.i c.requires.1 c.loop-i-test.true) _ (rw c.kept.ensures at c.row_key.ensures))
+    (search rules, filling-put _ _ _ _ _ c.loop-i.invariant.1 _ _ (keys-next c.args.words.now c.args.n c.loop-i.i c.requires.1 c.loop-i-test.true) _ (rw c.kept.ensures at c.row_key.ensures))
 
 pub returns : goal.returns
 returns c =
-    let l = c.loop-i in
-    let none = keys-end c.args.words.now c.args.n l.i c.requires.1 c.loop-i-test.false in
+    let none = keys-end c.args.words.now c.args.n c.loop-i.i c.requires.1 c.loop-i-test.false in
     let count : c.args.n ≡ length (word_keys 0 (take c.args.n c.args.words.now)) =
-    omega (arith, filling-count _ _ _ _ _ l.invariant.1 none) in
-    sorted_front _ _ _ _ _ (filling-written _ _ _ _ _ l.invariant.1 none) count c.sort_keys.ensures.keys
+    omega (arith, filling-count _ _ _ _ _ c.loop-i.invariant.1 none) in
+    sorted_front _ _ _ _ _ (filling-written _ _ _ _ _ c.loop-i.invariant.1 none) count c.sort_keys.ensures.keys

@@ -5,10 +5,10 @@ use Rattle.nation_tables.proofs.slots.TableStepLaws.{runs-front, targets-front, 
 use Rattle.nation_tables.proofs.gathering.arrange.Goals as goal
 
 pub link-requires : goal.link-requires
-link-requires c = let p = c.requires in record { turns_len_bound = p.1; fresh = fresh-firsts c.args.firsts.now _ c.set_all.ensures }
+link-requires c = record { turns_len_bound = c.requires.turns_len_bound; fresh = fresh-firsts c.args.firsts.now _ c.set_all.ensures }
 
 pub run_keys-requires : goal.run_keys-requires
-run_keys-requires c = let p = c.requires in let asked = runs-asked _ _ _ p.0.1 p.0.0 in record { countries_len_bound = asked.0; countries_in_bounds = asked.1 }
+run_keys-requires c = let asked = runs-asked _ _ _ c.requires.keyed.1 c.requires.keyed.0 in record { countries_len_bound = asked.0; countries_in_bounds = asked.1 }
 
 pub fill_targets-requires : goal.fill_targets-requires
 fill_targets-requires c = targets-asked _ _ _ c.requires.keyed.1 _ c.run_keys.auto.scratch

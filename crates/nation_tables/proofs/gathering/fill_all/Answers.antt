@@ -13,31 +13,31 @@ pub fill_tables-sizes-requires : goal.fill_tables-sizes-requires
 fill_tables-sizes-requires c = tables-asked _ _ c.requires.begun _ _ _ _ _ _ _ _ _ c.requires.table_room
 
 pub slice_bounds-hold_slots-end : goal.slice_bounds-hold_slots-end
-slice_bounds-hold_slots-end c = countries-within _ _ c.pre.0 _ _ _ _ _ _ _ _ _ c.pre.1 _ _ _ c.fill_tables-sizes.ensures.countries c.fill_tables-sizes.auto.tag_words c.pre.1.words
+slice_bounds-hold_slots-end c = countries-within _ _ c.requires.begun _ _ _ _ _ _ _ _ _ c.requires.table_room _ _ _ c.fill_tables-sizes.ensures.countries c.fill_tables-sizes.auto.tag_words c.requires.table_room.words
 
 pub slice_bounds-hold_slots-end-2 : goal.slice_bounds-hold_slots-end-2
-slice_bounds-hold_slots-end-2 c = countries-within _ _ c.pre.0 _ _ _ _ _ _ _ _ _ c.pre.1 _ _ _ c.fill_tables-sizes.ensures.countries c.fill_tables-sizes.auto.initial_keys c.pre.1.initials
+slice_bounds-hold_slots-end-2 c = countries-within _ _ c.requires.begun _ _ _ _ _ _ _ _ _ c.requires.table_room _ _ _ c.fill_tables-sizes.ensures.countries c.fill_tables-sizes.auto.initial_keys c.requires.table_room.initials
 
 pub slice_bounds-hold_slots-end-3 : goal.slice_bounds-hold_slots-end-3
-slice_bounds-hold_slots-end-3 c = settling-within _ _ c.pre.0 _ _ _ _ _ _ _ _ _ c.pre.1 _ _ _ c.fill_tables-sizes.ensures.keyed c.fill_tables-sizes.auto.settling_keys c.pre.1.switches
+slice_bounds-hold_slots-end-3 c = settling-within _ _ c.requires.begun _ _ _ _ _ _ _ _ _ c.requires.table_room _ _ _ c.fill_tables-sizes.ensures.keyed c.fill_tables-sizes.auto.settling_keys c.requires.table_room.switches
 
 pub slice_bounds-hold_slots-end-4 : goal.slice_bounds-hold_slots-end-4
-slice_bounds-hold_slots-end-4 c = slots-within _ _ c.pre.0 _ _ _ _ _ _ _ _ _ c.pre.1 _ _ c.len-p.ensures c.pre.1.slots
+slice_bounds-hold_slots-end-4 c = slots-within _ _ c.requires.begun _ _ _ _ _ _ _ _ _ c.requires.table_room _ _ c.len-p.ensures c.requires.table_room.slots
 
 pub slice_bounds-hold_slots-end-5 : goal.slice_bounds-hold_slots-end-5
-slice_bounds-hold_slots-end-5 c = countries-within _ _ c.pre.0 _ _ _ _ _ _ _ _ _ c.pre.1 _ _ _ c.fill_tables-sizes.ensures.countries refl c.pre.1.started
+slice_bounds-hold_slots-end-5 c = countries-within _ _ c.requires.begun _ _ _ _ _ _ _ _ _ c.requires.table_room _ _ _ c.fill_tables-sizes.ensures.countries refl c.requires.table_room.started
 
 pub hold_slots-n-requires : goal.hold_slots-n-requires
-hold_slots-n-requires c = holding-asked _ _ c.pre.0 _ _ _ _ _ _ _ _ _ c.pre.1 _ _ _ _ _ c.fill_tables-sizes.ensures c.len-p.ensures _ c.fill_tables-sizes.auto.scratch
+hold_slots-n-requires c = holding-asked _ _ c.requires.begun _ _ _ _ _ _ _ _ _ c.requires.table_room _ _ _ _ _ c.fill_tables-sizes.ensures c.len-p.ensures _ c.fill_tables-sizes.auto.scratch
 
 pub slice_bounds-arrange-end : goal.slice_bounds-arrange-end
-slice_bounds-arrange-end c = changes-within _ _ c.pre.0 _ _ _ _ _ _ _ _ _ c.pre.1 _ _ _ _ _ c.fill_tables-sizes.ensures c.len-p.ensures _ _ _ _ _ c.hold_slots-n.ensures _ _ c.hold_slots-n.auto.turns c.pre.1.turns
+slice_bounds-arrange-end c = changes-within _ _ c.requires.begun _ _ _ _ _ _ _ _ _ c.requires.table_room _ _ _ _ _ c.fill_tables-sizes.ensures c.len-p.ensures _ _ _ _ _ c.hold_slots-n.ensures _ _ c.hold_slots-n.auto.turns c.requires.table_room.turns
 
 pub arrange-requires : goal.arrange-requires
-arrange-requires c = let asked = arrange-asked _ _ c.pre.0 _ _ _ _ _ _ _ _ _ c.pre.1 _ _ _ _ _ c.fill_tables-sizes.ensures c.len-p.ensures _ _ _ _ _ c.hold_slots-n.ensures _ (c.hold_slots-n.auto.cells ∙ c.fill_tables-sizes.auto.scratch) c.fill_tables-sizes.auto.settling_keys in record { keyed = asked.0; turns_len_bound = asked.1 }
+arrange-requires c = let asked = arrange-asked _ _ c.requires.begun _ _ _ _ _ _ _ _ _ c.requires.table_room _ _ _ _ _ c.fill_tables-sizes.ensures c.len-p.ensures _ _ _ _ _ c.hold_slots-n.ensures _ (c.hold_slots-n.auto.cells ∙ c.fill_tables-sizes.auto.scratch) c.fill_tables-sizes.auto.settling_keys in record { keyed = asked.0; turns_len_bound = asked.1 }
 
 pub overflow_sub-switches : goal.overflow_sub-switches
-overflow_sub-switches c = own-within _ _ c.pre.0 _ _ _ _ _ _ _ _ _ c.pre.1 _ _ _ _ _ c.fill_tables-sizes.ensures c.len-p.ensures
+overflow_sub-switches c = own-within _ _ c.requires.begun _ _ _ _ _ _ _ _ _ c.requires.table_room _ _ _ _ _ c.fill_tables-sizes.ensures c.len-p.ensures
 
 pub shape_of-tag_words : goal.shape_of-tag_words
 shape_of-tag_words c = c.fill_tables-sizes.auto.tag_words
@@ -67,4 +67,4 @@ pub shape_of-firsts : goal.shape_of-firsts
 shape_of-firsts c = c.arrange.auto.firsts
 
 pub returns : goal.returns
-returns c = gathered _ _ c.pre.0 _ _ _ _ _ _ _ _ _ c.pre.1 _ _ _ _ _ c.fill_tables-sizes.ensures c.len-p.ensures _ _ _ _ _ c.hold_slots-n.ensures _ _ _ _ c.arrange.ensures c.arrange.auto.firsts c.hold_slots-n.auto.turns c.arrange.auto.turns _ _ _
+returns c = gathered _ _ c.requires.begun _ _ _ _ _ _ _ _ _ c.requires.table_room _ _ _ _ _ c.fill_tables-sizes.ensures c.len-p.ensures _ _ _ _ _ c.hold_slots-n.ensures _ _ _ _ c.arrange.ensures c.arrange.auto.firsts c.hold_slots-n.auto.turns c.arrange.auto.turns _ _ _

@@ -23,12 +23,11 @@ slice_bounds-row_keys-end c = sym (c.country_words-c.auto.initials ∙ made most
 pub row_keys-requires : goal.row_keys-requires
 row_keys-requires c =
     let p = c.requires.tables_room in
-    let words = c.country_words-c in
-    let n = words.ensures.counted in
-    (omega (arith, n, p.few), omega (arith, n, p.few, words.auto.1.1.1.0, made most_countries), omega (arith, n, p.initials))
+    let n = c.country_words-c.ensures.counted in
+    (omega (arith, n, p.few), omega (arith, n, p.few, c.country_words-c.auto.initials, made most_countries), omega (arith, n, p.initials))
 
 pub settling_keys-m-requires : goal.settling_keys-m-requires
-settling_keys-m-requires c = let p = c.requires in (p.0, p.1.switches)
+settling_keys-m-requires c = (c.requires.keyed, c.requires.tables_room.switches)
 
 pub shape_of-tag_words : goal.shape_of-tag_words
 shape_of-tag_words c = c.country_words-c.auto.tags

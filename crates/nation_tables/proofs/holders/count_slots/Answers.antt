@@ -12,24 +12,20 @@ offset_bounds-counts-row c = omega (arith, c.shared_slice_known-in-loop-i-1.give
 pub overflow_add-counts : goal.overflow_add-counts
 overflow_add-counts c =
     let more = c.loop-i-test.true in
-    let l = c.loop-i in
-    omega (arith, slots-counting-few _ _ _ _ l.invariant more _ c.if-row-counts.true, c.pre, more)
+    omega (arith, slots-counting-few _ _ _ _ c.loop-i.invariant more _ c.if-row-counts.true, c.requires, more)
 
 pub loop-i-preserved : goal.loop-i-preserved
 loop-i-preserved c =
-    let l = c.loop-i in
     let more = c.loop-i-test.true in
     ⊎_elim
-    (λ w. rw w.2 (slots-counting-next _ _ l.counts l.i l.invariant more))
-    (λ w. rw w.1 (slots-counting-past _ _ l.counts l.i l.invariant more w.0.left))
+    (λ w. rw w.2 (slots-counting-next _ _ c.loop-i.counts c.loop-i.i c.loop-i.invariant more))
+    (λ w. rw w.1 (slots-counting-past _ _ c.loop-i.counts c.loop-i.i c.loop-i.invariant more w.0.left))
     c.if-row-counts.branch
 
 pub shape_of-counts : goal.shape_of-counts
 shape_of-counts c =
-    let l = c.loop-i in
-    omega (arith, slots-counting-long _ _ _ _ l.invariant, c.set_all.auto)
+    omega (arith, slots-counting-long _ _ _ _ c.loop-i.invariant, c.set_all.auto)
 
 pub returns : goal.returns
 returns c =
-    let l = c.loop-i in
-    slots-counting-done _ _ _ _ l.invariant c.args.counts.now c.set_all.ensures c.loop-i-test.false
+    slots-counting-done _ _ _ _ c.loop-i.invariant c.args.counts.now c.set_all.ensures c.loop-i-test.false

@@ -12,7 +12,7 @@ start_slots-requires c =
     let room = c.requires.holding_room in record { at_first_province = c.requires.at_first_province; tag_words_value = tables.settler.words; initial_keys_value = tables.initials; slots_len = (room.slots, room.started) }
 
 pub sort_steps-n-requires : goal.sort_steps-n-requires
-sort_steps-n-requires c = let p = c.requires in (p.0, (p.1.0.settler, (p.1.1.keys, p.1.1.cells)))
+sort_steps-n-requires c = (c.requires.at_first_province, (c.requires.tables.settler, (c.requires.holding_room.keys, c.requires.holding_room.cells)))
 
 pub slice_bounds-pass-end : goal.slice_bounds-pass-end
 slice_bounds-pass-end c =
@@ -52,4 +52,4 @@ shape_of-turns c = c.turns-1.given.1
 
 pub returns : goal.returns
 returns c =
-    held _ c.pre.0.accepted _ _ _ _ _ c.start_slots.ensures c.sort_steps-n.ensures _ _ _ c.pass.ensures
+    held _ c.requires.at_first_province.accepted _ _ _ _ _ c.start_slots.ensures c.sort_steps-n.ensures _ _ _ c.pass.ensures

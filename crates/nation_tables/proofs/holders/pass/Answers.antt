@@ -11,8 +11,7 @@ bounds-turns-k c =
 
 pub loop-k-preserved : goal.loop-k-preserved
 loop-k-preserved c =
-    let l = c.loop-k in
-    pass_step _ _ _ _ _ _ l.k l.invariant c.loop-k-test.true _ _ _ _ c.kept-id.ensures c.cell-cell.ensures c.replace-old.ensures
+    pass_step _ _ _ _ _ _ c.loop-k.k c.loop-k.invariant c.loop-k-test.true _ _ _ _ c.kept-id.ensures c.cell-cell.ensures c.replace-old.ensures
 
 pub shape_of-slots : goal.shape_of-slots
 shape_of-slots c = c.loop-k.invariant.long

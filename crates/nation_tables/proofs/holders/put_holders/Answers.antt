@@ -11,20 +11,15 @@ loop-i-init c = (omega arith, filling-new _ _ (omega (arith, length-map c.args.s
 
 pub bounds-out-i : goal.bounds-out-i
 bounds-out-i c =
-    let l = c.loop-i in
-    omega (arith, l.invariant.1.long, c.requires, c.loop-i-test.true)
+    omega (arith, c.loop-i.invariant.1.long, c.requires, c.loop-i-test.true)
 
 pub loop-i-preserved : goal.loop-i-preserved
 loop-i-preserved c =
-    let a = c.args in
-    let l = c.loop-i in
-    (omega arith, filling-put _ _ _ _ _ l.invariant.1 _ _ (map_next cell_word a.slots.now l.i c.loop-i-test.true) _ refl)
+    (omega arith, filling-put _ _ _ _ _ c.loop-i.invariant.1 _ _ (map_next cell_word c.args.slots.now c.loop-i.i c.loop-i-test.true) _ refl)
 
 pub shape_of-out : goal.shape_of-out
 shape_of-out c = c.loop-i.invariant.1.long
 
 pub returns : goal.returns
 returns c =
-    let a = c.args in
-    let l = c.loop-i in
-    filling-written _ _ _ _ _ l.invariant.1 (map-end cell_word a.slots.now l.i c.loop-i-test.false)
+    filling-written _ _ _ _ _ c.loop-i.invariant.1 (map-end cell_word c.args.slots.now c.loop-i.i c.loop-i-test.false)

@@ -10,20 +10,18 @@ use Rattle.nation_tables.proofs.holders.replace.Goals as goal
 
 pub returns-then-slots-slot : goal.returns-then-slots-slot
 returns-then-slots-slot c =
-    let a = c.args in
     let e = c.word-slot.ensures in
     let h = c.if-slots-slot.true in
     record {
-      old = sym (get_or-eq_default a.slots.now nobody_cell {n = a.id.0} (omega arith));
-      cells = sym (set_out a.slots.now a.id.0 a.cell (omega arith));
+      old = sym (get_or-eq_default c.args.slots.now nobody_cell {n = c.args.id.0} (omega arith));
+      cells = sym (set_out c.args.slots.now c.args.id.0 c.args.cell (omega arith));
     }
 
 pub returns : goal.returns
 returns c =
-    let a = c.args in
     let e = c.word-slot.ensures in
     let h = c.if-slots-slot.false in
     record {
-      old = at-any a.slots.now _ 0 nobody_cell h ∙ ap (λ (i : ℕ). get_or a.slots.now i nobody_cell) e;
-      cells = ap (λ (i : ℕ). set a.slots.now i a.cell) e;
+      old = at-any c.args.slots.now _ 0 nobody_cell h ∙ ap (λ (i : ℕ). get_or c.args.slots.now i nobody_cell) e;
+      cells = ap (λ (i : ℕ). set c.args.slots.now i c.args.cell) e;
     }

@@ -13,13 +13,11 @@ loop-i-init c =
 
 pub loop-i-preserved : goal.loop-i-preserved
 loop-i-preserved c =
-    let l = c.loop-i in
-    (omega (arith, l.invariant.1.long), filling-put _ _ _ _ _ l.invariant.1 _ _ (map_next (same c.args.x) _ l.i (omega (arith, l.invariant.1.long))) _ refl)
+    (omega (arith, c.loop-i.invariant.1.long), filling-put _ _ _ _ _ c.loop-i.invariant.1 _ _ (map_next (same c.args.x) _ c.loop-i.i (omega (arith, c.loop-i.invariant.1.long))) _ refl)
 
 pub returns : goal.returns
 returns c =
-    let l = c.loop-i in
     let before = c.args.cells.now in
     let put : ℕ → ℕ = same c.args.x in
-    let none = map-end put before l.i (omega (arith, l.invariant.1.long)) in
-    filling-whole _ _ _ _ _ l.invariant.1 none (omega (arith, length-map before put))
+    let none = map-end put before c.loop-i.i (omega (arith, c.loop-i.invariant.1.long)) in
+    filling-whole _ _ _ _ _ c.loop-i.invariant.1 none (omega (arith, length-map before put))

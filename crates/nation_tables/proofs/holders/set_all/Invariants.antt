@@ -6,7 +6,7 @@ use Rattle.lists.proofs.FillLaws.{Filling}
 use Rattle.nation_tables.proofs.holders.set_all.Given as goal
 
 -- What each cell becomes.
-abbrev same : ℕ → ℕ → ℕ
+abbrev pub same : ℕ → ℕ → ℕ
 same x y = x
 
 abbrev pub invariant-loop-i : goal.invariant-loop-i

@@ -9,8 +9,7 @@ use Rattle.nation_tables.proofs.slots.CellLaws.{front-is}
 use Rattle.nation_tables.proofs.holders.settle_changes.Goals as goal
 
 pub fill_holders-requires : goal.fill_holders-requires
-fill_holders-requires c =
-    let p = c.requires in record { at_first_province = p.0; s_len = simp length-take (omega (arith, p.1.0)); settler = p.1.1 }
+fill_holders-requires c = record { at_first_province = c.requires.at_first_province; s_len = simp length-take (omega (arith, c.requires.n_value)); settler = c.requires.settler }
 
 pub returns : goal.returns
 returns c =

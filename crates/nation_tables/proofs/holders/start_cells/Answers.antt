@@ -12,17 +12,15 @@ use Rattle.nation_tables.proofs.holders.start_cells.Goals as goal
 use Rattle.nation_tables.proofs.holders.start_cells.Invariants.{made}
 
 pub loop-i-init : goal.loop-i-init
-loop-i-init c = let a = c.args in (omega arith, filling-new _ _ (omega (arith, length-map a.slots.now (made a.tags.now))))
+loop-i-init c = (omega arith, filling-new _ _ (omega (arith, length-map c.args.slots.now (made c.args.tags.now))))
 
 pub loop-i-preserved : goal.loop-i-preserved
 loop-i-preserved c =
-    let l = c.loop-i in
-    let a = c.args in
-    let f = made a.tags.now in
+    let f = made c.args.tags.now in
     let h = c.loop-i-test.true in
-    let kept = filling-kept _ _ _ _ _ 0 l.invariant.1 in (
-      omega (arith, l.invariant.1.long),
-      filling-put _ _ _ _ _ l.invariant.1 _ _ (map_next f a.slots.now l.i (omega (arith, l.invariant.1.long, h))) _
+    let kept = filling-kept _ _ _ _ _ 0 c.loop-i.invariant.1 in (
+      omega (arith, c.loop-i.invariant.1.long),
+      filling-put _ _ _ _ _ c.loop-i.invariant.1 _ _ (map_next f c.args.slots.now c.loop-i.i (omega (arith, c.loop-i.invariant.1.long, h))) _
           ((rw c.kept.ensures at c.cell_of.ensures) ∙ ap f kept),
     )
 
@@ -31,8 +29,6 @@ shape_of-slots c = c.loop-i.invariant.1.long
 
 pub returns : goal.returns
 returns c =
-    let l = c.loop-i in
-    let a = c.args in
-    let f = made a.tags.now in
-    let none = map-end f a.slots.now l.i (omega (arith, l.invariant.1.long, c.loop-i-test.false)) in
-    filling-whole _ _ _ _ _ l.invariant.1 none (sym (length-map a.slots.now f)) ∙ sym (map-then (λ x. x % half) (row_cell a.tags.now) a.slots.now)
+    let f = made c.args.tags.now in
+    let none = map-end f c.args.slots.now c.loop-i.i (omega (arith, c.loop-i.invariant.1.long, c.loop-i-test.false)) in
+    filling-whole _ _ _ _ _ c.loop-i.invariant.1 none (sym (length-map c.args.slots.now f)) ∙ sym (map-then (λ x. x % half) (row_cell c.args.tags.now) c.args.slots.now)

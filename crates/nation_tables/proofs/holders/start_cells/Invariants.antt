@@ -8,7 +8,7 @@ use Rattle.nation_tables.specs.Holders.{row_cell}
 use Rattle.nation_tables.proofs.holders.start_cells.Given as goal
 
 -- What a row becomes.
-abbrev made : List ℕ → ℕ → ℕ
+abbrev pub made : List ℕ → ℕ → ℕ
 made tags r = row_cell tags (r % half)
 
 abbrev pub invariant-loop-i : goal.invariant-loop-i

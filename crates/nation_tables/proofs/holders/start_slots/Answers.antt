@@ -14,10 +14,9 @@ start_rows-requires c =
 
 pub count_slots-requires : goal.count_slots-requires
 count_slots-requires c =
-    omega (arith, provinces-few _ c.pre.0.accepted, c.pre.1.1.1.0, c.start_rows.auto.rows, c.start_cells.auto.slots)
+    omega (arith, provinces-few _ c.requires.at_first_province.accepted, c.requires.slots_len.0, c.start_rows.auto.rows, c.start_cells.auto.slots)
 
 pub returns : goal.returns
 returns c =
-    let p = c.pre in
-    began _ p.0.accepted _ _ _ p.0.rows p.1.0 p.1.1.0 c.args.slots.now _ _ _ _ p.1.1.1.0 p.1.1.1.1
+    began _ c.requires.at_first_province.accepted _ _ _ c.requires.at_first_province.rows c.requires.tag_words_value c.requires.initial_keys_value c.args.slots.now _ _ _ _ c.requires.slots_len.0 c.requires.slots_len.1
     c.start_rows.ensures c.start_cells.ensures c.count_slots.ensures

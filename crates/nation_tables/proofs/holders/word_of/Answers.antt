@@ -9,5 +9,4 @@ returns-then-i-tags c = at-any c.args.tags.now _ _ _ c.if-i-tags.true
 
 pub returns-else-i-tags : goal.returns-else-i-tags
 returns-else-i-tags c =
-    let a = c.args in
-    c.word.ensures ∙ sym (get_or-eq_default a.tags.now a.other.0 c.if-i-tags.false)
+    c.word.ensures ∙ sym (get_or-eq_default c.args.tags.now c.args.other.0 c.if-i-tags.false)

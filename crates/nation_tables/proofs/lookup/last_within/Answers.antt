@@ -17,7 +17,7 @@ returns-then-keys-n c = λ first. absurd (omega (arith, c.if-keys-n.true, first.
 pub returns-then-i-eq0 : goal.returns-then-i-eq0
 returns-then-i-eq0 c =
     let counted : FirstSorted c.args.n c.args.keys.now → c.count_below-i.result ≡ count_of (λ k. ltb k (c.args.high / 2 * 2)) (take (c.args.n - 0) c.args.keys.now) = λ first. c.count_below-i.ensures.counted (rw sub-zero first.sorted) in
-    λ first. let g = c.args in no_last g.low (g.high / 2 * 2) g.keys.now g.n first _ (counted first) (search rules)
+    λ first. no_last c.args.low (c.args.high / 2 * 2) c.args.keys.now c.args.n first _ (counted first) (search rules)
 
 pub offset_bounds-keys-i : goal.offset_bounds-keys-i
 offset_bounds-keys-i c =
@@ -32,9 +32,9 @@ bounds-keys-i c =
 pub returns-then-key-low : goal.returns-then-key-low
 returns-then-key-low c =
     let counted : FirstSorted c.args.n c.args.keys.now → c.count_below-i.result ≡ count_of (λ k. ltb k (c.args.high / 2 * 2)) (take (c.args.n - 0) c.args.keys.now) = λ first. c.count_below-i.ensures.counted (rw sub-zero first.sorted) in
-    λ first. let g = c.args in last-too-low g.low (g.high / 2 * 2) g.keys.now g.n first _ (counted first) (search rules) (search rules)
+    λ first. last-too-low c.args.low (c.args.high / 2 * 2) c.args.keys.now c.args.n first _ (counted first) (search rules) (search rules)
 
 pub returns : goal.returns
 returns c =
     let counted : FirstSorted c.args.n c.args.keys.now → c.count_below-i.result ≡ count_of (λ k. ltb k (c.args.high / 2 * 2)) (take (c.args.n - 0) c.args.keys.now) = λ first. c.count_below-i.ensures.counted (rw sub-zero first.sorted) in
-    λ first. let g = c.args in c.row_in.ensures ∙ last_found g.low (g.high / 2 * 2) g.keys.now g.n first _ (counted first) (search rules) (search rules)
+    λ first. c.row_in.ensures ∙ last_found c.args.low (c.args.high / 2 * 2) c.args.keys.now c.args.n first _ (counted first) (search rules) (search rules)

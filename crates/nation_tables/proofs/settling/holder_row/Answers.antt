@@ -10,9 +10,6 @@ use Rattle.nation_tables.proofs.settling.holder_row.Goals as goal
 
 pub returns : goal.returns
 returns c =
-    let g = c.args in
-    let key = c.settling_key-low in
-    let w = c.word-word in
-    let low : key.result / 2 * 2 ≡ settling_key g.to.0 g.date.0 0 = omega (arith, key.ensures) in
-    let high : (w.result + 1) * tag_span ≡ settling_key (g.to.0 + 1) 0 0 = omega (arith, w.ensures) in
+    let low : c.settling_key-low.result / 2 * 2 ≡ settling_key c.args.to.0 c.args.date.0 0 = omega (arith, c.settling_key-low.ensures) in
+    let high : (c.word-word.result + 1) * tag_span ≡ settling_key (c.args.to.0 + 1) 0 0 = omega (arith, c.word-word.ensures) in
     row-holds _ _ _ _ _ _ low high c.first_within.ensures

@@ -12,8 +12,7 @@ loop-i-init c =
 
 pub loop-i-preserved : goal.loop-i-preserved
 loop-i-preserved c =
-    let l = c.loop-i in
-    (search rules, filling-put _ _ _ _ _ l.invariant.1 _ _ (replicate_next _ _ _ c.loop-i-test.true) _ refl)
+    (search rules, filling-put _ _ _ _ _ c.loop-i.invariant.1 _ _ (replicate_next _ _ _ c.loop-i-test.true) _ refl)
 
 pub returns : goal.returns
 returns c = filling-written _ _ _ _ _ c.loop-i.invariant.1 (replicate-end _ _ _ c.loop-i-test.false)

@@ -10,26 +10,19 @@ use Rattle.nation_tables.specs.Countries.{initial_row}
 use Rattle.nation_tables.proofs.slots.StartingLaws.{put_next, put-end, ids_next}
 use Rattle.nation_tables.proofs.starting.put_owners.Goals as goal
 
--- what was left is the province of the row, and what the next cursor has left
-told : (c : tie.After-known-told invariant-loop decreases-loop)
-    → provinces_left c.before.before.before.before.before.before.before.before.args.s.now c.before.before.before.before.loop.left
-    ≡ province_of c.before.before.before.before.before.before.before.before.args.s.now c.before.province.given.0.0
-    ∷ provinces_left c.before.before.before.before.before.before.before.before.args.s.now c.before.province.given.0.1.0
-told c = told-row (province_told _) c.before.before.before.next.ensures c.before.province.given.1 refl
-
 pub loop-province-init : goal.loop-province-init
 loop-province-init c = (refl, c.requires.1, refl)
 
 pub offset_bounds-rows-at : goal.offset_bounds-rows-at
 offset_bounds-rows-at c =
-    let here : c.word-at.result < length c.loop-province.rows = let l = c.loop-province in
-    omega (arith, (ids_next _ _ _ _ (told c) l.invariant.1).0, c.word-at.ensures, l.invariant.0) in
-    let l = here in let g = c.well-formed in search rules
+    let told : provinces_left c.args.s.now c.loop-province.left ≡ province_of c.args.s.now c.in-Row.province ∷ provinces_left c.args.s.now c.in-Row.rest = told-row (province_told _) c.next.ensures c.in-Row.is refl in
+    let here : c.word-at.result < length c.loop-province.rows = omega (arith, (ids_next _ _ _ _ told c.loop-province.invariant.1).0, c.word-at.ensures, c.loop-province.invariant.0) in
+    let l = here in search rules
 
 pub bounds-rows-at : goal.bounds-rows-at
 bounds-rows-at c =
-    let here : c.word-at.result < length c.loop-province.rows = let l = c.loop-province in
-    omega (arith, (ids_next _ _ _ _ (told c) l.invariant.1).0, c.word-at.ensures, l.invariant.0) in
+    let told : provinces_left c.args.s.now c.loop-province.left ≡ province_of c.args.s.now c.in-Row.province ∷ provinces_left c.args.s.now c.in-Row.rest = told-row (province_told _) c.next.ensures c.in-Row.is refl in
+    let here : c.word-at.result < length c.loop-province.rows = omega (arith, (ids_next _ _ _ _ told c.loop-province.invariant.1).0, c.word-at.ensures, c.loop-province.invariant.0) in
     here
 
 pub loop-province-smaller : goal.loop-province-smaller
@@ -38,11 +31,11 @@ loop-province-smaller c =
 
 pub loop-province-preserved : goal.loop-province-preserved
 loop-province-preserved c =
-    let l = c.loop-province in
+    let told : provinces_left c.args.s.now c.loop-province.left ≡ province_of c.args.s.now c.in-Row.province ∷ provinces_left c.args.s.now c.in-Row.rest = told-row (province_told _) c.next.ensures c.in-Row.is refl in
     let f = initial_row (take c.args.n c.args.keys.now) in (
-      length-set l.rows _ _ ∙ l.invariant.0,
-      (ids_next _ _ _ _ (told c) l.invariant.1).1,
-      put_next f _ _ _ l.rows _ _ (told c) c.word-at.ensures c.mapped_row.ensures.key ∙ l.invariant.2,
+      length-set c.loop-province.rows _ _ ∙ c.loop-province.invariant.0,
+      (ids_next _ _ _ _ told c.loop-province.invariant.1).1,
+      put_next f _ _ _ c.loop-province.rows _ _ told c.word-at.ensures c.mapped_row.ensures.key ∙ c.loop-province.invariant.2,
     )
 
 pub shape_of-rows-in-End : goal.shape_of-rows-in-End
@@ -50,5 +43,4 @@ shape_of-rows-in-End c = c.loop-province.invariant.0
 
 pub returns-in-End : goal.returns-in-End
 returns-in-End c =
-    let l = c.loop-province in
-    put-end _ _ l.rows (told-end (province_told _) c.next.ensures c.in-End.is refl) ∙ l.invariant.2
+    put-end _ _ c.loop-province.rows (told-end (province_told _) c.next.ensures c.in-End.is refl) ∙ c.loop-province.invariant.2

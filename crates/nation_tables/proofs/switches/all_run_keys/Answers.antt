@@ -7,26 +7,20 @@ use Rattle.nation_tables.specs.Switches.{runs_from}
 use Rattle.nation_tables.proofs.tables.PlacedLaws.{row-asked, keying-start, keying-here, keying-more, keying-done}
 use Rattle.nation_tables.proofs.switches.all_run_keys.Goals as goal
 
--- what was left is the country of the row, and what the next cursor has left
-told : (c : tie.After-known-told invariant-loop decreases-loop)
-    → countries_left c.before.before.before.before.before.before.before.args.s.now c.before.before.before.before.loop.left
-    ≡ country_of c.before.before.before.before.before.before.before.args.s.now c.before.country.given.0.0
-    ∷ countries_left c.before.before.before.before.before.before.before.args.s.now c.before.country.given.0.1.0
-told c = told-row (country_told _) c.before.before.before.next.ensures c.before.country.given.1 refl
-
 pub loop-country-init : goal.loop-country-init
 loop-country-init c =
-    let p = c.requires in
-    let a = row-asked _ _ p.0.0 p.0.1 p.1 in
+    let a = row-asked _ _ c.requires.countries_len_bound.0 c.requires.countries_len_bound.1 c.requires.countries_in_bounds in
     keying-start _ _ _ a.0.0 a.0.1 a.1
 
 pub own_keys-k-requires : goal.own_keys-k-requires
 own_keys-k-requires c =
-    keying-here _ _ _ _ _ _ _ c.loop-country.invariant _ _ (told c)
+    let told : countries_left c.args.s.now c.loop-country.left ≡ country_of c.args.s.now c.in-Row.country ∷ countries_left c.args.s.now c.in-Row.rest = told-row (country_told _) c.next.ensures c.in-Row.is refl in
+    keying-here _ _ _ _ _ _ _ c.loop-country.invariant _ _ told
 
 pub overflow_add-row : goal.overflow_add-row
 overflow_add-row c =
-    let l = keying-here _ _ _ _ _ _ _ c.loop-country.invariant _ _ (told c) in
+    let told : countries_left c.args.s.now c.loop-country.left ≡ country_of c.args.s.now c.in-Row.country ∷ countries_left c.args.s.now c.in-Row.rest = told-row (country_told _) c.next.ensures c.in-Row.is refl in
+    let l = keying-here _ _ _ _ _ _ _ c.loop-country.invariant _ _ told in
     omega (arith, l.0)
 
 pub loop-country-smaller : goal.loop-country-smaller
@@ -35,7 +29,8 @@ loop-country-smaller c =
 
 pub loop-country-preserved : goal.loop-country-preserved
 loop-country-preserved c =
-    keying-more _ _ _ _ _ _ _ c.loop-country.invariant _ _ (told c) _ _ c.own_keys-k.ensures
+    let told : countries_left c.args.s.now c.loop-country.left ≡ country_of c.args.s.now c.in-Row.country ∷ countries_left c.args.s.now c.in-Row.rest = told-row (country_told _) c.next.ensures c.in-Row.is refl in
+    keying-more _ _ _ _ _ _ _ c.loop-country.invariant _ _ told _ _ c.own_keys-k.ensures
 
 pub shape_of-cells-in-End : goal.shape_of-cells-in-End
 shape_of-cells-in-End c = c.loop-country.invariant.cells.long
@@ -43,5 +38,4 @@ shape_of-cells-in-End c = c.loop-country.invariant.cells.long
 pub returns-in-End : goal.returns-in-End
 unfolding runs_from
 returns-in-End c =
-    let l = c.loop-country in
-    keying-done _ _ _ _ _ _ _ l.invariant (told-end (country_told _) c.next.ensures c.in-End.is refl)
+    keying-done _ _ _ _ _ _ _ c.loop-country.invariant (told-end (country_told _) c.next.ensures c.in-End.is refl)

@@ -9,51 +9,48 @@ use Rattle.format.proofs.CampaignLaws.{told-row, told-length, told-end}
 use Rattle.nation_tables.proofs.tables.OwnKeyLaws.{settling-start, settling-here, settling-tag, settling-room, settling-more, settling-done}
 use Rattle.nation_tables.proofs.switches.all_settling_keys.Goals as goal
 
--- what was left is the country of the row, and what the next cursor has left
-told : (c : tie.After-known-told invariant-loop decreases-loop)
-    → countries_left c.before.before.before.before.before.before.before.args.s.now c.before.before.before.before.loop.left
-    ≡ country_of c.before.before.before.before.before.before.before.args.s.now c.before.country.given.0.0
-    ∷ countries_left c.before.before.before.before.before.before.before.args.s.now c.before.country.given.0.1.0
-told c = told-row (country_told _) c.before.before.before.next.ensures c.before.country.given.1 refl
-
 pub loop-country-init : goal.loop-country-init
 loop-country-init c =
     settling-start (countries_left c.args.s.now c.args.countries) _ c.requires.0 c.requires.1
 
 pub own_keys-k-requires : goal.own_keys-k-requires
 own_keys-k-requires c =
-    settling-here _ _ _ _ _ _ c.loop-country.invariant _ _ (told c)
+    let told : countries_left c.args.s.now c.loop-country.left ≡ country_of c.args.s.now c.in-Row.country ∷ countries_left c.args.s.now c.in-Row.rest = told-row (country_told _) c.next.ensures c.in-Row.is refl in
+    settling-here _ _ _ _ _ _ c.loop-country.invariant _ _ told
 
 pub settling_key-requires : goal.settling_key-requires
 settling_key-requires c =
-    (settling-tag _ _ _ _ _ _ c.loop-country.inv _ _ (told c), (settling-here _ _ _ _ _ _ c.loop-country.inv _ _ (told c)).0)
+    let told : countries_left c.args.s.now c.loop-country.left ≡ country_of c.args.s.now c.in-Row.country ∷ countries_left c.args.s.now c.in-Row.rest = told-row (country_told _) c.next.ensures c.in-Row.is refl in
+    (settling-tag _ _ _ _ _ _ c.loop-country.invariant _ _ told, (settling-here _ _ _ _ _ _ c.loop-country.invariant _ _ told).0)
 
 pub offset_bounds-cells-k : goal.offset_bounds-cells-k
 offset_bounds-cells-k c =
-    let room : c.own_keys-k.result < length c.own_keys-k.new.cells = settling-room _ _ _ _ _ _ c.loop-country.inv _ _ (told c) _ _ c.own_keys-k.ensures in
+    let told : countries_left c.args.s.now c.loop-country.left ≡ country_of c.args.s.now c.in-Row.country ∷ countries_left c.args.s.now c.in-Row.rest = told-row (country_told _) c.next.ensures c.in-Row.is refl in
+    let room : c.own_keys-k.result < length c.own_keys-k.new.cells = settling-room _ _ _ _ _ _ c.loop-country.invariant _ _ told _ _ c.own_keys-k.ensures in
     let l = room in
     let n = c.own_keys-k.auto.cells in
     let m = c.loop-country.invariant.walk.cells.long in
-    let g = c.well-formed in
     search rules
 
 pub bounds-cells-k : goal.bounds-cells-k
 bounds-cells-k c =
-    let room : c.own_keys-k.result < length c.own_keys-k.new.cells = settling-room _ _ _ _ _ _ c.loop-country.inv _ _ (told c) _ _ c.own_keys-k.ensures in
+    let told : countries_left c.args.s.now c.loop-country.left ≡ country_of c.args.s.now c.in-Row.country ∷ countries_left c.args.s.now c.in-Row.rest = told-row (country_told _) c.next.ensures c.in-Row.is refl in
+    let room : c.own_keys-k.result < length c.own_keys-k.new.cells = settling-room _ _ _ _ _ _ c.loop-country.invariant _ _ told _ _ c.own_keys-k.ensures in
     room
 
 pub overflow_add-k : goal.overflow_add-k
 overflow_add-k c =
-    let room : c.own_keys-k.result < length c.own_keys-k.new.cells = settling-room _ _ _ _ _ _ c.loop-country.inv _ _ (told c) _ _ c.own_keys-k.ensures in
+    let told : countries_left c.args.s.now c.loop-country.left ≡ country_of c.args.s.now c.in-Row.country ∷ countries_left c.args.s.now c.in-Row.rest = told-row (country_told _) c.next.ensures c.in-Row.is refl in
+    let room : c.own_keys-k.result < length c.own_keys-k.new.cells = settling-room _ _ _ _ _ _ c.loop-country.invariant _ _ told _ _ c.own_keys-k.ensures in
     let l = room in
     let n = c.own_keys-k.auto.cells in
     let m = c.loop-country.invariant.walk.cells.long in
-    let g = c.well-formed in
     search rules
 
 pub overflow_add-row : goal.overflow_add-row
 overflow_add-row c =
-    omega (arith, (settling-here _ _ _ _ _ _ c.loop-country.inv _ _ (told c)).0)
+    let told : countries_left c.args.s.now c.loop-country.left ≡ country_of c.args.s.now c.in-Row.country ∷ countries_left c.args.s.now c.in-Row.rest = told-row (country_told _) c.next.ensures c.in-Row.is refl in
+    omega (arith, (settling-here _ _ _ _ _ _ c.loop-country.invariant _ _ told).0)
 
 pub loop-country-smaller : goal.loop-country-smaller
 loop-country-smaller c =
@@ -61,12 +58,12 @@ loop-country-smaller c =
 
 pub loop-country-preserved : goal.loop-country-preserved
 loop-country-preserved c =
-    settling-more _ _ _ _ _ _ c.loop-country.inv _ _ (told c) _ _ c.own_keys-k.ensures _ (rw c.kept.ensures at c.settling_key.ensures)
+    let told : countries_left c.args.s.now c.loop-country.left ≡ country_of c.args.s.now c.in-Row.country ∷ countries_left c.args.s.now c.in-Row.rest = told-row (country_told _) c.next.ensures c.in-Row.is refl in
+    settling-more _ _ _ _ _ _ c.loop-country.invariant _ _ told _ _ c.own_keys-k.ensures _ (rw c.kept.ensures at c.settling_key.ensures)
 
 pub shape_of-cells-in-End : goal.shape_of-cells-in-End
 shape_of-cells-in-End c = c.loop-country.invariant.walk.cells.long
 
 pub returns-in-End : goal.returns-in-End
 returns-in-End c =
-    let l = c.loop-country in
-    settling-done _ _ _ _ _ _ l.invariant (told-end (country_told _) c.next.ensures c.in-End.is refl)
+    settling-done _ _ _ _ _ _ c.loop-country.invariant (told-end (country_told _) c.next.ensures c.in-End.is refl)

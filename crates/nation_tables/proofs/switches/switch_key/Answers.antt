@@ -14,10 +14,8 @@ run_key-requires c =
 
 pub returns-in-ByFrom : goal.returns-in-ByFrom
 returns-in-ByFrom c =
-    let a = c.args in
-    c.settling_key.ensures ∙ ap (λ (o : SwitchOrder). key_by o (placed a.row a.number a.x)) (sym c.in-ByFrom.is)
+    c.settling_key.ensures ∙ ap (λ (o : SwitchOrder). key_by o (placed c.args.row c.args.number c.args.x)) (sym c.in-ByFrom.is)
 
 pub returns-in-ByRow : goal.returns-in-ByRow
 returns-in-ByRow c =
-    let a = c.args in
-    c.run_key.ensures ∙ ap (λ (o : SwitchOrder). key_by o (placed a.row a.number a.x)) (sym c.in-ByRow.is)
+    c.run_key.ensures ∙ ap (λ (o : SwitchOrder). key_by o (placed c.args.row c.args.number c.args.x)) (sym c.in-ByRow.is)

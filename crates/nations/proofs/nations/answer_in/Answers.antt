@@ -12,17 +12,11 @@ slice_bounds-tell_nations-end c = sym (made most_slots)
 pub tell_nations-requires : goal.tell_nations-requires
 tell_nations-requires c = (c.requires, omega (arith, made most_slots))
 
-pub enum_known-sizes : goal.enum_known-sizes
-enum_known-sizes c = c.in-Rows.keys1
-
 pub slice_bounds-write_rest-end : goal.slice_bounds-write_rest-end
 slice_bounds-write_rest-end c = sym (c.tell_nations.auto.slots ∙ made most_slots)
 
 pub write_rest-requires : goal.write_rest-requires
 write_rest-requires c = let asked = rest-asked _ _ _ c.args.holders.now c.args.held.now c.args.changes.now _ _ _ _ _ _ _ _ (nations-placed _ _ _ _ _ _ _ _ _ _ _ _ c.tell_nations.ensures c.in-Rows.is) in record { rest_ready = asked.0; slots_room = asked.1 }
-
-pub enum_known-number : goal.enum_known-number
-enum_known-number c = c.in-Refused.keys2
 
 pub shape_of-runs-in-Rows : goal.shape_of-runs-in-Rows
 shape_of-runs-in-Rows c = c.tell_nations.auto.runs

@@ -30,4 +30,4 @@ pub shape_of-entries : goal.shape_of-entries
 shape_of-entries c = c.place_nations.auto.entries
 
 pub returns : goal.returns
-returns c = let a = c.args in let p = c.place_nations in fronts-placed a.sizes a.tag-words.now a.initial-keys.now a.runs.now a.targets.now a.firsts.now a.started.now a.keys.now a.turns.now p.result _ _ _ _ p.ensures
+returns c = fronts-placed c.args.sizes c.args.tag_words.now c.args.initial_keys.now c.args.runs.now c.args.targets.now c.args.firsts.now c.args.started.now c.args.keys.now c.args.turns.now c.place_nations.result _ _ _ _ c.place_nations.ensures

@@ -20,9 +20,6 @@ slice_bounds-gather_tables-end-3 c = sym (made most_countries)
 pub slice_bounds-gather_tables-end-4 : goal.slice_bounds-gather_tables-end-4
 slice_bounds-gather_tables-end-4 c = sym (made most_countries)
 
-pub enum_known-sizes : goal.enum_known-sizes
-enum_known-sizes c = c.in-Tables.keys1
-
 pub rest_fits-requires : goal.rest_fits-requires
 rest_fits-requires c =
     let gathered : Gathered c.args.s.now c.in-Tables.sizes c.in-Tables.provinces c.gather_tables.new.tag_words c.gather_tables.new.initial_keys c.gather_tables.new.switch_keys c.gather_tables.new.keys c.gather_tables.new.cells c.gather_tables.new.slots c.gather_tables.new.started c.gather_tables.new.turns c.gather_tables.new.firsts = tables-told c.args.s.now c.gather_tables.new.tag_words c.gather_tables.new.initial_keys c.gather_tables.new.switch_keys c.gather_tables.new.keys c.gather_tables.new.cells c.gather_tables.new.slots c.gather_tables.new.started c.gather_tables.new.turns c.gather_tables.new.firsts c.gather_tables.result (c.gather_tables.ensures (made-room _ c.args.runs.now c.args.keys.now c.args.cells.now c.args.turns.now c.args.slots.now c.requires)) c.in-Tables.is in
@@ -67,9 +64,6 @@ place_fronts-placed-requires c =
     let gathered : Gathered c.args.s.now c.in-Tables.sizes c.in-Tables.provinces c.gather_tables.new.tag_words c.gather_tables.new.initial_keys c.gather_tables.new.switch_keys c.gather_tables.new.keys c.gather_tables.new.cells c.gather_tables.new.slots c.gather_tables.new.started c.gather_tables.new.turns c.gather_tables.new.firsts = tables-told c.args.s.now c.gather_tables.new.tag_words c.gather_tables.new.initial_keys c.gather_tables.new.switch_keys c.gather_tables.new.keys c.gather_tables.new.cells c.gather_tables.new.slots c.gather_tables.new.started c.gather_tables.new.turns c.gather_tables.new.firsts c.gather_tables.result (c.gather_tables.ensures (made-room _ c.args.runs.now c.args.keys.now c.args.cells.now c.args.turns.now c.args.slots.now c.requires)) c.in-Tables.is in
     let roomy : TableRoom (length c.args.s.now) c.gather_tables.new.tag_words c.gather_tables.new.initial_keys c.gather_tables.new.switch_keys c.gather_tables.new.keys c.gather_tables.new.cells c.gather_tables.new.slots c.gather_tables.new.started c.gather_tables.new.turns c.gather_tables.new.firsts = room-kept c.gather_tables.new.tag_words c.gather_tables.new.initial_keys c.gather_tables.new.switch_keys c.gather_tables.new.keys c.gather_tables.new.cells c.gather_tables.new.slots c.gather_tables.new.started c.gather_tables.new.turns c.gather_tables.new.firsts (made-room _ c.args.runs.now c.args.keys.now c.args.cells.now c.args.turns.now c.args.slots.now c.requires) c.gather_tables.auto.tag_words c.gather_tables.auto.initial_keys c.gather_tables.auto.switch_keys c.gather_tables.auto.keys c.gather_tables.auto.cells c.gather_tables.auto.slots c.gather_tables.auto.started c.gather_tables.auto.turns c.gather_tables.auto.firsts in
     fronts-inside _ _ _ _ _ _ _ _ _ _ _ _ gathered roomy
-
-pub enum_known-number : goal.enum_known-number
-enum_known-number c = c.in-Refused.keys2
 
 pub shape_of-runs-else-not-rest_fits : goal.shape_of-runs-else-not-rest_fits
 shape_of-runs-else-not-rest_fits c = c.gather_tables.auto.switch_keys

@@ -22,4 +22,4 @@ pub shape_of-changes : goal.shape_of-changes
 shape_of-changes c = c.write_sorted.auto.out
 
 pub returns : goal.returns
-returns c = let a = c.args in let p = c.requires in record { slots = slots-put a.slots.now _ _ _ _ a.sizes.slots a.sizes.countries c.write_slots.ensures p.1.0; changes = rows_written _ _ p.0.ready _ _ _ _ _ (changes-sorted _ _ _ _ _ _ p.0) (changes-long _ _ _ _ _ _ p.0) (changes-room _ _ a.sizes _ _ _ p.0 a.changes.now p.1.1) c.write_sorted.ensures }
+returns c = record { slots = slots-put c.args.slots.now _ _ _ _ c.args.sizes.slots c.args.sizes.countries c.write_slots.ensures c.requires.slots_room.0; changes = rows_written _ _ c.requires.rest_ready.ready _ _ _ _ _ (changes-sorted _ _ _ _ _ _ c.requires.rest_ready) (changes-long _ _ _ _ _ _ c.requires.rest_ready) (changes-room _ _ c.args.sizes _ _ _ c.requires.rest_ready c.args.changes.now c.requires.slots_room.1) c.write_sorted.ensures }

@@ -12,12 +12,6 @@ use Rattle.change_keys.proofs.EnteringLaws.{all-entered}
 use Rattle.owner_changes.proofs.CountLaws.{counting-none, counting_more, counting-small, counting-done, run-counted}
 use Rattle.owner_changes.proofs.answers.count_on.Goals as goal
 
--- The change that was told is the first of those left.
-more : (c : tie.After-x invariant-loop decreases-loop)
-    → changes_left c.before.before.before.before.before.before.args.s.now c.before.before.before.loop.at
-    ≡ change_of c.x.given.0.0 ∷ changes_left c.before.before.before.before.before.before.args.s.now c.x.given.0.1.0
-more c = told-row (change_told _) c.before.before.next-change.ensures c.x.given.1 refl
-
 pub loop-x-init : goal.loop-x-init
 loop-x-init c =
     let all = all-entered _ c.args.provinces c.next-at.result c.requires c.next-at.ensures in
@@ -26,30 +20,31 @@ loop-x-init c =
 
 pub overflow_add-first : goal.overflow_add-first
 overflow_add-first c =
-    let l = c.loop-x in
-    let next = counting_more _ l.invariant.0 (more c) c.one-first.result (c.one-first.ensures ∙ ap one c.earlier.ensures) in
+    let more : changes_left c.args.s.now c.loop-x.at ≡ change_of c.in-Row.x ∷ changes_left c.args.s.now c.in-Row.rest = told-row (change_told _) c.next_change.ensures c.in-Row.is refl in
+    let next = counting_more _ c.loop-x.invariant.0 more c.one-first.result (c.one-first.ensures ∙ ap one c.earlier.ensures) in
     omega (arith, counting-small _ next)
 
 pub overflow_add-count : goal.overflow_add-count
 overflow_add-count c =
-    let l = c.loop-x in
+    let more : changes_left c.args.s.now c.loop-x.at ≡ change_of c.in-Row.x ∷ changes_left c.args.s.now c.in-Row.rest = told-row (change_told _) c.next_change.ensures c.in-Row.is refl in
     let same = c.one-count.ensures ∙ ap one c.same.ensures in
-    let next = counting_more _ l.invariant.1 (more c) c.one-count.result same in
+    let next = counting_more _ c.loop-x.invariant.1 more c.one-count.result same in
     omega (arith, counting-small _ next)
 
 pub loop-x-smaller : goal.loop-x-smaller
-loop-x-smaller c = omega (arith, ap length (more c))
+loop-x-smaller c =
+    let more : changes_left c.args.s.now c.loop-x.at ≡ change_of c.in-Row.x ∷ changes_left c.args.s.now c.in-Row.rest = told-row (change_told _) c.next_change.ensures c.in-Row.is refl in
+    omega (arith, ap length more)
 
 pub loop-x-preserved : goal.loop-x-preserved
 loop-x-preserved c =
-    let l = c.loop-x in
-    let told = more c in
+    let more : changes_left c.args.s.now c.loop-x.at ≡ change_of c.in-Row.x ∷ changes_left c.args.s.now c.in-Row.rest = told-row (change_told _) c.next_change.ensures c.in-Row.is refl in
+    let told = more in
     let early = c.one-first.ensures ∙ ap one c.earlier.ensures in
     let same = c.one-count.ensures ∙ ap one c.same.ensures in
-    (counting_more _ l.invariant.0 told c.one-first.result early, counting_more _ l.invariant.1 told c.one-count.result same)
+    (counting_more _ c.loop-x.invariant.0 told c.one-first.result early, counting_more _ c.loop-x.invariant.1 told c.one-count.result same)
 
 pub returns-in-End : goal.returns-in-End
 returns-in-End c =
-    let l = c.loop-x in
     let end = told-end (change_told _) c.next_change.ensures c.in-End.is refl in
-    ap gives (run-counted _ _ _ _ (counting-done _ l.invariant.0 end) (counting-done _ l.invariant.1 end))
+    ap gives (run-counted _ _ _ _ (counting-done _ c.loop-x.invariant.0 end) (counting-done _ c.loop-x.invariant.1 end))

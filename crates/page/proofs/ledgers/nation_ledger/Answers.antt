@@ -18,12 +18,10 @@ overflow_cast-result c =
 pub returns-in-Rows : goal.returns-in-Rows
 returns-in-Rows c =
     let few : 3 * c.in-Rows.n ≤ length c.args.out.now = ledger-given _ _ _ _ _ _ (sym (ap ledger_answer c.in-Rows.is) ∙ ap (λ o. o.answer) c.nation_ledger.ensures) in
-    let called = c.nation_ledger in
-    let told = sym (ap (λ r. ledger_outcome r called.new.1.1.1.1.0) c.in-Rows.is) in
-    returns_of (told ∙ called.ensures) (to_z_pos w64 (omega (arith, few)))
+    let told = sym (ap (λ r. ledger_outcome r c.nation_ledger.new.out) c.in-Rows.is) in
+    returns_of (told ∙ c.nation_ledger.ensures) (to_z_pos w64 (omega (arith, few)))
 
 pub returns-in-Refused : goal.returns-in-Refused
 returns-in-Refused c =
-    let called = c.nation_ledger in
-    let told = sym (ap (λ r. ledger_outcome r called.new.1.1.1.1.0) c.in-Refused.is) in
-    returns_of (told ∙ called.ensures) (to_z-of_z {w = w64} (record { sfits = c.minus.type-inv }) ∙ c.minus.ensures)
+    let told = sym (ap (λ r. ledger_outcome r c.nation_ledger.new.out) c.in-Refused.is) in
+    returns_of (told ∙ c.nation_ledger.ensures) (to_z-of_z {w = w64} (record { sfits = c.minus.type_inv }) ∙ c.minus.ensures)

@@ -23,4 +23,4 @@ returns-in-Rows c =
 pub returns-in-Refused : goal.returns-in-Refused
 returns-in-Refused c =
     rows-returned _ _ _ _ _ _ c.can_return.ensures _ c.nation_ledger_rows.ensures _
-    (to_z-of_z {w = w64} (record { sfits = c.minus.type-inv }) ∙ c.minus.ensures ∙ sym (ap (λ r. returned (ledger_answer r)) c.in-Refused.is))
+    (to_z-of_z {w = w64} (record { sfits = c.minus.type_inv }) ∙ c.minus.ensures ∙ sym (ap (λ r. returned (ledger_answer r)) c.in-Refused.is))

@@ -17,12 +17,10 @@ overflow_cast-result c =
 pub returns-in-Bytes : goal.returns-in-Bytes
 returns-in-Bytes c =
     let few : c.in-Bytes.n ≤ 409615 = page-few _ _ _ _ (sym (ap paged_answer c.in-Bytes.is) ∙ ap (λ o. o.answer) c.write_page.ensures) in
-    let called = c.write_page in
-    let told = sym (ap (λ r. paged_outcome r called.new.1.1.0) c.in-Bytes.is) in
-    returns_of (told ∙ called.ensures) (to_z_pos w64 (omega (arith, few)))
+    let told = sym (ap (λ r. paged_outcome r c.write_page.new.out) c.in-Bytes.is) in
+    returns_of (told ∙ c.write_page.ensures) (to_z_pos w64 (omega (arith, few)))
 
 pub returns-in-Refused : goal.returns-in-Refused
 returns-in-Refused c =
-    let called = c.write_page in
-    let told = sym (ap (λ r. paged_outcome r called.new.1.1.0) c.in-Refused.is) in
-    returns_of (told ∙ called.ensures) (to_z-of_z {w = w64} (record { sfits = c.minus.type-inv }) ∙ c.minus.ensures)
+    let told = sym (ap (λ r. paged_outcome r c.write_page.new.out) c.in-Refused.is) in
+    returns_of (told ∙ c.write_page.ensures) (to_z-of_z {w = w64} (record { sfits = c.minus.type_inv }) ∙ c.minus.ensures)

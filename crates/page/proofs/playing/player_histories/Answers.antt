@@ -17,12 +17,10 @@ overflow_cast-result c =
 pub returns-in-Rows : goal.returns-in-Rows
 returns-in-Rows c =
     let few : 7 * c.in-Rows.n.histories ≤ length c.args.histories.now = histories-given _ _ _ _ _ (sym (ap histories_answer c.in-Rows.is) ∙ ap (λ o. o.answer) c.player_histories.ensures) in
-    let called = c.player_histories in
-    let told = sym (ap (λ r. histories_outcome r called.new.1.1.1.0 called.new.1.1.1.1.0) c.in-Rows.is) in
-    histories-of _ _ _ _ _ _ (told ∙ called.ensures) (to_z_pos w64 (omega (arith, few)))
+    let told = sym (ap (λ r. histories_outcome r c.player_histories.new.histories c.player_histories.new.names) c.in-Rows.is) in
+    histories-of _ _ _ _ _ _ (told ∙ c.player_histories.ensures) (to_z_pos w64 (omega (arith, few)))
 
 pub returns-in-Refused : goal.returns-in-Refused
 returns-in-Refused c =
-    let called = c.player_histories in
-    let told = sym (ap (λ r. histories_outcome r called.new.1.1.1.0 called.new.1.1.1.1.0) c.in-Refused.is) in
-    histories-of _ _ _ _ _ _ (told ∙ called.ensures) (to_z-of_z {w = w64} (record { sfits = c.minus.type-inv }) ∙ c.minus.ensures)
+    let told = sym (ap (λ r. histories_outcome r c.player_histories.new.histories c.player_histories.new.names) c.in-Refused.is) in
+    histories-of _ _ _ _ _ _ (told ∙ c.player_histories.ensures) (to_z-of_z {w = w64} (record { sfits = c.minus.type_inv }) ∙ c.minus.ensures)

@@ -17,12 +17,10 @@ overflow_cast-result c =
 pub returns-in-Rows : goal.returns-in-Rows
 returns-in-Rows c =
     let few : c.in-Rows.n ≤ 1000 = players-counted _ _ _ (sym (ap players_answer c.in-Rows.is) ∙ ap (λ o. o.answer) c.players.ensures) in
-    let called = c.players in
-    let told = sym (ap (λ r. players_outcome r called.new.1.0) c.in-Rows.is) in
-    returns_of (told ∙ called.ensures) (to_z_pos w64 (omega (arith, few)))
+    let told = sym (ap (λ r. players_outcome r c.players.new.out) c.in-Rows.is) in
+    returns_of (told ∙ c.players.ensures) (to_z_pos w64 (omega (arith, few)))
 
 pub returns-in-Refused : goal.returns-in-Refused
 returns-in-Refused c =
-    let called = c.players in
-    let told = sym (ap (λ r. players_outcome r called.new.1.0) c.in-Refused.is) in
-    returns_of (told ∙ called.ensures) (to_z-of_z {w = w64} (record { sfits = c.minus.type-inv }) ∙ c.minus.ensures)
+    let told = sym (ap (λ r. players_outcome r c.players.new.out) c.in-Refused.is) in
+    returns_of (told ∙ c.players.ensures) (to_z-of_z {w = w64} (record { sfits = c.minus.type_inv }) ∙ c.minus.ensures)

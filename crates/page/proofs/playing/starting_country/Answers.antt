@@ -6,5 +6,5 @@ use Rattle.page.proofs.playing.starting_country.Goals as goal
 
 pub returns : goal.returns
 returns c =
-    rw (to_z-of_z {w = w64} (record { sfits = c.put_starting.type-inv }))
+    rw (to_z-of_z {w = w64} (record { sfits = c.put_starting.type_inv }))
     (starting-of _ _ _ _ _ _ _ c.starting_country.ensures c.put_starting.ensures)

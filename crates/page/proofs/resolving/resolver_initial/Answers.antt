@@ -6,5 +6,5 @@ use Rattle.page.proofs.resolving.resolver_initial.Goals as goal
 
 pub returns : goal.returns
 returns c =
-    rw (to_z-of_z {w = w64} (record { sfits = c.put_data.type-inv }))
+    rw (to_z-of_z {w = w64} (record { sfits = c.put_data.type_inv }))
     (data_of _ _ _ _ _ (rw c.kept-tag.ensures at c.initial.ensures) c.put_data.ensures)

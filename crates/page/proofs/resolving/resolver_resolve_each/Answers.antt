@@ -18,12 +18,10 @@ overflow_cast-result c =
 pub returns-in-Rows : goal.returns-in-Rows
 returns-in-Rows c =
     let few : c.in-Rows.n ≡ length c.args.questions.now / 2 = each-few _ _ _ _ _ (sym (ap each_answer c.in-Rows.is) ∙ ap (λ o. o.answer) c.resolve_each.ensures) in
-    let called = c.resolve_each in
-    let told = sym (ap (λ r. each_outcome r called.new.1.1.1.0) c.in-Rows.is) in
-    returns_of (told ∙ called.ensures) (to_z_pos w64 (omega (arith, few)))
+    let told = sym (ap (λ r. each_outcome r c.resolve_each.new.out) c.in-Rows.is) in
+    returns_of (told ∙ c.resolve_each.ensures) (to_z_pos w64 (omega (arith, few)))
 
 pub returns-in-Refused : goal.returns-in-Refused
 returns-in-Refused c =
-    let called = c.resolve_each in
-    let told = sym (ap (λ r. each_outcome r called.new.1.1.1.0) c.in-Refused.is) in
-    returns_of (told ∙ called.ensures) (to_z-of_z {w = w64} (record { sfits = c.minus.type-inv }) ∙ c.minus.ensures)
+    let told = sym (ap (λ r. each_outcome r c.resolve_each.new.out) c.in-Refused.is) in
+    returns_of (told ∙ c.resolve_each.ensures) (to_z-of_z {w = w64} (record { sfits = c.minus.type_inv }) ∙ c.minus.ensures)

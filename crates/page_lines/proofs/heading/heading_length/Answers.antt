@@ -1,5 +1,5 @@
 -- The word with its space, the digits and the line feed.
-use mathlib.Core.List.{◌∷◌}
+use mathlib.Core.List.{[], ◌∷◌}
 use native.Mathlib.Omega.{arith}
 use lib.ListN.{length-append}
 use Rattle.rules.specs.Page.{decimal}

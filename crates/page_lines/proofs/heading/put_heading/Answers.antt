@@ -5,10 +5,8 @@ use Rattle.page_lines.proofs.heading.put_heading.Goals as goal
 
 pub returns-then-out-heading_length : goal.returns-then-out-heading_length
 returns-then-out-heading_length c =
-    let a = c.args in
-    text-short (heading a.count) a.out.now _ c.heading_length.ensures c.if-out-heading_length.true
+    text-short (heading c.args.count) c.args.out.now _ c.heading_length.ensures c.if-out-heading_length.true
 
 pub returns : goal.returns
 returns c =
-    let a = c.args in
-    text-put (heading a.count) a.out.now _ c.heading_length.ensures c.if-out-heading_length.false _ _ c.write_heading.ensures.0 c.write_heading.ensures.1
+    text-put (heading c.args.count) c.args.out.now _ c.heading_length.ensures c.if-out-heading_length.false _ _ c.write_heading.ensures.0 c.write_heading.ensures.1

@@ -23,7 +23,7 @@ put_status-requires c =
 
 pub overflow_add-result : goal.overflow_add-result
 overflow_add-result c =
-    omega (arith, c.requires, c.well-formed.1.1.0.0, c.write_decimal-k.ensures.0, c.put_status.ensures.0, length-append (decimal c.args.count) (status_field c.args.living))
+    omega (arith, c.requires, c.well_formed.1.1.0.0, c.write_decimal-k.ensures.0, c.put_status.ensures.0, length-append (decimal c.args.count) (status_field c.args.living))
 
 pub returns : goal.returns
 returns c =

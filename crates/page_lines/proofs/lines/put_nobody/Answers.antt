@@ -6,10 +6,8 @@ use Rattle.page_lines.proofs.lines.put_nobody.Goals as goal
 
 pub returns-then-out-lt-ABSENT_LENGTH : goal.returns-then-out-lt-ABSENT_LENGTH
 returns-then-out-lt-ABSENT_LENGTH c =
-    let a = c.args in
-    text-short (absent_line a.tag) a.out.now 11 refl c.if-out-lt-ABSENT_LENGTH.true
+    text-short (absent_line c.args.tag) c.args.out.now 11 refl c.if-out-lt-ABSENT_LENGTH.true
 
 pub returns : goal.returns
 returns c =
-    let a = c.args in
-    text-put (absent_line a.tag) a.out.now 11 refl c.if-out-lt-ABSENT_LENGTH.false _ _ refl c.write_nobody.ensures
+    text-put (absent_line c.args.tag) c.args.out.now 11 refl c.if-out-lt-ABSENT_LENGTH.false _ _ refl c.write_nobody.ensures

@@ -6,10 +6,8 @@ use Rattle.page_lines.proofs.lines.put_row.Goals as goal
 
 pub returns-then-out-row_length : goal.returns-then-out-row_length
 returns-then-out-row_length c =
-    let a = c.args in
-    text-short (row_line (nation_told a.row) a.living) a.out.now _ c.row_length.ensures c.if-out-row_length.true
+    text-short (row_line (nation_told c.args.row) c.args.living) c.args.out.now _ c.row_length.ensures c.if-out-row_length.true
 
 pub returns : goal.returns
 returns c =
-    let a = c.args in
-    text-put (row_line (nation_told a.row) a.living) a.out.now _ c.row_length.ensures c.if-out-row_length.false _ _ c.write_row.ensures.0 c.write_row.ensures.1
+    text-put (row_line (nation_told c.args.row) c.args.living) c.args.out.now _ c.row_length.ensures c.if-out-row_length.false _ _ c.write_row.ensures.0 c.write_row.ensures.1

@@ -11,13 +11,13 @@ pub returns-then-selection-at : goal.returns-then-selection-at
 returns-then-selection-at c = read-end c.args.selection.now c.args.at (omega arith)
 
 pub returns-then-selection-at-lt-TAG_LINE : goal.returns-then-selection-at-lt-TAG_LINE
-returns-then-selection-at-lt-TAG_LINE c = let args = c.args in read-torn args.selection.now args.at (omega arith) (omega arith)
+returns-then-selection-at-lt-TAG_LINE c = read-torn c.args.selection.now c.args.at (omega arith) (omega arith)
 
 pub returns-then-selection-at-ne-LINE_FEED : goal.returns-then-selection-at-ne-LINE_FEED
-returns-then-selection-at-ne-LINE_FEED c = let args = c.args in read-unfed args.selection.now args.at (omega arith) (ne_eqb _ _ c.if-selection-at-ne-LINE_FEED.true)
+returns-then-selection-at-ne-LINE_FEED c = read-unfed c.args.selection.now c.args.at (omega arith) (ne_eqb _ _ c.if-selection-at-ne-LINE_FEED.true)
 
 pub returns-in-Tag : goal.returns-in-Tag
-returns-in-Tag c = let args = c.args in read-tagged args.selection.now args.at (omega arith) (args.at + 3 - args.at) (omega arith) _ (eq-eqb _ _ c.if-selection-at-ne-LINE_FEED.false) (sym c.create.ensures ∙ ap created_tag c.in-Tag.is)
+returns-in-Tag c = read-tagged c.args.selection.now c.args.at (omega arith) (c.args.at + 3 - c.args.at) (omega arith) _ (eq-eqb _ _ c.if-selection-at-ne-LINE_FEED.false) (sym c.create.ensures ∙ ap created_tag c.in-Tag.is)
 
 pub returns-in-NoTag : goal.returns-in-NoTag
-returns-in-NoTag c = let args = c.args in read-untagged args.selection.now args.at (omega arith) (args.at + 3 - args.at) (omega arith) (sym c.create.ensures ∙ ap created_tag c.in-NoTag.is)
+returns-in-NoTag c = read-untagged c.args.selection.now c.args.at (omega arith) (c.args.at + 3 - c.args.at) (omega arith) (sym c.create.ensures ∙ ap created_tag c.in-NoTag.is)

@@ -10,16 +10,12 @@ loop-at-init c = refl
 
 pub loop-at-preserved : goal.loop-at-preserved
 loop-at-preserved c =
-    let loop = c.loop-at in
-    let args = c.args in
-    lives-next args.entries.now loop.living loop.at (args.nation.first + args.nation.count) _ (omega arith)
+    lives-next c.args.entries.now c.loop-at.living c.loop-at.at (c.args.nation.first + c.args.nation.count) _ (omega arith)
     c.entry_at-e.ensures c.lives_on-living.ensures
-    ∙ loop.invariant
+    ∙ c.loop-at.invariant
 
 pub returns : goal.returns
 returns c =
-    let loop = c.loop-at in
-    let args = c.args in
-    sym (lives-end args.entries.now loop.living loop.at (args.nation.first + args.nation.count) (omega arith))
-    ∙ loop.invariant
-    ∙ living-from args.entries.now (nation_told args.nation)
+    sym (lives-end c.args.entries.now c.loop-at.living c.loop-at.at (c.args.nation.first + c.args.nation.count) (omega arith))
+    ∙ c.loop-at.invariant
+    ∙ living-from c.args.entries.now (nation_told c.args.nation)

@@ -21,8 +21,7 @@ offset_bounds-keys-i c =
 pub bounds-keys-i : goal.bounds-keys-i
 bounds-keys-i c =
     let inside : c.loop-i.i < c.nation_count-n.result = search rules in
-    let l = c.loop-i in
-    filling-room _ _ _ _ _ l.invariant _ _ (keys-next _ _ _ inside)
+    filling-room _ _ _ _ _ c.loop-i.invariant _ _ (keys-next _ _ _ inside)
 
 pub overflow_add-i : goal.overflow_add-i
 overflow_add-i c =
@@ -38,12 +37,10 @@ pub loop-i-preserved : goal.loop-i-preserved
 loop-i-preserved c =
     let few : c.loop-i.i < 2000 = omega (arith, c.loop-i-test.true, c.nation_count-n.ensures, c.requires.0, c.requires.1) in
     let inside : c.loop-i.i < c.nation_count-n.result = search rules in
-    let l = c.loop-i in
-    filling-put _ _ _ _ _ l.invariant _ _ (keys-next _ _ _ inside) _
+    filling-put _ _ _ _ _ c.loop-i.invariant _ _ (keys-next _ _ _ inside) _
     (stored-key _ _ _ _ (omega (arith, few)) c.tag_key.ensures (ap (λ r. r.stored) c.nation_at-row.ensures))
 
 pub returns : goal.returns
 returns c =
-    let l = c.loop-i in
     let n = c.nation_count-n.ensures in
-    filling-written _ _ _ _ _ l.invariant (keys_none c.args.nations.now l.i c.nation_count-n.result (omega (arith, c.loop-i-test.false))) ∙ ap (λ m. written (tag_keys_from 0 (stored_tags c.args.nations.now 0 m)) c.args.keys.now) n
+    filling-written _ _ _ _ _ c.loop-i.invariant (keys_none c.args.nations.now c.loop-i.i c.nation_count-n.result (omega (arith, c.loop-i-test.false))) ∙ ap (λ m. written (tag_keys_from 0 (stored_tags c.args.nations.now 0 m)) c.args.keys.now) n

@@ -14,14 +14,6 @@ use Rattle.page_text.proofs.OutcomeLaws.{lines-short, lines-written}
 use Rattle.page_lines.proofs.TailLaws.{tail-start, tail-room, then-written}
 use Rattle.page_text.proofs.text.write_tabled.Goals as goal
 
--- The first line was written.
-headed : (c : tie.After-put-heading)
-    → (c.put-heading.result ≡ length (first-line c.before.before.before.before.before)) × (c.put-heading.new.1.0 ≡ written (first-line c.before.before.before.before.before) (start c.before.before.before.before.before).args.out.now)
-headed c =
-    let e = c.before.before.before.before in
-    let h = c.before.before.before.before.before in
-    text-fits (first-line h) (start h).args.out.now (omega (arith, e.if1.false, h.heading-length.ensures)) _ _ c.put-heading.ensures
-
 pub returns-then-out-first : goal.returns-then-out-first
 returns-then-out-first c =
     let first-line : List ℕ = heading c.args.count in
@@ -41,12 +33,14 @@ returns-then-not-lines_fit c =
 pub slice_bounds-put_lines-count : goal.slice_bounds-put_lines-count
 slice_bounds-put_lines-count c =
     let first-line : List ℕ = heading c.args.count in
-    tail-start first-line c.args.out.now _ _ c.heading_length-first.ensures (headed c).1
+    let headed : (c.put_heading.result ≡ length first-line) × (c.put_heading.new.out ≡ written first-line c.args.out.now) = text-fits first-line c.args.out.now (omega (arith, c.if-out-first.false, c.heading_length-first.ensures)) _ _ c.put_heading.ensures in
+    tail-start first-line c.args.out.now _ _ c.heading_length-first.ensures headed.1
 
 pub slice_bounds-put_lines-start : goal.slice_bounds-put_lines-start
 slice_bounds-put_lines-start c =
     let first-line : List ℕ = heading c.args.count in
-    tail-start first-line c.args.out.now _ _ c.heading_length-first.ensures (headed c).1
+    let headed : (c.put_heading.result ≡ length first-line) × (c.put_heading.new.out ≡ written first-line c.args.out.now) = text-fits first-line c.args.out.now (omega (arith, c.if-out-first.false, c.heading_length-first.ensures)) _ _ c.put_heading.ensures in
+    tail-start first-line c.args.out.now _ _ c.heading_length-first.ensures headed.1
 
 pub put_lines-rest-requires : goal.put_lines-rest-requires
 put_lines-rest-requires c =
@@ -54,10 +48,11 @@ put_lines-rest-requires c =
     let lines : List ℕ = lines_of c.args.nations.now c.args.living.now (tags_read (selection_of c.args.selection.now)) in
     let fits : length (first-line ++ lines) ≤ length c.args.out.now = let l = leb-true (length lines) _ (sym c.lines_fit.ensures ∙ not-false _ c.if-not-lines_fit.false-raw) in
     omega (arith, l, c.if-out-first.false, c.heading_length-first.ensures, length-append first-line lines) in
+    let headed : (c.put_heading.result ≡ length first-line) × (c.put_heading.new.out ≡ written first-line c.args.out.now) = text-fits first-line c.args.out.now (omega (arith, c.if-out-first.false, c.heading_length-first.ensures)) _ _ c.put_heading.ensures in
     (
-      c.pre.0,
-      c.pre.1,
-      tail-room first-line c.args.out.now _ _ c.heading_length-first.ensures (headed c).1 lines fits,
+      c.requires.0,
+      c.requires.1,
+      tail-room first-line c.args.out.now _ _ c.heading_length-first.ensures headed.1 lines fits,
     )
 
 pub overflow_add-result : goal.overflow_add-result
@@ -66,7 +61,7 @@ overflow_add-result c =
     let lines : List ℕ = lines_of c.args.nations.now c.args.living.now (tags_read (selection_of c.args.selection.now)) in
     let fits : length (first-line ++ lines) ≤ length c.args.out.now = let l = leb-true (length lines) _ (sym c.lines_fit.ensures ∙ not-false _ c.if-not-lines_fit.false-raw) in
     omega (arith, l, c.if-out-first.false, c.heading_length-first.ensures, length-append first-line lines) in
-    omega (arith, c.put_lines-rest.ensures.0, c.heading_length-first.ensures, fits, c.well-formed.1.1.1.1.1.0.0, length-append first-line lines)
+    omega (arith, c.put_lines-rest.ensures.0, c.heading_length-first.ensures, fits, c.well_formed.1.1.1.1.1.0.0, length-append first-line lines)
 
 pub returns : goal.returns
 returns c =
@@ -74,6 +69,7 @@ returns c =
     let lines : List ℕ = lines_of c.args.nations.now c.args.living.now (tags_read (selection_of c.args.selection.now)) in
     let fits : length (first-line ++ lines) ≤ length c.args.out.now = let l = leb-true (length lines) _ (sym c.lines_fit.ensures ∙ not-false _ c.if-not-lines_fit.false-raw) in
     omega (arith, l, c.if-out-first.false, c.heading_length-first.ensures, length-append first-line lines) in
+    let headed : (c.put_heading.result ≡ length first-line) × (c.put_heading.new.out ≡ written first-line c.args.out.now) = text-fits first-line c.args.out.now (omega (arith, c.if-out-first.false, c.heading_length-first.ensures)) _ _ c.put_heading.ensures in
     lines-written (first-line ++ lines) c.args.out.now _ _ fits
     (omega (arith, c.put_lines-rest.ensures.0, c.heading_length-first.ensures, length-append first-line lines))
-    (then-written first-line c.args.out.now _ _ c.heading_length-first.ensures (headed c).1 lines _ c.put_lines-rest.ensures.1)
+    (then-written first-line c.args.out.now _ _ c.heading_length-first.ensures headed.1 lines _ c.put_lines-rest.ensures.1)

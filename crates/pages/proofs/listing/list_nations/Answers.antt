@@ -46,7 +46,7 @@ overflow_mul-n c =
     let left : NationCells = let m = c.nation_events.new.1 in
     nation_cells m.0 m.1.0 m.1.1.0 m.1.1.1.0 m.1.1.1.1.0 in
     let rows_told : record { answer = nations_answer (Events.TheVariants.Rows c.in-Rows.counts); memory = left } ≡ call_nation_events c.args.s.now lent = told c _ c.in-Rows.is in
-    omega (arith, (counts-short lent new _ c.pre.0 rows_told).0)
+    omega (arith, (counts-short lent new _ c.requires.0 rows_told).0)
 
 pub overflow_mul-m : goal.overflow_mul-m
 overflow_mul-m c =
@@ -61,7 +61,7 @@ overflow_mul-m c =
     let left : NationCells = let m = c.nation_events.new.1 in
     nation_cells m.0 m.1.0 m.1.1.0 m.1.1.1.0 m.1.1.1.1.0 in
     let rows_told : record { answer = nations_answer (Events.TheVariants.Rows c.in-Rows.counts); memory = left } ≡ call_nation_events c.args.s.now lent = told c _ c.in-Rows.is in
-    omega (arith, (counts-short lent new _ c.pre.0 rows_told).1)
+    omega (arith, (counts-short lent new _ c.requires.0 rows_told).1)
 
 pub slice_bounds-fill_living-end : goal.slice_bounds-fill_living-end
 slice_bounds-fill_living-end c =
@@ -76,7 +76,7 @@ slice_bounds-fill_living-end c =
     let left : NationCells = let m = c.nation_events.new.1 in
     nation_cells m.0 m.1.0 m.1.1.0 m.1.1.1.0 m.1.1.1.1.0 in
     let rows_told : record { answer = nations_answer (Events.TheVariants.Rows c.in-Rows.counts); memory = left } ≡ call_nation_events c.args.s.now lent = told c _ c.in-Rows.is in
-    nations-inside lent new _ c.pre.0 rows_told
+    nations-inside lent new _ c.requires.0 rows_told
 
 pub slice_bounds-fill_living-end-in-Rows : goal.slice_bounds-fill_living-end-in-Rows
 slice_bounds-fill_living-end-in-Rows c =
@@ -91,7 +91,7 @@ slice_bounds-fill_living-end-in-Rows c =
     let left : NationCells = let m = c.nation_events.new.1 in
     nation_cells m.0 m.1.0 m.1.1.0 m.1.1.1.0 m.1.1.1.1.0 in
     let rows_told : record { answer = nations_answer (Events.TheVariants.Rows c.in-Rows.counts); memory = left } ≡ call_nation_events c.args.s.now lent = told c _ c.in-Rows.is in
-    entries-inside lent new _ c.pre.0 rows_told
+    entries-inside lent new _ c.requires.0 rows_told
 
 pub fill_living-requires : goal.fill_living-requires
 fill_living-requires c =
@@ -106,8 +106,8 @@ fill_living-requires c =
     let left : NationCells = let m = c.nation_events.new.1 in
     nation_cells m.0 m.1.0 m.1.1.0 m.1.1.1.0 m.1.1.1.1.0 in
     let rows_told : record { answer = nations_answer (Events.TheVariants.Rows c.in-Rows.counts); memory = left } ≡ call_nation_events c.args.s.now lent = told c _ c.in-Rows.is in
-    let z = c.pre.0 in
-    fits-within (rows_few _ z (nation-front lent new _ z rows_told)) c.pre.2
+    let z = c.requires.0 in
+    fits-within (rows_few _ z (nation-front lent new _ z rows_told)) c.requires.2
 
 pub returns-in-Rows : goal.returns-in-Rows
 returns-in-Rows c =
@@ -122,7 +122,7 @@ returns-in-Rows c =
       changes = length-replicate {A = ℕ} 16000 0;
     } in
     let rows_told : record { answer = nations_answer (Events.TheVariants.Rows c.in-Rows.counts); memory = left } ≡ call_nation_events c.args.s.now lent = told c _ c.in-Rows.is in
-    let z = c.pre.0 in
+    let z = c.requires.0 in
     let nations = nation-front lent new _ z rows_told in
     let entries = entry-front lent new _ z rows_told in (
       nations-inside lent new _ z rows_told,
@@ -139,4 +139,4 @@ returns-in-Refused c =
       held = length-replicate {A = ℕ} 2000 0;
       changes = length-replicate {A = ℕ} 16000 0;
     } in
-    over lent new _ c.pre.0 (told c _ c.in-Refused.is)
+    over lent new _ c.requires.0 (told c _ c.in-Refused.is)

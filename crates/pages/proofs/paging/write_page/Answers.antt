@@ -13,12 +13,12 @@ returns-then-s-selection c = page-many _ _ _ (bytes-many _ _ c.if-s-selection.tr
 
 pub returns-then-number-ne0 : goal.returns-then-number-ne0
 returns-then-number-ne0 c =
-    let few : let a = c.args in bytes_number a.s.now a.selection.now ≡ 0 = bytes-few _ _ c.if-s-selection.false in
+    let few : bytes_number c.args.s.now c.args.selection.now ≡ 0 = bytes-few _ _ c.if-s-selection.false in
     page-bad _ _ _ few _ c.if-number-ne0.true c.check-number.ensures
 
 pub chronicle_page-requires : goal.chronicle_page-requires
 chronicle_page-requires c =
-    let few : let a = c.args in bytes_number a.s.now a.selection.now ≡ 0 = bytes-few _ _ c.if-s-selection.false in
+    let few : bytes_number c.args.s.now c.args.selection.now ≡ 0 = bytes-few _ _ c.if-s-selection.false in
     record {
       few = few;
       accepted = sym c.check-number.ensures ∙ c.if-number-ne0.false;
@@ -27,6 +27,6 @@ chronicle_page-requires c =
 
 pub returns-in-NotTags : goal.returns-in-NotTags
 returns-in-NotTags c =
-    let few : let a = c.args in bytes_number a.s.now a.selection.now ≡ 0 = bytes-few _ _ c.if-s-selection.false in
+    let few : bytes_number c.args.s.now c.args.selection.now ≡ 0 = bytes-few _ _ c.if-s-selection.false in
     page-no-tags _ _ _ few (sym c.check-number.ensures ∙ c.if-number-ne0.false)
     (tags-uncounted (selection_of c.args.selection.now) (sym (ap selection_told c.in-NotTags.is) ∙ c.read_selection.ensures))

@@ -12,14 +12,12 @@ returns-then-out-lt-PRINTED_BYTES c = print-short _ _ _ c.if-out-lt-PRINTED_BYTE
 
 pub returns-in-Readable : goal.returns-in-Readable
 returns-in-Readable c =
-    let a = c.args in
-    print-done _ a.selection.now a.out.now c.if-out-lt-PRINTED_BYTES.false _ _ c.print_record.ensures.0 c.print_record.ensures.1
-    ∙ ap (λ f. call_print (file_read f a.s.now) a.selection.now a.out.now) (sym c.in-Readable.is)
+    print-done _ c.args.selection.now c.args.out.now c.if-out-lt-PRINTED_BYTES.false _ _ c.print_record.ensures.0 c.print_record.ensures.1
+    ∙ ap (λ f. call_print (file_read f c.args.s.now) c.args.selection.now c.args.out.now) (sym c.in-Readable.is)
 
 pub returns-in-Unreadable : goal.returns-in-Unreadable
 returns-in-Unreadable c =
-    let a = c.args in
-    let unread = sym (prints-unread a.selection.now) in
-    print-done none a.selection.now a.out.now c.if-out-lt-PRINTED_BYTES.false _ _ (c.print_record-in-Unreadable.ensures.0 ∙ ap length unread)
-    (c.print_record-in-Unreadable.ensures.1 ∙ ap (λ t. written t a.out.now) unread)
-    ∙ ap (λ f. call_print (file_read f a.s.now) a.selection.now a.out.now) (sym c.in-Unreadable.is)
+    let unread = sym (prints-unread c.args.selection.now) in
+    print-done none c.args.selection.now c.args.out.now c.if-out-lt-PRINTED_BYTES.false _ _ (c.print_record-in-Unreadable.ensures.0 ∙ ap length unread)
+    (c.print_record-in-Unreadable.ensures.1 ∙ ap (λ t. written t c.args.out.now) unread)
+    ∙ ap (λ f. call_print (file_read f c.args.s.now) c.args.selection.now c.args.out.now) (sym c.in-Unreadable.is)

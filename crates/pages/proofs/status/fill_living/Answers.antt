@@ -13,21 +13,18 @@ loop-i-init c =
 
 pub bounds-cells-i : goal.bounds-cells-i
 bounds-cells-i c =
-    let l = c.loop-i in
-    filling-room _ _ _ _ _ l.invariant _ _ (numbered_next _ _ _ c.loop-i-test.true)
+    filling-room _ _ _ _ _ c.loop-i.invariant _ _ (numbered_next _ _ _ c.loop-i-test.true)
 
 pub overflow_add-i : goal.overflow_add-i
 overflow_add-i c =
-    omega (arith, c.loop-i-test.true, c.nation_count-n.ensures, c.requires, c.well-formed.1.1.0.0)
+    omega (arith, c.loop-i-test.true, c.nation_count-n.ensures, c.requires, c.well_formed.1.1.0.0)
 
 pub loop-i-preserved : goal.loop-i-preserved
 loop-i-preserved c =
-    let l = c.loop-i in
-    filling-put _ _ _ _ _ l.invariant _ _ (numbered_next _ _ _ c.loop-i-test.true) _
+    filling-put _ _ _ _ _ c.loop-i.invariant _ _ (numbered_next _ _ _ c.loop-i-test.true) _
     (c.is_living.ensures ∙ ap (λ r. is_living (nation_with c.args.entries.now r)) c.nation_at.ensures)
 
 pub returns : goal.returns
 returns c =
-    let l = c.loop-i in
     let n = c.nation_count-n.ensures in
-    living-filled _ _ _ _ _ _ n (filling-written _ _ _ _ _ l.invariant (numbered-none _ l.i c.nation_count-n.result (omega (arith, c.loop-i-test.false))))
+    living-filled _ _ _ _ _ _ n (filling-written _ _ _ _ _ c.loop-i.invariant (numbered-none _ c.loop-i.i c.nation_count-n.result (omega (arith, c.loop-i-test.false))))

@@ -7,21 +7,20 @@ use Rattle.players.specs.PlayerSteps.{players_left, player_told}
 use Rattle.players.proofs.PlayerLaws.{players-few}
 use Rattle.players.proofs.player_rows.count_players.Goals as goal
 
--- One player less is left.
-fewer : (c : tie.After-rest invariant-loop decreases-loop)
-    → length (players_left c.before.before.before.before.before.args.s.now c.before.before.before.before.before.args.multiplayer c.before.before.before.loop.at)
-    ≡ length (players_left c.before.before.before.before.before.args.s.now c.before.before.before.before.before.args.multiplayer c.rest.given.0.1.0) + 1
-fewer c = told-length (player_told _ _) c.before.before.next-player.ensures c.rest.given.1 refl
-
 pub overflow_add-n : goal.overflow_add-n
 overflow_add-n c =
-    omega (arith, c.loop-rest.invariant, fewer c, ap length c.requires.all, players-few _ c.requires.accepted)
+    let fewer : length (players_left c.args.s.now c.args.multiplayer c.loop-rest.at) ≡ length (players_left c.args.s.now c.args.multiplayer c.in-Row.rest) + 1 = told-length (player_told _ _) c.next_player.ensures c.in-Row.is refl in
+    omega (arith, c.loop-rest.invariant, fewer, ap length c.requires.all, players-few _ c.requires.accepted)
 
 pub loop-rest-smaller : goal.loop-rest-smaller
-loop-rest-smaller c = omega (arith, fewer c)
+loop-rest-smaller c =
+    let fewer : length (players_left c.args.s.now c.args.multiplayer c.loop-rest.at) ≡ length (players_left c.args.s.now c.args.multiplayer c.in-Row.rest) + 1 = told-length (player_told _ _) c.next_player.ensures c.in-Row.is refl in
+    omega (arith, fewer)
 
 pub loop-rest-preserved : goal.loop-rest-preserved
-loop-rest-preserved c = omega (arith, c.loop-rest.invariant, fewer c)
+loop-rest-preserved c =
+    let fewer : length (players_left c.args.s.now c.args.multiplayer c.loop-rest.at) ≡ length (players_left c.args.s.now c.args.multiplayer c.in-Row.rest) + 1 = told-length (player_told _ _) c.next_player.ensures c.in-Row.is refl in
+    omega (arith, c.loop-rest.invariant, fewer)
 
 pub returns-in-End : goal.returns-in-End
 returns-in-End c =

@@ -9,7 +9,7 @@ rows_of-requires c =
     walk-ready _ c.in-Accepted.rows told.0 told.1
 
 pub returns-in-Accepted : goal.returns-in-Accepted
-returns-in-Accepted c = c.rows_of_lem.ensures
+returns-in-Accepted c = c.rows_of.ensures
 
 pub returns-in-Refused : goal.returns-in-Refused
 returns-in-Refused c =

@@ -11,20 +11,14 @@ use Rattle.players.specs.PlayerSteps.{player_in, players_left, player_told}
 use Rattle.players.proofs.PlayerLaws.{length-player_rows, rows_next, rows_none, filling-full}
 use Rattle.players.proofs.player_rows.write_players.Goals as goal
 
--- The player that was told is the first of those left.
-more : (c : tie.After-player invariant-loop decreases-loop)
-    → players_left c.before.before.before.before.before.before.before.args.s.now c.before.before.before.before.before.before.before.args.multiplayer c.before.before.before.before.loop.at
-    ≡ player_in c.player.given.0.0 ∷ players_left c.before.before.before.before.before.before.before.args.s.now c.before.before.before.before.before.before.before.args.multiplayer c.player.given.0.1.0
-more c = told-row (player_told _ _) c.before.before.next-player.ensures c.player.given.1 refl
-
 pub loop-k-init : goal.loop-k-init
 loop-k-init c =
     writing-none _ _ (omega (arith, length-player_rows (players_left c.args.s.now c.args.multiplayer c.args.start), c.requires))
 
 pub put_player-requires : goal.put_player-requires
 put_player-requires c =
-    let room : c.loop-k.k + 2 ≤ length c.loop-k.out = let l = c.loop-k in
-    omega (arith, l.invariant.fits, l.invariant.long, length-player_rows (players_left c.args.s.now c.args.multiplayer l.at), ap length (more c)) in
+    let more : players_left c.args.s.now c.args.multiplayer c.loop-k.at ≡ player_in c.in-Row.player ∷ players_left c.args.s.now c.args.multiplayer c.in-Row.rest = told-row (player_told _ _) c.next_player.ensures c.in-Row.is refl in
+    let room : c.loop-k.k + 2 ≤ length c.loop-k.out = omega (arith, c.loop-k.invariant.fits, c.loop-k.invariant.long, length-player_rows (players_left c.args.s.now c.args.multiplayer c.loop-k.at), ap length more) in
     simp (length-take, length-drop) (omega (arith, room))
 
 pub returns-in-End : goal.returns-in-End
@@ -34,14 +28,12 @@ returns-in-End c =
 
 pub loop-k-preserved : goal.loop-k-preserved
 loop-k-preserved c =
-    let room : c.loop-k.k + 2 ≤ length c.loop-k.out = let l = c.loop-k in
-    omega (arith, l.invariant.fits, l.invariant.long, length-player_rows (players_left c.args.s.now c.args.multiplayer l.at), ap length (more c)) in
-    let l = c.loop-k in
+    let more : players_left c.args.s.now c.args.multiplayer c.loop-k.at ≡ player_in c.in-Row.player ∷ players_left c.args.s.now c.args.multiplayer c.in-Row.rest = told-row (player_told _ _) c.next_player.ensures c.in-Row.is refl in
+    let room : c.loop-k.k + 2 ≤ length c.loop-k.out = omega (arith, c.loop-k.invariant.fits, c.loop-k.invariant.long, length-player_rows (players_left c.args.s.now c.args.multiplayer c.loop-k.at), ap length more) in
     let row = player_words (player_in c.in-Row.player) in
-    let wrote = behind l.out row c.put_player.new.out l.k room c.put_player.ensures in
-    writing_more _ _ _ _ row l.out _ l.k (ap player_rows (more c) ∙ rows_next _ _) l.invariant wrote
+    let wrote = behind c.loop-k.out row c.put_player.new.out c.loop-k.k room c.put_player.ensures in
+    writing_more _ _ _ _ row c.loop-k.out _ c.loop-k.k (ap player_rows more ∙ rows_next _ _) c.loop-k.invariant wrote
 
 pub returns : goal.returns
 returns c =
-    let l = c.loop-k in
-    filling-written _ _ _ _ _ l.invariant (filling-full _ _ _ _ _ l.invariant (omega (arith, c.loop-k-test.false)))
+    filling-written _ _ _ _ _ c.loop-k.invariant (filling-full _ _ _ _ _ c.loop-k.invariant (omega (arith, c.loop-k-test.false)))

@@ -7,19 +7,17 @@ use Rattle.players.specs.PairSteps.{pair_of}
 use Rattle.players.proofs.PlayerLaws.{made-nobody, made_one, made_none}
 use Rattle.players.proofs.walk.made_of.Goals as goal
 
--- Whether the pair is skipped for its name.
-anonymous : (c : tie.After-is-nameless)
-    → c.is-nameless.result && not c.before.before.before.before.before.args.multiplayer
-    ≡ is_anonymous c.before.before.before.before.before.args.multiplayer (pair_of c.before.before.before.before.before.args.s.now c.before.before.before.before.before.args.pair)
-anonymous c = rw (c.is-nameless.ensures, c.before.bytes.ensures)
-
 pub returns-then-is_nameless-multiplayer : goal.returns-then-is_nameless-multiplayer
-returns-then-is_nameless-multiplayer c = made-nobody _ _ (sym (anonymous c) ∙ c.if-is_nameless-multiplayer.true)
+returns-then-is_nameless-multiplayer c =
+    let anonymous : c.is_nameless.result && not c.args.multiplayer ≡ is_anonymous c.args.multiplayer (pair_of c.args.s.now c.args.pair) = rw (c.is_nameless.ensures, c.bytes.ensures) in
+    made-nobody _ _ (sym anonymous ∙ c.if-is_nameless-multiplayer.true)
 
 pub returns-in-Tag : goal.returns-in-Tag
 returns-in-Tag c =
-    made_one _ _ (sym (anonymous c) ∙ c.if-is_nameless-multiplayer.false) (c.create.ensures ∙ ap created c.bytes-2.ensures) c.in-Tag.tag c.in-Tag.is
+    let anonymous : c.is_nameless.result && not c.args.multiplayer ≡ is_anonymous c.args.multiplayer (pair_of c.args.s.now c.args.pair) = rw (c.is_nameless.ensures, c.bytes.ensures) in
+    made_one _ _ (sym anonymous ∙ c.if-is_nameless-multiplayer.false) (c.create.ensures ∙ ap created c.bytes-2.ensures) c.in-Tag.tag c.in-Tag.is
 
 pub returns-in-NoTag : goal.returns-in-NoTag
 returns-in-NoTag c =
-    made_none _ _ (sym (anonymous c) ∙ c.if-is_nameless-multiplayer.false) (c.create.ensures ∙ ap created c.bytes-2.ensures) c.in-NoTag.is
+    let anonymous : c.is_nameless.result && not c.args.multiplayer ≡ is_anonymous c.args.multiplayer (pair_of c.args.s.now c.args.pair) = rw (c.is_nameless.ensures, c.bytes.ensures) in
+    made_none _ _ (sym anonymous ∙ c.if-is_nameless-multiplayer.false) (c.create.ensures ∙ ap created c.bytes-2.ensures) c.in-NoTag.is

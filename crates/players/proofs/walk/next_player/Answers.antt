@@ -10,26 +10,24 @@ use Rattle.players.specs.PlayerSteps.{made_of}
 use Rattle.players.proofs.PlayerLaws.{walk-player, walk-skip}
 use Rattle.players.proofs.walk.next_player.Goals as goal
 
--- The pair that was told is the first of those left.
-more : (c : tie.After-pair invariant-loop decreases-loop)
-    → pairs_left c.before.before.before.before.before.args.s.now c.before.before.before.loop.at
-    ≡ pair_of c.before.before.before.before.before.args.s.now c.pair.given.0.0 ∷ pairs_left c.before.before.before.before.before.args.s.now c.pair.given.0.1.0
-more c = told-row (pair_told _) c.before.before.next-pair.ensures c.pair.given.1 refl
-
 pub loop-pair-init : goal.loop-pair-init
 loop-pair-init c = refl
 
 pub returns-in-One : goal.returns-in-One
 returns-in-One c =
+    let more : pairs_left c.args.s.now c.loop-pair.at ≡ pair_of c.args.s.now c.in-Row.pair ∷ pairs_left c.args.s.now c.in-Row.rest = told-row (pair_told _) c.next_pair.ensures c.in-Row.is refl in
     c.loop-pair.invariant
-    ∙ walk-player _ _ _ _ _ (more c) c.made_of.ensures _ (ap made_of c.in-One.is)
+    ∙ walk-player _ _ _ _ _ more c.made_of.ensures _ (ap made_of c.in-One.is)
 
 pub loop-pair-smaller : goal.loop-pair-smaller
-loop-pair-smaller c = omega (arith, ap length (more c))
+loop-pair-smaller c =
+    let more : pairs_left c.args.s.now c.loop-pair.at ≡ pair_of c.args.s.now c.in-Row.pair ∷ pairs_left c.args.s.now c.in-Row.rest = told-row (pair_told _) c.next_pair.ensures c.in-Row.is refl in
+    omega (arith, ap length more)
 
 pub loop-pair-preserved : goal.loop-pair-preserved
 loop-pair-preserved c =
-    c.loop-pair.invariant ∙ walk-skip _ _ _ _ _ (more c) c.made_of.ensures (ap made_of c.in-Nobody.is)
+    let more : pairs_left c.args.s.now c.loop-pair.at ≡ pair_of c.args.s.now c.in-Row.pair ∷ pairs_left c.args.s.now c.in-Row.rest = told-row (pair_told _) c.next_pair.ensures c.in-Row.is refl in
+    c.loop-pair.invariant ∙ walk-skip _ _ _ _ _ more c.made_of.ensures (ap made_of c.in-Nobody.is)
 
 pub returns-in-End : goal.returns-in-End
 returns-in-End c =

@@ -7,15 +7,12 @@ use Rattle.questions.proofs.blocks.key_before.Goals as goal
 
 pub returns-then-i-eq0 : goal.returns-then-i-eq0
 returns-then-i-eq0 c =
-    let a = c.args in
-    λ s. looked-none a.tag a.date (record { 0 = 0 }) _ (lowest_key a.tag (record { 0 = 0 })) _ refl refl c.requires s (search rules)
+    λ s. looked-none c.args.tag c.args.date (record { 0 = 0 }) _ (lowest_key c.args.tag (record { 0 = 0 })) _ refl refl c.requires s (search rules)
 
 pub returns-then-key-lowest_key : goal.returns-then-key-lowest_key
 returns-then-key-lowest_key c =
-    let a = c.args in
-    λ s. looked-below a.tag a.date _ _ _ _ c.kept.ensures c.lowest_key.ensures.0 c.requires s (search rules) (search rules)
+    λ s. looked-below c.args.tag c.args.date _ _ _ _ c.kept.ensures c.lowest_key.ensures.0 c.requires s (search rules) (search rules)
 
 pub returns-else-key-lowest_key : goal.returns-else-key-lowest_key
 returns-else-key-lowest_key c =
-    let a = c.args in
-    λ s. looked-there a.tag a.date _ _ _ _ c.kept.ensures c.lowest_key.ensures.0 c.requires s (search rules) (search rules)
+    λ s. looked-there c.args.tag c.args.date _ _ _ _ c.kept.ensures c.lowest_key.ensures.0 c.requires s (search rules) (search rules)

@@ -4,7 +4,7 @@ use Rattle.questions.proofs.blocks.look_up_near.Goals as goal
 
 pub key_before-requires : goal.key_before-requires
 key_before-requires c =
-    let a = c.args in odd-upto a.tag a.date _ _ _ c.lowest_key.ensures.0 c.count_near-i.ensures
+    odd-upto c.args.tag c.args.date _ _ _ c.lowest_key.ensures.0 c.count_near-i.ensures
 
 pub returns : goal.returns
 returns c = c.key_before.ensures

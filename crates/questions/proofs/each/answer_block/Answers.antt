@@ -11,12 +11,11 @@ loop-i-init c = (search rules, passing-start _ _)
 
 pub loop-i-preserved : goal.loop-i-preserved
 loop-i-preserved c =
-    let l = c.loop-i in
-    let a = c.args in (
+    (
       search rules,
-      passing-put _ _ _ _ l.invariant.1 _ _ _ c.put_words.ensures (omega (arith, c.requires.0, c.question_count-n.ensures, c.loop-i-test.true))
-          (block-row a.questions.now a.keys.now a.owners.now a.out.now l.i _ _ _ _ _ c.updated_row-row.ensures (c.look_up_near-looked.ensures c.requires.1) c.question_at-q.ensures
-          (first-still _ _ _ _ l.invariant.1) (second-still _ _ _ _ l.invariant.1)),
+      passing-put _ _ _ _ c.loop-i.invariant.1 _ _ _ c.put_words.ensures (omega (arith, c.requires.0, c.question_count-n.ensures, c.loop-i-test.true))
+          (block-row c.args.questions.now c.args.keys.now c.args.owners.now c.args.out.now c.loop-i.i _ _ _ _ _ c.updated_row-row.ensures (c.look_up_near-looked.ensures c.requires.1) c.question_at-q.ensures
+          (first-still _ _ _ _ c.loop-i.invariant.1) (second-still _ _ _ _ c.loop-i.invariant.1)),
     )
 
 pub shape_of-out : goal.shape_of-out
@@ -24,6 +23,5 @@ shape_of-out c = c.loop-i.invariant.1.long
 
 pub returns : goal.returns
 returns c =
-    let a = c.args in
-    passing-done (block_row a.questions.now a.keys.now a.owners.now a.out.now) a.out.now c.loop-i.i (length (questions_in a.questions.now)) _ c.loop-i.invariant.1
+    passing-done (block_row c.args.questions.now c.args.keys.now c.args.owners.now c.args.out.now) c.args.out.now c.loop-i.i (length (questions_in c.args.questions.now)) _ c.loop-i.invariant.1
     (search rules) (search rules)

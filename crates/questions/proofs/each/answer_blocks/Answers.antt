@@ -21,11 +21,10 @@ shape_of-out-then-taken-eq0 c =
 
 pub returns-then-taken-eq0 : goal.returns-then-taken-eq0
 returns-then-taken-eq0 c =
-    let a = c.args in
-    rows-over a.questions.now (claims_in a.nations.now a.entries.now) (length (questions_in a.questions.now)) a.out.now _ _
+    rows-over c.args.questions.now (claims_in c.args.nations.now c.args.entries.now) (length (questions_in c.args.questions.now)) c.args.out.now _ _
     (rw c.question_count.ensures at c.clear_rows.ensures)
     (block_last _ _ _ _ _ _ _ _ _ c.loop-keys.invariant
-    (nothing_left _ _ _ _ _ _ _ _ _ _ c.sort_block-block.ensures (omega (arith, c.loop-keys.invariant.keys-long, c.loop-keys.invariant.owners-long)) (search rules)))
+    (nothing_left _ _ _ _ _ _ _ _ _ _ c.sort_block-block.ensures (omega (arith, c.loop-keys.invariant.keys_long, c.loop-keys.invariant.owners_long)) (search rules)))
 
 pub slice_bounds-answer_block-end : goal.slice_bounds-answer_block-end
 slice_bounds-answer_block-end c =
@@ -44,7 +43,6 @@ loop-keys-smaller c =
 
 pub loop-keys-preserved : goal.loop-keys-preserved
 loop-keys-preserved c =
-    let answered = c.answer_block in
     let kept = c.sort_block-block.auto.1.1.1 in
-    between_next _ _ _ _ _ _ _ _ _ c.loop-keys.invariant _ _ _ _ _ _ c.requires.shaped c.requires.good c.sort_block-block.ensures answered.ensures
-    answered.auto.1.1.1.0 kept.0 kept.1.0 kept.1.1.0
+    between_next _ _ _ _ _ _ _ _ _ c.loop-keys.invariant _ _ _ _ _ _ c.requires.shaped c.requires.good c.sort_block-block.ensures c.answer_block.ensures
+    c.answer_block.auto.out kept.0 kept.1.0 kept.1.1.0

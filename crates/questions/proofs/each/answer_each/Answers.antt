@@ -11,11 +11,10 @@ loop-i-init c = (search rules, passing-start _ _)
 
 pub loop-i-preserved : goal.loop-i-preserved
 loop-i-preserved c =
-    let l = c.loop-i in
-    let a = c.args in (
+    (
       search rules,
-      passing-put _ _ _ _ l.invariant.1 _ _ _ c.put_words.ensures (omega (arith, c.requires, c.question_count-n.ensures, c.loop-i-test.true))
-          (claim-row a.nations.now a.entries.now a.questions.now l.i _ _ _ c.answer_row.ensures c.best_claim.ensures c.question_at-q.ensures),
+      passing-put _ _ _ _ c.loop-i.invariant.1 _ _ _ c.put_words.ensures (omega (arith, c.requires, c.question_count-n.ensures, c.loop-i-test.true))
+          (claim-row c.args.nations.now c.args.entries.now c.args.questions.now c.loop-i.i _ _ _ c.answer_row.ensures c.best_claim.ensures c.question_at-q.ensures),
     )
 
 pub shape_of-out : goal.shape_of-out
@@ -23,6 +22,5 @@ shape_of-out c = c.loop-i.invariant.1.long
 
 pub returns : goal.returns
 returns c =
-    let a = c.args in
-    passing-done (claim_row a.nations.now a.entries.now a.questions.now) a.out.now c.loop-i.i (length (questions_in a.questions.now)) _ c.loop-i.invariant.1
+    passing-done (claim_row c.args.nations.now c.args.entries.now c.args.questions.now) c.args.out.now c.loop-i.i (length (questions_in c.args.questions.now)) _ c.loop-i.invariant.1
     (search rules) (search rules)

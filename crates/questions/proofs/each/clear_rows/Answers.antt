@@ -9,13 +9,11 @@ loop-i-init c = (search rules, passing-start blank_row _)
 
 pub loop-i-preserved : goal.loop-i-preserved
 loop-i-preserved c =
-    let l = c.loop-i in
-    (search rules, passing-put blank_row _ _ _ l.invariant.1 0 0 _ c.put_words.ensures (search rules) refl)
+    (search rules, passing-put blank_row _ _ _ c.loop-i.invariant.1 0 0 _ c.put_words.ensures (search rules) refl)
 
 pub shape_of-out : goal.shape_of-out
 shape_of-out c = c.loop-i.invariant.1.long
 
 pub returns : goal.returns
 returns c =
-    let a = c.args in
-    passing-done blank_row a.out.now c.loop-i.i a.n _ c.loop-i.invariant.1 (search rules) (search rules)
+    passing-done blank_row c.args.out.now c.loop-i.i c.args.n _ c.loop-i.invariant.1 (search rules) (search rules)

@@ -8,11 +8,10 @@ loop-i-init c = (search rules, passing-start _ _)
 
 pub loop-i-preserved : goal.loop-i-preserved
 loop-i-preserved c =
-    let l = c.loop-i in
-    let a = c.args in (
+    (
       search rules,
-      passing-put _ _ _ _ l.invariant.1 _ _ _ c.put_words.ensures (search rules)
-          (finished-row a.nations.now a.out.now l.i _ _ c.finished_row.ensures (second-still _ _ _ _ l.invariant.1)),
+      passing-put _ _ _ _ c.loop-i.invariant.1 _ _ _ c.put_words.ensures (search rules)
+          (finished-row c.args.nations.now c.args.out.now c.loop-i.i _ _ c.finished_row.ensures (second-still _ _ _ _ c.loop-i.invariant.1)),
     )
 
 pub shape_of-out : goal.shape_of-out
@@ -20,5 +19,4 @@ shape_of-out c = c.loop-i.invariant.1.long
 
 pub returns : goal.returns
 returns c =
-    let a = c.args in
-    passing-done (finished_row a.nations.now a.out.now) a.out.now c.loop-i.i a.n _ c.loop-i.invariant.1 (search rules) (search rules)
+    passing-done (finished_row c.args.nations.now c.args.out.now) c.args.out.now c.loop-i.i c.args.n _ c.loop-i.invariant.1 (search rules) (search rules)

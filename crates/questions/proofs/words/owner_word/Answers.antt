@@ -7,5 +7,4 @@ use Rattle.questions.proofs.words.owner_word.Goals as goal
 
 pub returns : goal.returns
 returns c =
-    let a = c.args in
-    no-owner a.owners.now (a.key % claim_numbers) (search rules)
+    no-owner c.args.owners.now (c.args.key % claim_numbers) (search rules)

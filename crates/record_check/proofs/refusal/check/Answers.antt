@@ -5,7 +5,7 @@ use borrow.Author.Tests.{not-true, not-false}
 use lib.Dec.{eqb}
 use Rattle.format.proofs.FirstLaws.{first-stop}
 use Rattle.format.specs.Refusal.{first_of, sizes_agree, fields_number, repeats_number, order_number, refusal}
-use mathlib.Core.List.{◌∷◌}
+use mathlib.Core.List.{[], ◌∷◌}
 use Rattle.format.specs.declared.head.Head.{Head}
 use Rattle.format.specs.Laid.{Laid}
 use Rattle.format.specs.Dates.{earlier}
@@ -26,19 +26,17 @@ returns-then-not-opens_record c = simp (sym c.opens_record.ensures ∙ not-true 
 pub returns-then-not-version_known : goal.returns-then-not-version_known
 unfolding refusal first_of
 returns-then-not-version_known c =
-    let head = c.read_head-h in
     simp (
       sym c.opens_record.ensures ∙ not-false _ c.if-not-opens_record.false-raw,
-      sym (ap versioned head.ensures) ∙ sym c.version_known.ensures ∙ not-true _ c.if-not-version_known.true-raw,
+      sym (ap versioned c.read_head-h.ensures) ∙ sym c.version_known.ensures ∙ not-true _ c.if-not-version_known.true-raw,
     )
 
 pub returns-then-not-sizes_agree : goal.returns-then-not-sizes_agree
 unfolding refusal first_of
 returns-then-not-sizes_agree c =
-    let head = c.read_head-h in
     simp (
       sym c.opens_record.ensures ∙ not-false _ c.if-not-opens_record.false-raw,
-      sym (ap versioned head.ensures) ∙ sym c.version_known.ensures ∙ not-false _ c.if-not-version_known.false-raw,
+      sym (ap versioned c.read_head-h.ensures) ∙ sym c.version_known.ensures ∙ not-false _ c.if-not-version_known.false-raw,
       sym c.sizes_agree.ensures ∙ not-true _ c.if-not-sizes_agree.true-raw,
     )
 
@@ -47,11 +45,10 @@ unfolding refusal first_of
 returns-then-field-ne0 c =
     let agreed : sizes_agree c.args.s.now ≡ true = sym c.sizes_agree.ensures ∙ not-false _ c.if-not-sizes_agree.false-raw in
     let fields_told : c.fields_number-field.result ≡ fields_number c.args.s.now = c.fields_number-field.ensures agreed in
-    let head = c.read_head-h in
     let xs = c.args.s.now in
     simp (
       sym c.opens_record.ensures ∙ not-false _ c.if-not-opens_record.false-raw,
-      sym (ap versioned head.ensures) ∙ sym c.version_known.ensures ∙ not-false _ c.if-not-version_known.false-raw,
+      sym (ap versioned c.read_head-h.ensures) ∙ sym c.version_known.ensures ∙ not-false _ c.if-not-version_known.false-raw,
       sym c.sizes_agree.ensures ∙ not-false _ c.if-not-sizes_agree.false-raw,
     )
     (fields_told
@@ -72,10 +69,9 @@ unfolding refusal first_of
 returns-then-repeated c =
     let agreed : sizes_agree c.args.s.now ≡ true = sym c.sizes_agree.ensures ∙ not-false _ c.if-not-sizes_agree.false-raw in
     let fields_told : c.fields_number-field.result ≡ fields_number c.args.s.now = c.fields_number-field.ensures agreed in
-    let head = c.read_head-h in
     simp (
       sym c.opens_record.ensures ∙ not-false _ c.if-not-opens_record.false-raw,
-      sym (ap versioned head.ensures) ∙ sym c.version_known.ensures ∙ not-false _ c.if-not-version_known.false-raw,
+      sym (ap versioned c.read_head-h.ensures) ∙ sym c.version_known.ensures ∙ not-false _ c.if-not-version_known.false-raw,
       sym c.sizes_agree.ensures ∙ not-false _ c.if-not-sizes_agree.false-raw,
       sym fields_told ∙ c.if-field-ne0.false,
       sym c.repeated.ensures ∙ c.if-repeated.true,
@@ -86,14 +82,13 @@ unfolding refusal first_of
 returns-then-ends_early c =
     let agreed : sizes_agree c.args.s.now ≡ true = sym c.sizes_agree.ensures ∙ not-false _ c.if-not-sizes_agree.false-raw in
     let fields_told : c.fields_number-field.result ≡ fields_number c.args.s.now = c.fields_number-field.ensures agreed in
-    let head = c.read_head-h in
     simp (
       sym c.opens_record.ensures ∙ not-false _ c.if-not-opens_record.false-raw,
-      sym (ap versioned head.ensures) ∙ sym c.version_known.ensures ∙ not-false _ c.if-not-version_known.false-raw,
+      sym (ap versioned c.read_head-h.ensures) ∙ sym c.version_known.ensures ∙ not-false _ c.if-not-version_known.false-raw,
       sym c.sizes_agree.ensures ∙ not-false _ c.if-not-sizes_agree.false-raw,
       sym fields_told ∙ c.if-field-ne0.false,
       sym c.repeated.ensures ∙ c.if-repeated.false,
-      sym (ap turned head.ensures) ∙ sym c.ends_early.ensures ∙ c.if-ends_early.true,
+      sym (ap turned c.read_head-h.ensures) ∙ sym c.ends_early.ensures ∙ c.if-ends_early.true,
     )
 
 pub returns-else-ends_early : goal.returns-else-ends_early
@@ -101,12 +96,11 @@ unfolding refusal first_of
 returns-else-ends_early c =
     let agreed : sizes_agree c.args.s.now ≡ true = sym c.sizes_agree.ensures ∙ not-false _ c.if-not-sizes_agree.false-raw in
     let fields_told : c.fields_number-field.result ≡ fields_number c.args.s.now = c.fields_number-field.ensures agreed in
-    let head = c.read_head-h in
     simp (
       sym c.opens_record.ensures ∙ not-false _ c.if-not-opens_record.false-raw,
-      sym (ap versioned head.ensures) ∙ sym c.version_known.ensures ∙ not-false _ c.if-not-version_known.false-raw,
+      sym (ap versioned c.read_head-h.ensures) ∙ sym c.version_known.ensures ∙ not-false _ c.if-not-version_known.false-raw,
       sym c.sizes_agree.ensures ∙ not-false _ c.if-not-sizes_agree.false-raw,
       sym fields_told ∙ c.if-field-ne0.false,
       sym c.repeated.ensures ∙ c.if-repeated.false,
-      sym (ap turned head.ensures) ∙ sym c.ends_early.ensures ∙ c.if-ends_early.false,
+      sym (ap turned c.read_head-h.ensures) ∙ sym c.ends_early.ensures ∙ c.if-ends_early.false,
     )

@@ -17,56 +17,47 @@ use Rattle.record_check.proofs.repeats.id_twice_or_above.Goals as goal
 
 pub loop-left-init : goal.loop-left-init
 loop-left-init c =
-    let g = c.args in
-    let rows = rows_at (λ (x : ℕ). (id_at g.s.now x).0) 7 g.s.now g.at g.n in
-    (search rules, refl, ap (λ r. r || any_of (ltb g.n) rows) (repeats-start (id_seen (replicate 8192 false)) (λ y. blank false 8192 y) rows))
+    let rows = rows_at (λ (x : ℕ). (id_at c.args.s.now x).0) 7 c.args.s.now c.args.at c.args.n in
+    (search rules, refl, ap (λ r. r || any_of (ltb c.args.n) rows) (repeats-start (id_seen (replicate 8192 false)) (λ y. blank false 8192 y) rows))
 
 pub returns-then-n-id : goal.returns-then-n-id
 unfolding id_at
 returns-then-n-id c =
-    let l = c.loop-left in
-    let g = c.args in
-    let rows = rows_at (λ (x : ℕ). (id_at g.s.now x).0) 7 g.s.now l.a l.left in
-    let above = sym (ap (ltb g.n) c.u16_at-id.ensures.same) ∙ lt-ltb _ _ c.if-n-id.true in
-    sym (ap (λ x. repeats (id_seen l.seen) rows || x) (rows_above (λ (x : ℕ). (id_at g.s.now x).0) 7 g.s.now l.a l.left c.loop-left-test.true (omega arith) g.n above)
-    ∙ or-true (repeats (id_seen l.seen) rows))
-    ∙ l.invariant.2
+    let rows = rows_at (λ (x : ℕ). (id_at c.args.s.now x).0) 7 c.args.s.now c.loop-left.a c.loop-left.left in
+    let above = sym (ap (ltb c.args.n) c.u16_at-id.ensures.same) ∙ lt-ltb _ _ c.if-n-id.true in
+    sym (ap (λ x. repeats (id_seen c.loop-left.seen) rows || x) (rows_above (λ (x : ℕ). (id_at c.args.s.now x).0) 7 c.args.s.now c.loop-left.a c.loop-left.left c.loop-left-test.true (omega arith) c.args.n above)
+    ∙ or-true (repeats (id_seen c.loop-left.seen) rows))
+    ∙ c.loop-left.invariant.2
 
 pub returns-then-seen-id : goal.returns-then-seen-id
 unfolding id_at
 returns-then-seen-id c =
-    let l = c.loop-left in
-    let g = c.args in
-    let rows = rows_at (λ (x : ℕ). (id_at g.s.now x).0) 7 g.s.now l.a l.left in
-    let hit = ap (id_seen l.seen) (sym c.u16_at-id.ensures.same) ∙ c.if-seen-id.true in
-    sym (ap (λ x. x || any_of (ltb g.n) rows) (rows-hit (λ (x : ℕ). (id_at g.s.now x).0) 7 g.s.now l.a l.left c.loop-left-test.true (omega arith) (id_seen l.seen) hit))
-    ∙ l.invariant.2
+    let rows = rows_at (λ (x : ℕ). (id_at c.args.s.now x).0) 7 c.args.s.now c.loop-left.a c.loop-left.left in
+    let hit = ap (id_seen c.loop-left.seen) (sym c.u16_at-id.ensures.same) ∙ c.if-seen-id.true in
+    sym (ap (λ x. x || any_of (ltb c.args.n) rows) (rows-hit (λ (x : ℕ). (id_at c.args.s.now x).0) 7 c.args.s.now c.loop-left.a c.loop-left.left c.loop-left-test.true (omega arith) (id_seen c.loop-left.seen) hit))
+    ∙ c.loop-left.invariant.2
 
 pub loop-left-preserved : goal.loop-left-preserved
 unfolding id_at
 loop-left-preserved c =
-    let l = c.loop-left in
-    let g = c.args in
     let some = c.loop-left-test.true in
-    let inside : l.a + 7 ≤ length g.s.now = omega arith in
+    let inside : c.loop-left.a + 7 ≤ length c.args.s.now = omega arith in
     let id = c.u16_at-id.ensures.same in
-    let above = sym (ap (ltb g.n) id) ∙ le-ltb _ _ c.if-n-id.false in
-    let miss = ap (id_seen l.seen) (sym id) ∙ c.if-seen-id.false in
-    let small : (id_at g.s.now l.a).0 < length l.seen = omega (arith, id) in
-    let rest = rows_at (λ (x : ℕ). (id_at g.s.now x).0) 7 g.s.now (l.a + 7) (l.left - 1) in (
+    let above = sym (ap (ltb c.args.n) id) ∙ le-ltb _ _ c.if-n-id.false in
+    let miss = ap (id_seen c.loop-left.seen) (sym id) ∙ c.if-seen-id.false in
+    let small : (id_at c.args.s.now c.loop-left.a).0 < length c.loop-left.seen = omega (arith, id) in
+    let rest = rows_at (λ (x : ℕ). (id_at c.args.s.now x).0) 7 c.args.s.now (c.loop-left.a + 7) (c.loop-left.left - 1) in (
       omega arith,
-      simp length-set l.invariant.1,
-      ap (λ (k : ℕ). repeats (id_seen (set l.seen k true)) rest || any_of (ltb g.n) rest) id
-          ∙ ap₂ ◌||◌ (sym (id-marked (λ (x : ℕ). (id_at g.s.now x).0) 7 g.s.now l.a l.left some inside l.seen small miss))
-          (sym (rows-not-above (λ (x : ℕ). (id_at g.s.now x).0) 7 g.s.now l.a l.left some inside g.n above))
-          ∙ l.invariant.2,
+      simp length-set c.loop-left.invariant.1,
+      ap (λ (k : ℕ). repeats (id_seen (set c.loop-left.seen k true)) rest || any_of (ltb c.args.n) rest) id
+          ∙ ap₂ ◌||◌ (sym (id-marked (λ (x : ℕ). (id_at c.args.s.now x).0) 7 c.args.s.now c.loop-left.a c.loop-left.left some inside c.loop-left.seen small miss))
+          (sym (rows-not-above (λ (x : ℕ). (id_at c.args.s.now x).0) 7 c.args.s.now c.loop-left.a c.loop-left.left some inside c.args.n above))
+          ∙ c.loop-left.invariant.2,
     )
 
 pub returns : goal.returns
 returns c =
-    let l = c.loop-left in
-    let g = c.args in
-    let none : l.left ≡ 0 = omega arith in
-    let nothing = rows_none (λ (x : ℕ). (id_at g.s.now x).0) 7 g.s.now l.a in
-    let end = ap₂ ◌||◌ (ap (repeats (id_seen l.seen)) nothing ∙ repeats-nil (id_seen l.seen)) (ap (any_of (ltb g.n)) nothing) in
-    sym end ∙ (rw none at l.invariant.2)
+    let none : c.loop-left.left ≡ 0 = omega arith in
+    let nothing = rows_none (λ (x : ℕ). (id_at c.args.s.now x).0) 7 c.args.s.now c.loop-left.a in
+    let end = ap₂ ◌||◌ (ap (repeats (id_seen c.loop-left.seen)) nothing ∙ repeats-nil (id_seen c.loop-left.seen)) (ap (any_of (ltb c.args.n)) nothing) in
+    sym end ∙ (rw none at c.loop-left.invariant.2)

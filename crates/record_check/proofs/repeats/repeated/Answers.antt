@@ -10,9 +10,8 @@ use Rattle.record_check.proofs.repeats.repeated.Goals as goal
 
 pub tag_twice-requires : goal.tag_twice-requires
 tag_twice-requires c =
-    let g = c.args in
     let i = c.requires.0.inside in
-    let rows = ap (λ h. first_in country_number (rows_at (country_at g.s.now) 12 g.s.now 44 h.countries)) c.requires.0.head in record { n_in_bounds = omega arith; n_value = countries-good g.s.now 44 g.h.countries (rows ∙ c.requires.1) }
+    let rows = ap (λ h. first_in country_number (rows_at (country_at c.args.s.now) 12 c.args.s.now 44 h.countries)) c.requires.0.head in record { n_in_bounds = omega arith; n_value = countries-good c.args.s.now 44 c.args.h.countries (rows ∙ c.requires.1) }
 
 pub id_twice_or_above-requires : goal.id_twice_or_above-requires
 id_twice_or_above-requires c =
@@ -23,6 +22,5 @@ id_twice_or_above-requires c =
 
 pub returns : goal.returns
 returns c =
-    let g = c.args in
-    ap₂ ◌||◌ (c.tag_twice.ensures ∙ tag-twice-told g.s.now g.h c.requires.0.head)
-    (c.id_twice_or_above.ensures ∙ id-twice-told g.s.now g.h _ c.requires.0.head c.provinces_at.ensures)
+    ap₂ ◌||◌ (c.tag_twice.ensures ∙ tag-twice-told c.args.s.now c.args.h c.requires.0.head)
+    (c.id_twice_or_above.ensures ∙ id-twice-told c.args.s.now c.args.h _ c.requires.0.head c.provinces_at.ensures)

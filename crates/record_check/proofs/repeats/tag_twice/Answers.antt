@@ -15,8 +15,7 @@ use Rattle.record_check.proofs.repeats.tag_twice.Goals as goal
 
 pub returns-then-n-eq0 : goal.returns-then-n-eq0
 returns-then-n-eq0 c =
-    let g = c.args in
-    sym (ap (λ (k : ℕ). twice (rows_at (λ (x : ℕ). (tag_at g.s.now x).0) 12 g.s.now g.at k)) c.if-n-eq0.true ∙ ap twice (rows_none (λ (x : ℕ). (tag_at g.s.now x).0) 12 g.s.now g.at))
+    sym (ap (λ (k : ℕ). twice (rows_at (λ (x : ℕ). (tag_at c.args.s.now x).0) 12 c.args.s.now c.args.at k)) c.if-n-eq0.true ∙ ap twice (rows_none (λ (x : ℕ). (tag_at c.args.s.now x).0) 12 c.args.s.now c.args.at))
 
 pub loop-left-init : goal.loop-left-init
 loop-left-init c =
@@ -24,33 +23,27 @@ loop-left-init c =
 
 pub returns-then-marked : goal.returns-then-marked
 returns-then-marked c =
-    let l = c.loop-left in
-    let g = c.args in
     let at = c.place-p.ensures ∙ ap (λ t. place_of t.0) c.tag_at.ensures in
-    let hit = ap (is_marked l.seen) (sym at) ∙ sym c.marked.ensures ∙ c.if-marked.true in
-    sym (rows-hit (λ (x : ℕ). (tag_at g.s.now x).0) 12 g.s.now l.a l.left c.loop-left-test.true (omega arith) (tag_seen l.seen) hit) ∙ l.invariant.3
+    let hit = ap (is_marked c.loop-left.seen) (sym at) ∙ sym c.marked.ensures ∙ c.if-marked.true in
+    sym (rows-hit (λ (x : ℕ). (tag_at c.args.s.now x).0) 12 c.args.s.now c.loop-left.a c.loop-left.left c.loop-left-test.true (omega arith) (tag_seen c.loop-left.seen) hit) ∙ c.loop-left.invariant.3
 
 pub loop-left-preserved : goal.loop-left-preserved
 loop-left-preserved c =
-    let l = c.loop-left in
-    let g = c.args in
     let some = c.loop-left-test.true in
-    let inside : l.a + 12 ≤ length g.s.now = omega arith in
+    let inside : c.loop-left.a + 12 ≤ length c.args.s.now = omega arith in
     let at = c.place-p.ensures ∙ ap (λ t. place_of t.0) c.tag_at.ensures in
-    let miss = ap (is_marked l.seen) (sym at) ∙ sym c.marked.ensures ∙ c.if-marked.false in
-    let told = c.mark.ensures ∙ ap (marking l.seen) at in (
+    let miss = ap (is_marked c.loop-left.seen) (sym at) ∙ sym c.marked.ensures ∙ c.if-marked.false in
+    let told = c.mark.ensures ∙ ap (marking c.loop-left.seen) at in (
       omega arith,
-      ap length told ∙ length-marking l.seen _ ∙ l.invariant.1,
-      (rows-good (λ (x : ℕ). (tag_at g.s.now x).0) 12 g.s.now l.a l.left some inside l.invariant.2).1,
-      ap (λ seen. repeats (tag_seen seen) (rows_at (λ (x : ℕ). (tag_at g.s.now x).0) 12 g.s.now (l.a + 12) (l.left - 1))) told
-          ∙ sym (tag-marked (λ (x : ℕ). (tag_at g.s.now x).0) 12 g.s.now l.a l.left some inside l.seen l.invariant.1 l.invariant.2 miss)
-          ∙ l.invariant.3,
+      ap length told ∙ length-marking c.loop-left.seen _ ∙ c.loop-left.invariant.1,
+      (rows-good (λ (x : ℕ). (tag_at c.args.s.now x).0) 12 c.args.s.now c.loop-left.a c.loop-left.left some inside c.loop-left.invariant.2).1,
+      ap (λ seen. repeats (tag_seen seen) (rows_at (λ (x : ℕ). (tag_at c.args.s.now x).0) 12 c.args.s.now (c.loop-left.a + 12) (c.loop-left.left - 1))) told
+          ∙ sym (tag-marked (λ (x : ℕ). (tag_at c.args.s.now x).0) 12 c.args.s.now c.loop-left.a c.loop-left.left some inside c.loop-left.seen c.loop-left.invariant.1 c.loop-left.invariant.2 miss)
+          ∙ c.loop-left.invariant.3,
     )
 
 pub returns : goal.returns
 returns c =
-    let l = c.loop-left in
-    let g = c.args in
-    let none : l.left ≡ 0 = omega arith in
-    let end = ap (repeats (tag_seen l.seen)) (rows_none (λ (x : ℕ). (tag_at g.s.now x).0) 12 g.s.now l.a) ∙ repeats-nil (tag_seen l.seen) in
-    sym end ∙ (rw none at l.invariant.3)
+    let none : c.loop-left.left ≡ 0 = omega arith in
+    let end = ap (repeats (tag_seen c.loop-left.seen)) (rows_none (λ (x : ℕ). (tag_at c.args.s.now x).0) 12 c.args.s.now c.loop-left.a) ∙ repeats-nil (tag_seen c.loop-left.seen) in
+    sym end ∙ (rw none at c.loop-left.invariant.3)

@@ -20,7 +20,6 @@ total-requires c =
 pub returns : goal.returns
 unfolding province_at
 returns c =
-    let g = c.args in
     c.total.ensures
-    ∙ sym (sum-rows-same (λ (r : PackedProvince). r.events) (province_at g.s.now) (λ (x : ℕ). le16 g.s.now (x + 5)) 7 g.s.now (λ (a : ℕ). refl) _ _)
-    ∙ section-told (sum_of (λ (r : PackedProvince). r.events)) (province_at g.s.now) 7 g.s.now (λ h. provinces_at h) (λ h. h.provinces) g.h _ c.requires.head c.provinces_at.ensures
+    ∙ sym (sum-rows-same (λ (r : PackedProvince). r.events) (province_at c.args.s.now) (λ (x : ℕ). le16 c.args.s.now (x + 5)) 7 c.args.s.now (λ (a : ℕ). refl) _ _)
+    ∙ section-told (sum_of (λ (r : PackedProvince). r.events)) (province_at c.args.s.now) 7 c.args.s.now (λ h. provinces_at h) (λ h. h.provinces) c.args.h _ c.requires.head c.provinces_at.ensures

@@ -20,7 +20,6 @@ total-requires c =
 pub returns : goal.returns
 unfolding ledger_at
 returns c =
-    let g = c.args in
     c.total.ensures
-    ∙ sym (sum-rows-same (λ (r : PackedLedger). r.points) (ledger_at g.s.now) (λ (x : ℕ). le16 g.s.now (x + 3)) 5 g.s.now (λ (a : ℕ). refl) _ _)
-    ∙ section-told (sum_of (λ (r : PackedLedger). r.points)) (ledger_at g.s.now) 5 g.s.now (λ h. ledgers_at h) (λ h. h.ledgers) g.h _ c.requires.head c.ledgers_at.ensures
+    ∙ sym (sum-rows-same (λ (r : PackedLedger). r.points) (ledger_at c.args.s.now) (λ (x : ℕ). le16 c.args.s.now (x + 3)) 5 c.args.s.now (λ (a : ℕ). refl) _ _)
+    ∙ section-told (sum_of (λ (r : PackedLedger). r.points)) (ledger_at c.args.s.now) 5 c.args.s.now (λ h. ledgers_at h) (λ h. h.ledgers) c.args.h _ c.requires.head c.ledgers_at.ensures

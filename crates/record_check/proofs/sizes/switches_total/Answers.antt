@@ -20,7 +20,6 @@ total-requires c =
 pub returns : goal.returns
 unfolding country_at
 returns c =
-    let g = c.args in
     c.total.ensures
-    ∙ sym (sum-rows-same (λ (r : PackedCountry). r.switches) (country_at g.s.now) (λ (x : ℕ). le16 g.s.now (x + 10)) 12 g.s.now (λ (a : ℕ). refl) _ _)
-    ∙ section-told (sum_of (λ (r : PackedCountry). r.switches)) (country_at g.s.now) 12 g.s.now (λ h. countries_at h) (λ h. h.countries) g.h _ c.requires.head refl
+    ∙ sym (sum-rows-same (λ (r : PackedCountry). r.switches) (country_at c.args.s.now) (λ (x : ℕ). le16 c.args.s.now (x + 10)) 12 c.args.s.now (λ (a : ℕ). refl) _ _)
+    ∙ section-told (sum_of (λ (r : PackedCountry). r.switches)) (country_at c.args.s.now) 12 c.args.s.now (λ h. countries_at h) (λ h. h.countries) c.args.h _ c.requires.head refl

@@ -18,15 +18,11 @@ overflow_add-a-in-loop-left c = omega (arith, one-row c.args.width c.loop-left.l
 
 pub loop-left-preserved : goal.loop-left-preserved
 loop-left-preserved c =
-    let l = c.loop-left in
-    let g = c.args in
-    let more = sum-rows-more (λ (x : ℕ). le16 g.s.now (x + g.k)) g.width g.s.now l.a l.left c.loop-left-test.true (omega (arith, one-row c.args.width c.loop-left.left c.loop-left-test.true)) in
-    (omega (arith, one-row c.args.width c.loop-left.left c.loop-left-test.true), omega arith, omega (arith, more, l.invariant.2, c.u16_at.ensures.same))
+    let more = sum-rows-more (λ (x : ℕ). le16 c.args.s.now (x + c.args.k)) c.args.width c.args.s.now c.loop-left.a c.loop-left.left c.loop-left-test.true (omega (arith, one-row c.args.width c.loop-left.left c.loop-left-test.true)) in
+    (omega (arith, one-row c.args.width c.loop-left.left c.loop-left-test.true), omega arith, omega (arith, more, c.loop-left.invariant.2, c.u16_at.ensures.same))
 
 pub returns : goal.returns
 returns c =
-    let l = c.loop-left in
-    let g = c.args in
-    let none : l.left ≡ 0 = omega arith in
-    let end = sum-rows-none (λ (x : ℕ). le16 g.s.now (x + g.k)) g.width g.s.now l.a in
-    omega (arith, end, rw none at l.invariant.2)
+    let none : c.loop-left.left ≡ 0 = omega arith in
+    let end = sum-rows-none (λ (x : ℕ). le16 c.args.s.now (x + c.args.k)) c.args.width c.args.s.now c.loop-left.a in
+    omega (arith, end, rw none at c.loop-left.invariant.2)

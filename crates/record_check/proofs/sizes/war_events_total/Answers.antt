@@ -19,7 +19,6 @@ total-requires c =
 
 pub returns : goal.returns
 returns c =
-    let g = c.args in
     c.total.ensures
-    ∙ sym (sum-rows-same (λ (n : ℕ). n) (le16 g.s.now) (λ (x : ℕ). le16 g.s.now (x + 0)) 2 g.s.now (λ (a : ℕ). sym (ap (λ (x : ℕ). le16 g.s.now x) (add-zero a))) _ _)
-    ∙ section-told (sum_of (λ (n : ℕ). n)) (le16 g.s.now) 2 g.s.now (λ h. wars_at h) (λ h. h.wars) g.h _ c.requires.head c.wars_at.ensures
+    ∙ sym (sum-rows-same (λ (n : ℕ). n) (le16 c.args.s.now) (λ (x : ℕ). le16 c.args.s.now (x + 0)) 2 c.args.s.now (λ (a : ℕ). sym (ap (λ (x : ℕ). le16 c.args.s.now x) (add-zero a))) _ _)
+    ∙ section-told (sum_of (λ (n : ℕ). n)) (le16 c.args.s.now) 2 c.args.s.now (λ h. wars_at h) (λ h. h.wars) c.args.h _ c.requires.head c.wars_at.ensures

@@ -8,6 +8,5 @@ use Rattle.record_fields.proofs.fields.countries_field.Goals as goal
 
 pub returns : goal.returns
 returns c =
-    let g = c.args in
     c.countries_number.ensures
-    ∙ section-told (first_in (country_number)) (country_at g.s.now) 12 g.s.now (λ h. countries_at h) (λ h. h.countries) g.h _ c.requires.0.head refl
+    ∙ section-told (first_in (country_number)) (country_at c.args.s.now) 12 c.args.s.now (λ h. countries_at h) (λ h. h.countries) c.args.h _ c.requires.0.head refl

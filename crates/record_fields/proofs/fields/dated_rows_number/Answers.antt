@@ -8,20 +8,15 @@ use Rattle.record_fields.proofs.fields.dated_rows_number.Goals as goal
 
 pub returns-then-number-ne0 : goal.returns-then-number-ne0
 returns-then-number-ne0 c =
-    let k = c.dated_number-number in
-    let l = c.loop-left in
-    k.ensures
-    ∙ sym (first-rows-stop (owner_event_number) (owner_event_at _) 7 _ _ _ c.loop-left-test.true (omega arith) (λ e. c.if-number-ne0.true (k.ensures ∙ e)))
-    ∙ l.invariant.1
+    c.dated_number-number.ensures
+    ∙ sym (first-rows-stop (owner_event_number) (owner_event_at _) 7 _ _ _ c.loop-left-test.true (omega arith) (λ e. c.if-number-ne0.true (c.dated_number-number.ensures ∙ e)))
+    ∙ c.loop-left.invariant.1
 
 pub loop-left-preserved : goal.loop-left-preserved
 loop-left-preserved c =
-    let k = c.dated_number-number in
-    let l = c.loop-left in
-    (search rules, sym (first-rows-pass (owner_event_number) (owner_event_at _) 7 _ _ _ c.loop-left-test.true (omega arith) (sym k.ensures ∙ c.if-number-ne0.false)) ∙ l.invariant.1)
+    (search rules, sym (first-rows-pass (owner_event_number) (owner_event_at _) 7 _ _ _ c.loop-left-test.true (omega arith) (sym c.dated_number-number.ensures ∙ c.if-number-ne0.false)) ∙ c.loop-left.invariant.1)
 
 pub returns : goal.returns
 returns c =
-    let l = c.loop-left in
-    let none : l.left ≡ 0 = omega arith in
-    sym (first-rows-none (owner_event_number) (owner_event_at _) 7 _ _) ∙ (rw none at l.invariant.1)
+    let none : c.loop-left.left ≡ 0 = omega arith in
+    sym (first-rows-none (owner_event_number) (owner_event_at _) 7 _ _) ∙ (rw none at c.loop-left.invariant.1)

@@ -8,6 +8,5 @@ use Rattle.record_fields.proofs.fields.events_field.Goals as goal
 
 pub returns : goal.returns
 returns c =
-    let g = c.args in
     c.dated_rows_number.ensures
-    ∙ section-told (first_in (owner_event_number)) (owner_event_at g.s.now) 7 g.s.now (λ h. events_at h) (λ h. h.events) g.h _ c.requires.0.head c.events_at.ensures
+    ∙ section-told (first_in (owner_event_number)) (owner_event_at c.args.s.now) 7 c.args.s.now (λ h. events_at h) (λ h. h.events) c.args.h _ c.requires.0.head c.events_at.ensures

@@ -9,24 +9,20 @@ use Rattle.record_fields.proofs.fields.fields_number.Goals as goal
 
 pub returns-then-not-within_limits : goal.returns-then-not-within_limits
 returns-then-not-within_limits c agree =
-    let head = c.read_head-h in
-    let inside = laid _ head.result head.ensures agree in
-    clash (within_limits head.result) inside.limits (sym c.within_limits.ensures ∙ not-true _ c.if-not-within_limits.true-raw)
+    let inside = laid _ c.read_head-h.result c.read_head-h.ensures agree in
+    clash (within_limits c.read_head-h.result) inside.limits (sym c.within_limits.ensures ∙ not-true _ c.if-not-within_limits.true-raw)
 
 pub returns-then-s-end : goal.returns-then-s-end
 returns-then-s-end c agree =
-    let end = c.strings_at-end in
-    let head = c.read_head-h in
-    let inside = laid _ head.result head.ensures agree in
-    absurd (omega (arith, inside.inside, end.ensures, c.if-s-end.true))
+    let inside = laid _ c.read_head-h.result c.read_head-h.ensures agree in
+    absurd (omega (arith, inside.inside, c.strings_at-end.ensures, c.if-s-end.true))
 
 pub laid_number-requires : goal.laid_number-requires
 laid_number-requires c =
-    let end = c.strings_at-end in
     record {
       head = c.read_head-h.ensures;
       c = sym c.within_limits.ensures ∙ not-false _ c.if-not-within_limits.false-raw;
-      inside = omega (arith, end.ensures, c.if-s-end.false);
+      inside = omega (arith, c.strings_at-end.ensures, c.if-s-end.false);
     }
 
 pub returns : goal.returns

@@ -14,7 +14,6 @@ use Rattle.record_fields.proofs.fields.ledgers_field.Goals as goal
 pub returns : goal.returns
 unfolding ledger_at
 returns c =
-    let g = c.args in
     c.tags_number.ensures
-    ∙ first-rows-same (λ t. tag_number t) (λ (x : ℕ). tag_at g.s.now (x + 0)) (λ (r : PackedLedger). tag_number r.tag) (ledger_at g.s.now) 5 g.s.now (λ (a : ℕ). ap (λ (x : ℕ). tag_number (tag_at g.s.now x)) (add-zero a)) _ _
-    ∙ section-told (first_in (λ (r : PackedLedger). tag_number r.tag)) (ledger_at g.s.now) 5 g.s.now (λ h. ledgers_at h) (λ h. h.ledgers) g.h _ c.requires.0.head c.ledgers_at.ensures
+    ∙ first-rows-same (λ t. tag_number t) (λ (x : ℕ). tag_at c.args.s.now (x + 0)) (λ (r : PackedLedger). tag_number r.tag) (ledger_at c.args.s.now) 5 c.args.s.now (λ (a : ℕ). ap (λ (x : ℕ). tag_number (tag_at c.args.s.now x)) (add-zero a)) _ _
+    ∙ section-told (first_in (λ (r : PackedLedger). tag_number r.tag)) (ledger_at c.args.s.now) 5 c.args.s.now (λ h. ledgers_at h) (λ h. h.ledgers) c.args.h _ c.requires.0.head c.ledgers_at.ensures

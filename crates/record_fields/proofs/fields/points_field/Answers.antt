@@ -9,6 +9,5 @@ use Rattle.record_fields.proofs.fields.points_field.Goals as goal
 
 pub returns : goal.returns
 returns c =
-    let g = c.args in
     c.points_number.ensures
-    ∙ section-told (first_in (λ (p : Point). year_number p.year)) (point_at g.s.now) 6 g.s.now (λ h. points_at h) (λ h. h.points) g.h _ c.requires.head c.points_at.ensures
+    ∙ section-told (first_in (λ (p : Point). year_number p.year)) (point_at c.args.s.now) 6 c.args.s.now (λ h. points_at h) (λ h. h.points) c.args.h _ c.requires.head c.points_at.ensures

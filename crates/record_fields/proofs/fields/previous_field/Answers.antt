@@ -11,7 +11,6 @@ use Rattle.record_fields.proofs.fields.previous_field.Goals as goal
 
 pub returns : goal.returns
 returns c =
-    let g = c.args in
     c.tags_number.ensures
-    ∙ first-rows-same (λ t. tag_number t) (λ (x : ℕ). tag_at g.s.now (x + 0)) (λ t. tag_number t) (tag_at g.s.now) 3 g.s.now (λ (a : ℕ). ap (λ (x : ℕ). tag_number (tag_at g.s.now x)) (add-zero a)) _ _
-    ∙ section-told (first_in (λ t. tag_number t)) (tag_at g.s.now) 3 g.s.now (λ h. previous_at h) (λ h. h.previous) g.h _ c.requires.0.head c.previous_at.ensures
+    ∙ first-rows-same (λ t. tag_number t) (λ (x : ℕ). tag_at c.args.s.now (x + 0)) (λ t. tag_number t) (tag_at c.args.s.now) 3 c.args.s.now (λ (a : ℕ). ap (λ (x : ℕ). tag_number (tag_at c.args.s.now x)) (add-zero a)) _ _
+    ∙ section-told (first_in (λ t. tag_number t)) (tag_at c.args.s.now) 3 c.args.s.now (λ h. previous_at h) (λ h. h.previous) c.args.h _ c.requires.0.head c.previous_at.ensures

@@ -13,7 +13,6 @@ use Rattle.record_fields.proofs.fields.provinces_field.Goals as goal
 pub returns : goal.returns
 unfolding province_at
 returns c =
-    let g = c.args in
     c.tags_number.ensures
-    ∙ first-rows-same (λ t. tag_number t) (λ (x : ℕ). tag_at g.s.now (x + 2)) (λ (r : PackedProvince). tag_number r.owner) (province_at g.s.now) 7 g.s.now (λ (a : ℕ). refl) _ _
-    ∙ section-told (first_in (λ (r : PackedProvince). tag_number r.owner)) (province_at g.s.now) 7 g.s.now (λ h. provinces_at h) (λ h. h.provinces) g.h _ c.requires.0.head c.provinces_at.ensures
+    ∙ first-rows-same (λ t. tag_number t) (λ (x : ℕ). tag_at c.args.s.now (x + 2)) (λ (r : PackedProvince). tag_number r.owner) (province_at c.args.s.now) 7 c.args.s.now (λ (a : ℕ). refl) _ _
+    ∙ section-told (first_in (λ (r : PackedProvince). tag_number r.owner)) (province_at c.args.s.now) 7 c.args.s.now (λ h. provinces_at h) (λ h. h.provinces) c.args.h _ c.requires.0.head c.provinces_at.ensures

@@ -12,7 +12,6 @@ use Rattle.record_fields.proofs.fields.switches_field.Goals as goal
 pub returns : goal.returns
 unfolding switch_number owner_event_number switch_at owner_event_at
 returns c =
-    let g = c.args in
     c.dated_rows_number.ensures
-    ∙ first-rows-same (owner_event_number) (owner_event_at g.s.now) (switch_number) (switch_at g.s.now) 7 g.s.now (λ (a : ℕ). refl) _ _
-    ∙ section-told (first_in (switch_number)) (switch_at g.s.now) 7 g.s.now (λ h. switches_at h) (λ h. h.switches) g.h _ c.requires.0.head c.switches_at.ensures
+    ∙ first-rows-same (owner_event_number) (owner_event_at c.args.s.now) (switch_number) (switch_at c.args.s.now) 7 c.args.s.now (λ (a : ℕ). refl) _ _
+    ∙ section-told (first_in (switch_number)) (switch_at c.args.s.now) 7 c.args.s.now (λ h. switches_at h) (λ h. h.switches) c.args.h _ c.requires.0.head c.switches_at.ensures

@@ -17,32 +17,26 @@ tag_number-number-requires c =
 
 pub returns-then-number-ne0 : goal.returns-then-number-ne0
 returns-then-number-ne0 c =
-    let l = c.loop-left in
-    let g = c.args in
     let some = c.loop-left-test.true in
     let number = c.tag_number-number.ensures in
     number
-    ∙ sym (first-rows-stop (λ t. tag_number t) (λ (x : ℕ). tag_at g.s.now (x + g.k)) g.width g.s.now l.a l.left some (omega (arith, one-row g.width l.left some)) (λ e. c.if-number-ne0.true (number ∙ e)))
-    ∙ l.invariant.1
+    ∙ sym (first-rows-stop (λ t. tag_number t) (λ (x : ℕ). tag_at c.args.s.now (x + c.args.k)) c.args.width c.args.s.now c.loop-left.a c.loop-left.left some (omega (arith, one-row c.args.width c.loop-left.left some)) (λ e. c.if-number-ne0.true (number ∙ e)))
+    ∙ c.loop-left.invariant.1
 
 pub overflow_add-a-in-loop-left : goal.overflow_add-a-in-loop-left
 overflow_add-a-in-loop-left c = omega (arith, one-row c.args.width c.loop-left.left c.loop-left-test.true)
 
 pub loop-left-preserved : goal.loop-left-preserved
 loop-left-preserved c =
-    let l = c.loop-left in
-    let g = c.args in
     let some = c.loop-left-test.true in
-    let row = one-row g.width l.left some in
+    let row = one-row c.args.width c.loop-left.left some in
     let number = c.tag_number-number.ensures in (
       omega (arith, row),
-      sym (first-rows-pass (λ t. tag_number t) (λ (x : ℕ). tag_at g.s.now (x + g.k)) g.width g.s.now l.a l.left some (omega (arith, row)) (sym number ∙ c.if-number-ne0.false))
-          ∙ l.invariant.1,
+      sym (first-rows-pass (λ t. tag_number t) (λ (x : ℕ). tag_at c.args.s.now (x + c.args.k)) c.args.width c.args.s.now c.loop-left.a c.loop-left.left some (omega (arith, row)) (sym number ∙ c.if-number-ne0.false))
+          ∙ c.loop-left.invariant.1,
     )
 
 pub returns : goal.returns
 returns c =
-    let l = c.loop-left in
-    let g = c.args in
-    let none : l.left ≡ 0 = omega arith in
-    sym (first-rows-none (λ t. tag_number t) (λ (x : ℕ). tag_at g.s.now (x + g.k)) g.width g.s.now l.a) ∙ (rw none at l.invariant.1)
+    let none : c.loop-left.left ≡ 0 = omega arith in
+    sym (first-rows-none (λ t. tag_number t) (λ (x : ℕ). tag_at c.args.s.now (x + c.args.k)) c.args.width c.args.s.now c.loop-left.a) ∙ (rw none at c.loop-left.invariant.1)

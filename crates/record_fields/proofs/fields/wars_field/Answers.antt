@@ -8,6 +8,5 @@ use Rattle.record_fields.proofs.fields.wars_field.Goals as goal
 
 pub returns : goal.returns
 returns c =
-    let g = c.args in
     c.war_events_number.ensures
-    ∙ section-told (first_in (war_event_number)) (war_event_at g.s.now) 8 g.s.now (λ h. war_events_at h) (λ h. h.war_events) g.h _ c.requires.0.head c.war_events_at.ensures
+    ∙ section-told (first_in (war_event_number)) (war_event_at c.args.s.now) 8 c.args.s.now (λ h. war_events_at h) (λ h. h.war_events) c.args.h _ c.requires.0.head c.war_events_at.ensures

@@ -11,17 +11,14 @@ loop-month-init c = (search rules, search rules, days-none)
 
 pub mark_days-requires : goal.mark_days-requires
 mark_days-requires c =
-    let l = c.loop-month in
-    (l.invariant.0, omega arith, l.invariant.2)
+    (c.loop-month.invariant.0, omega arith, c.loop-month.invariant.2)
 
 pub loop-month-preserved : goal.loop-month-preserved
 loop-month-preserved c =
-    let l = c.loop-month in
-    let next : 100 * l.month + 100 ≡ 100 * (l.month + 1) = omega arith in
+    let next : 100 * c.loop-month.month + 100 ≡ 100 * (c.loop-month.month + 1) = omega arith in
     (omega arith, omega arith, subst (λ (end : ℕ). DaysTo c.mark_days.new.table end) next c.mark_days.ensures)
 
 pub returns : goal.returns
 returns c =
-    let l = c.loop-month in
-    let all : 100 * l.month ≡ 1300 = omega arith in
-    days-whole l.table (subst (λ (end : ℕ). DaysTo l.table end) all l.invariant.2)
+    let all : 100 * c.loop-month.month ≡ 1300 = omega arith in
+    days-whole c.loop-month.table (subst (λ (end : ℕ). DaysTo c.loop-month.table end) all c.loop-month.invariant.2)

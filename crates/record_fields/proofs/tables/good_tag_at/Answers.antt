@@ -8,10 +8,7 @@ use Rattle.record_fields.proofs.tables.good_tag_at.Goals as goal
 pub returns : goal.returns
 unfolding tag_at
 returns c =
-    let x = c.byte-a in
-    let y = c.byte-b in
-    let z = c.byte-c in
-    let tag : tag_of x.result y.result z.result ≡ tag_at c.args.s.now c.args.at = rw (x.ensures.same, y.ensures.same, z.ensures.same) in
+    let tag : tag_of c.byte-a.result c.byte-b.result c.byte-c.result ≡ tag_at c.args.s.now c.args.at = rw (c.byte-a.ensures.same, c.byte-b.ensures.same, c.byte-c.ensures.same) in
     let rule = c.requires.1.rule in
-    simp (rule _ x.ensures.small, rule _ y.ensures.small, rule _ z.ensures.small)
-    (sym (is-tag-of x.result y.result z.result x.ensures.small y.ensures.small z.ensures.small) ∙ ap is_tag tag)
+    simp (rule _ c.byte-a.ensures.small, rule _ c.byte-b.ensures.small, rule _ c.byte-c.ensures.small)
+    (sym (is-tag-of c.byte-a.result c.byte-b.result c.byte-c.result c.byte-a.ensures.small c.byte-b.ensures.small c.byte-c.ensures.small) ∙ ap is_tag tag)

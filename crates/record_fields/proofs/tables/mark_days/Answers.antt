@@ -25,15 +25,13 @@ pub loop-k-preserved : goal.loop-k-preserved
 loop-k-preserved c =
     let month = c.args.month in
     let short = month-short month in
-    let l = c.loop-k in
-    let in-month : l.k / 100 ≡ month = omega (arith, c.month_days.ensures, l.invariant) in
-    let day = day-good l.k month in-month (omega (arith, l.invariant)) (omega (arith, c.month_days.ensures, l.invariant)) in (
-      omega (arith, l.invariant),
+    let in-month : c.loop-k.k / 100 ≡ month = omega (arith, c.month_days.ensures, c.loop-k.invariant) in
+    let day = day-good c.loop-k.k month in-month (omega (arith, c.loop-k.invariant)) (omega (arith, c.month_days.ensures, c.loop-k.invariant)) in (
+      omega (arith, c.loop-k.invariant),
       omega arith,
-      days-mark l.table l.k l.invariant.2 (omega (arith, c.month_days.ensures, c.requires, l.invariant)) day,
+      days-mark c.loop-k.table c.loop-k.k c.loop-k.invariant.2 (omega (arith, c.month_days.ensures, c.requires, c.loop-k.invariant)) day,
     )
 
 pub returns : goal.returns
 returns c =
-    let l = c.loop-k in
-    days-close l.table c.args.month l.k (omega (arith, c.month_days.ensures, l.invariant)) l.invariant.2
+    days-close c.loop-k.table c.args.month c.loop-k.k (omega (arith, c.month_days.ensures, c.loop-k.invariant)) c.loop-k.invariant.2

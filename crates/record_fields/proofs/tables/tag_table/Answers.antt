@@ -12,10 +12,10 @@ loop-b-init c = (search rules, refl, λ k h. absurd (omega arith))
 
 pub loop-b-preserved : goal.loop-b-preserved
 loop-b-preserved c =
-    let l = c.loop-b in (
+    (
       search rules,
-      simp length-set l.invariant.1,
-      λ k h. entry_set tag_byte false l.table l.b k _ (omega arith) c.tag_byte.ensures (λ e. l.invariant.2 k (omega arith)),
+      simp length-set c.loop-b.invariant.1,
+      λ k h. entry_set tag_byte false c.loop-b.table c.loop-b.b k _ (omega arith) c.tag_byte.ensures (λ e. c.loop-b.invariant.2 k (omega arith)),
     )
 
 pub returns : goal.returns

@@ -9,20 +9,15 @@ use Rattle.record_fields.proofs.years.last_points_number.Goals as goal
 
 pub returns-then-number-ne0 : goal.returns-then-number-ne0
 returns-then-number-ne0 c =
-    let k = c.point_number-number in
-    let l = c.loop-left in
-    k.ensures
-    ∙ sym (first-rows-stop (λ (p : Point). year_number p.year) (point_at _) 6 _ _ _ c.loop-left-test.true (omega arith) (λ e. c.if-number-ne0.true (k.ensures ∙ e)))
-    ∙ l.invariant.1
+    c.point_number-number.ensures
+    ∙ sym (first-rows-stop (λ (p : Point). year_number p.year) (point_at _) 6 _ _ _ c.loop-left-test.true (omega arith) (λ e. c.if-number-ne0.true (c.point_number-number.ensures ∙ e)))
+    ∙ c.loop-left.invariant.1
 
 pub loop-left-preserved : goal.loop-left-preserved
 loop-left-preserved c =
-    let k = c.point_number-number in
-    let l = c.loop-left in
-    (search rules, sym (first-rows-pass (λ (p : Point). year_number p.year) (point_at _) 6 _ _ _ c.loop-left-test.true (omega arith) (sym k.ensures ∙ c.if-number-ne0.false)) ∙ l.invariant.1)
+    (search rules, sym (first-rows-pass (λ (p : Point). year_number p.year) (point_at _) 6 _ _ _ c.loop-left-test.true (omega arith) (sym c.point_number-number.ensures ∙ c.if-number-ne0.false)) ∙ c.loop-left.invariant.1)
 
 pub returns : goal.returns
 returns c =
-    let l = c.loop-left in
-    let none : l.left ≡ 0 = omega arith in
-    sym (first-rows-none (λ (p : Point). year_number p.year) (point_at _) 6 _ _) ∙ (rw none at l.invariant.1)
+    let none : c.loop-left.left ≡ 0 = omega arith in
+    sym (first-rows-none (λ (p : Point). year_number p.year) (point_at _) 6 _ _) ∙ (rw none at c.loop-left.invariant.1)

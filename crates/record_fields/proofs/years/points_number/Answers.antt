@@ -9,17 +9,13 @@ use Rattle.record_fields.proofs.years.points_number.Goals as goal
 
 pub returns-then-number-ne0 : goal.returns-then-number-ne0
 returns-then-number-ne0 c =
-    let k = c.four_points_number-number in
-    let l = c.loop-left in
-    k.ensures
-    ∙ sym (first-rows-front (λ (p : Point). year_number p.year) (point_at _) 6 _ _ 4 _ c.loop-left-test.true (omega arith) (λ e. c.if-number-ne0.true (k.ensures ∙ e)))
-    ∙ l.invariant.1
+    c.four_points_number-number.ensures
+    ∙ sym (first-rows-front (λ (p : Point). year_number p.year) (point_at _) 6 _ _ 4 _ c.loop-left-test.true (omega arith) (λ e. c.if-number-ne0.true (c.four_points_number-number.ensures ∙ e)))
+    ∙ c.loop-left.invariant.1
 
 pub loop-left-preserved : goal.loop-left-preserved
 loop-left-preserved c =
-    let k = c.four_points_number-number in
-    let l = c.loop-left in
-    (search rules, sym (first-rows-skip (λ (p : Point). year_number p.year) (point_at _) 6 _ _ 4 _ c.loop-left-test.true (omega arith) (sym k.ensures ∙ c.if-number-ne0.false)) ∙ l.invariant.1)
+    (search rules, sym (first-rows-skip (λ (p : Point). year_number p.year) (point_at _) 6 _ _ 4 _ c.loop-left-test.true (omega arith) (sym c.four_points_number-number.ensures ∙ c.if-number-ne0.false)) ∙ c.loop-left.invariant.1)
 
 pub returns : goal.returns
 returns c = c.last_points_number.ensures ∙ c.loop-left.invariant.1

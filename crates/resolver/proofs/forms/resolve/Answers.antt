@@ -1,5 +1,5 @@
 -- The numbers in their order, then the best claim.
-use mathlib.Core.List.{◌∷◌}
+use mathlib.Core.List.{[], ◌∷◌}
 use Rattle.format.specs.Refusal.{first_of}
 use Rattle.rules.specs.Refusals.{chronicle_number, asked_tag_number, asked_date_number}
 use Rattle.rules.specs.Outcomes.{call_resolve}
@@ -8,23 +8,14 @@ use Rattle.resolver.proofs.ResolverAnswerLaws.{numbered, number-refused, resolve
 use borrow.Author.Rules.{rules}
 use Rattle.resolver.proofs.forms.resolve.Goals as goal
 
--- The first number that refuses.
-number : (c : tie.After-first-number2)
-    → c.first-number2.result
-    ≡ first_of (chronicle_number c.before.before.before.before.before.before.before.args.nations.now c.before.before.before.before.before.before.before.args.entries.now
-    ∷ asked_tag_number c.before.before.before.before.before.before.before.args.tag.0
-    ∷ asked_date_number c.before.before.before.before.before.before.before.args.date.0 ∷ [])
-number c =
-    let asked = c.before.before in
-    numbered _ _ _ _ _ _ _ asked.before.before.asked-tag-number.ensures asked.before.asked-date-number.ensures asked.first-number.ensures c.before.chronicle-number.ensures c.first-number2.ensures
-
 pub returns-then-number-ne0 : goal.returns-then-number-ne0
 unfolding call_resolve
 returns-then-number-ne0 c =
-    number-refused _ _ _ (number c) (search rules)
+    let number : c.first_number-number.result ≡ first_of (chronicle_number c.args.nations.now c.args.entries.now ∷ asked_tag_number c.args.tag.0 ∷ asked_date_number c.args.date.0 ∷ []) = numbered _ _ _ _ _ _ _ c.asked_tag_number.ensures c.asked_date_number.ensures c.first_number-asked.ensures c.chronicle_number.ensures c.first_number-number.ensures in
+    number-refused _ _ _ number (search rules)
 
 pub returns : goal.returns
 returns c =
-    let a = c.args in
+    let number : c.first_number-number.result ≡ first_of (chronicle_number c.args.nations.now c.args.entries.now ∷ asked_tag_number c.args.tag.0 ∷ asked_date_number c.args.date.0 ∷ []) = numbered _ _ _ _ _ _ _ c.asked_tag_number.ensures c.asked_date_number.ensures c.first_number-asked.ensures c.chronicle_number.ensures c.first_number-number.ensures in
     c.plain_answer.ensures
-    ∙ resolve-gives a.nations.now a.entries.now _ _ (search rules) a.tag a.date c.best_claim.ensures (number c)
+    ∙ resolve-gives c.args.nations.now c.args.entries.now _ _ (search rules) c.args.tag c.args.date c.best_claim.ensures number

@@ -9,9 +9,8 @@ loop-at-init c = refl
 
 pub returns-then-not-not_after : goal.returns-then-not-not_after
 returns-then-not-not_after c =
-    let a = c.args in
     sym (worn-stop _ _ _ _ _ _ _ (search rules) c.entry_at-e.ensures _ c.not_after.ensures c.if-not-not_after.true-raw)
-    ∙ (c.loop-at.invariant ∙ worn-start a.entries.now a.day a.row.first a.row.count)
+    ∙ (c.loop-at.invariant ∙ worn-start c.args.entries.now c.args.day c.args.row.first c.args.row.count)
 
 pub loop-at-preserved : goal.loop-at-preserved
 loop-at-preserved c =
@@ -20,6 +19,5 @@ loop-at-preserved c =
 
 pub returns : goal.returns
 returns c =
-    let a = c.args in
-    sym (worn-end a.entries.now a.day c.loop-at.at (a.row.first + a.row.count) _ (search rules))
-    ∙ (c.loop-at.invariant ∙ worn-start a.entries.now a.day a.row.first a.row.count)
+    sym (worn-end c.args.entries.now c.args.day c.loop-at.at (c.args.row.first + c.args.row.count) _ (search rules))
+    ∙ (c.loop-at.invariant ∙ worn-start c.args.entries.now c.args.day c.args.row.first c.args.row.count)

@@ -11,5 +11,4 @@ returns-then-keys-n c = λ t. absurd (search rules)
 
 pub returns : goal.returns
 returns c =
-    let a = c.args in
-    shown-least a.keys.now a.x a.n (search rules) (search rules)
+    shown-least c.args.keys.now c.args.x c.args.n (search rules) (search rules)

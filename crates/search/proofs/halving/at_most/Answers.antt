@@ -9,10 +9,8 @@ use Rattle.search.proofs.halving.at_most.Goals as goal
 
 pub returns-then-keys-n : goal.returns-then-keys-n
 returns-then-keys-n c =
-    let a = c.args in
-    λ t s. omega (arith, c.if-keys-n.true, count-le (λ k. ltb k (a.x / 2 * 2 + 2)) a.keys.now)
+    λ t s. omega (arith, c.if-keys-n.true, count-le (λ k. ltb k (c.args.x / 2 * 2 + 2)) c.args.keys.now)
 
 pub returns : goal.returns
 returns c =
-    let a = c.args in
-    shown-most a.keys.now a.x a.n (search rules)
+    shown-most c.args.keys.now c.args.x c.args.n (search rules)

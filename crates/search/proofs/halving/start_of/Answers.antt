@@ -7,18 +7,12 @@ use Rattle.search.proofs.halving.start_of.Goals as goal
 
 pub returns-then-cell-keys : goal.returns-then-cell-keys
 returns-then-cell-keys c =
-    let l = c.loop-at in
-    let a = c.args in
-    front-stop (in_cell_before a.cell) a.keys.now l.at l.invariant (search rules) (le-ltb _ _ c.if-cell-keys.true)
+    front-stop (in_cell_before c.args.cell) c.args.keys.now c.loop-at.at c.loop-at.invariant (search rules) (le-ltb _ _ c.if-cell-keys.true)
 
 pub loop-at-preserved : goal.loop-at-preserved
 loop-at-preserved c =
-    let l = c.loop-at in
-    let a = c.args in
-    front-more (in_cell_before a.cell) a.keys.now l.at l.invariant (search rules) (lt-ltb _ _ c.if-cell-keys.false)
+    front-more (in_cell_before c.args.cell) c.args.keys.now c.loop-at.at c.loop-at.invariant (search rules) (lt-ltb _ _ c.if-cell-keys.false)
 
 pub returns : goal.returns
 returns c =
-    let l = c.loop-at in
-    let a = c.args in
-    omega (arith, l.invariant, front-most (in_cell_before a.cell) a.keys.now)
+    omega (arith, c.loop-at.invariant, front-most (in_cell_before c.args.cell) c.args.keys.now)

@@ -6,11 +6,11 @@ use Rattle.search.proofs.halving.step.Goals as goal
 
 pub overflow_mul-result : goal.overflow_mul-result
 overflow_mul-result c =
-    let a = c.args in omega (arith, factor-most ((a.top - a.key / 2) / 9223372036854775808) a.half (omega arith))
+    omega (arith, factor-most ((c.args.top - c.args.key / 2) / 9223372036854775808) c.args.half (omega arith))
 
 pub returns : goal.returns
 returns c =
-    let a = c.args in (
-      λ h. factor-one ((a.top - a.key / 2) / 9223372036854775808) a.half (omega arith),
-      λ h. factor-none ((a.top - a.key / 2) / 9223372036854775808) a.half (omega arith),
+    (
+      λ h. factor-one ((c.args.top - c.args.key / 2) / 9223372036854775808) c.args.half (omega arith),
+      λ h. factor-none ((c.args.top - c.args.key / 2) / 9223372036854775808) c.args.half (omega arith),
     )

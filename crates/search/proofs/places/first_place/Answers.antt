@@ -6,15 +6,12 @@ use Rattle.search.proofs.places.first_place.Goals as goal
 
 pub returns-then-keys-i : goal.returns-then-keys-i
 returns-then-keys-i c =
-    let a = c.args in
-    λ ts few e. placed_past a.tag ts few a.keys.now e _ (even-key _ _ _ _ c.tag_key-low.ensures c.count_below-i.ensures) (search rules)
+    λ ts few e. placed_past c.args.tag ts few c.args.keys.now e _ (even-key _ _ _ _ c.tag_key-low.ensures c.count_below-i.ensures) (search rules)
 
 pub returns-then-high-key : goal.returns-then-high-key
 returns-then-high-key c =
-    let a = c.args in
-    λ ts few e. placed-above a.tag ts few a.keys.now e _ (even-key _ _ _ _ c.tag_key-low.ensures c.count_below-i.ensures) (search rules) (omega (arith, c.if-high-key.true, c.tag_key-low.ensures))
+    λ ts few e. placed-above c.args.tag ts few c.args.keys.now e _ (even-key _ _ _ _ c.tag_key-low.ensures c.count_below-i.ensures) (search rules) (omega (arith, c.if-high-key.true, c.tag_key-low.ensures))
 
 pub returns : goal.returns
 returns c =
-    let a = c.args in
-    λ ts few e. placed-there a.tag ts few a.keys.now e _ (even-key _ _ _ _ c.tag_key-low.ensures c.count_below-i.ensures) (search rules) (omega (arith, c.if-high-key.false, c.tag_key-low.ensures))
+    λ ts few e. placed-there c.args.tag ts few c.args.keys.now e _ (even-key _ _ _ _ c.tag_key-low.ensures c.count_below-i.ensures) (search rules) (omega (arith, c.if-high-key.false, c.tag_key-low.ensures))

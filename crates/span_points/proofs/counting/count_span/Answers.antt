@@ -6,5 +6,4 @@ use Rattle.span_points.proofs.counting.count_span.Goals as goal
 
 pub returns : goal.returns
 returns c =
-    let start = c.args in
-    span-counted (span_in start.span) _ (points_left start.s.now start.points) _ c.year-first.ensures c.from_year-at.ensures _ _ c.count_from.ensures
+    span-counted (span_in c.args.span) _ (points_left c.args.s.now c.args.points) _ c.year-first.ensures c.from_year-at.ensures _ _ c.count_from.ensures

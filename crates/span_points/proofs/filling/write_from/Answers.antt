@@ -1,5 +1,5 @@
 use mathlib.Core.Path.{◌≡◌, refl, sym, ap, ◌∙◌}
-use mathlib.Core.List.{◌∷◌, append-nil}
+use mathlib.Core.List.{[], ◌∷◌, append-nil}
 use Prim.Native.Nat.{◌*◌, ◌≤◌}
 use native.Mathlib.Omega.{arith}
 use lib.ListN.{length}
@@ -9,19 +9,13 @@ use Rattle.span_points.specs.PointSteps.{read_left, read_told, year_filled, fill
 use Rattle.span_points.proofs.FillsLaws.{fills-start, fills-more, fills-all, fills-last}
 use Rattle.span_points.proofs.filling.write_from.Goals as goal
 
--- The point that was told is the first of those left.
-more : (c : tie.After-point invariant-loop decreases-loop)
-    → read_left c.before.before.before.before.before.before.before.args.s.now c.before.before.before.before.year.result c.before.before.before.loop.at
-    ≡ c.point.given.0.0 ∷ read_left c.before.before.before.before.before.before.before.args.s.now c.before.before.before.before.year.result c.point.given.0.1.0
-more c = told-row (read_told _ _) c.before.before.next-read.ensures c.point.given.1 refl
-
 pub loop-point-init : goal.loop-point-init
 loop-point-init c = fills-start _ _ _ refl
 
 pub overflow_mul-n : goal.overflow_mul-n
 overflow_mul-n c =
     let room : 3 * c.loop-point.n ≤ length c.loop-point.out = omega (arith, c.loop-point.invariant.few, c.loop-point.invariant.filling.long) in
-    omega (arith, room, c.loop-point.invariant.filling.long, c.well-formed.1.1.1.1.1.0.0)
+    omega (arith, room, c.loop-point.invariant.filling.long, c.well_formed.1.1.1.1.1.0.0)
 
 pub slice_bounds-write_year-count : goal.slice_bounds-write_year-count
 slice_bounds-write_year-count c =
@@ -40,20 +34,24 @@ slice_bounds-write_year-end c =
 
 pub overflow_add-n : goal.overflow_add-n
 overflow_add-n c =
-    let wrote = fills-more _ _ _ _ _ c.loop-point.invariant (year_filled _ _ c.in-Row.point) _ _ c.write_year-n.new.out (ap (filled_to _ _ _) (more c)) c.write_year-n.ensures in
-    omega (arith, wrote.few, c.well-formed.1.1.1.1.1.0.0)
+    let more : read_left c.args.s.now c.year-last.result c.loop-point.at ≡ c.in-Row.point ∷ read_left c.args.s.now c.year-last.result c.in-Row.rest = told-row (read_told _ _) c.next_read.ensures c.in-Row.is refl in
+    let wrote = fills-more _ _ _ _ _ c.loop-point.invariant (year_filled _ _ c.in-Row.point) _ _ c.write_year-n.new.out (ap (filled_to _ _ _) more) c.write_year-n.ensures in
+    omega (arith, wrote.few, c.well_formed.1.1.1.1.1.0.0)
 
 pub loop-point-smaller : goal.loop-point-smaller
-loop-point-smaller c = omega (arith, ap length (more c))
+loop-point-smaller c =
+    let more : read_left c.args.s.now c.year-last.result c.loop-point.at ≡ c.in-Row.point ∷ read_left c.args.s.now c.year-last.result c.in-Row.rest = told-row (read_told _ _) c.next_read.ensures c.in-Row.is refl in
+    omega (arith, ap length more)
 
 pub loop-point-preserved : goal.loop-point-preserved
 loop-point-preserved c =
-    fills-more _ _ _ _ _ c.loop-point.invariant (year_filled _ _ c.in-Row.point) _ _ c.write_year-n.new.out (ap (filled_to _ _ _) (more c)) c.write_year-n.ensures
+    let more : read_left c.args.s.now c.year-last.result c.loop-point.at ≡ c.in-Row.point ∷ read_left c.args.s.now c.year-last.result c.in-Row.rest = told-row (read_told _ _) c.next_read.ensures c.in-Row.is refl in
+    fills-more _ _ _ _ _ c.loop-point.invariant (year_filled _ _ c.in-Row.point) _ _ c.write_year-n.new.out (ap (filled_to _ _ _) more) c.write_year-n.ensures
 
 pub overflow_mul-n-in-End : goal.overflow_mul-n-in-End
 overflow_mul-n-in-End c =
     let room : 3 * c.loop-point.n ≤ length c.loop-point.out = omega (arith, c.loop-point.invariant.few, c.loop-point.invariant.filling.long) in
-    omega (arith, room, c.loop-point.invariant.filling.long, c.well-formed.1.1.1.1.1.0.0)
+    omega (arith, room, c.loop-point.invariant.filling.long, c.well_formed.1.1.1.1.1.0.0)
 
 pub slice_bounds-write_zeros-count : goal.slice_bounds-write_zeros-count
 slice_bounds-write_zeros-count c =
@@ -74,7 +72,7 @@ pub overflow_add-n-in-End : goal.overflow_add-n-in-End
 overflow_add-n-in-End c =
     let none = told-end (read_told _ _) c.next_read.ensures c.in-End.is refl in
     let wrote = fills-more _ _ _ _ _ c.loop-point.invariant (zeros _ _ _) [] _ c.write_zeros-n.new.out (ap (filled_to _ _ _) none ∙ sym (append-nil (zeros _ _ _))) c.write_zeros-n.ensures in
-    omega (arith, wrote.few, c.well-formed.1.1.1.1.1.0.0)
+    omega (arith, wrote.few, c.well_formed.1.1.1.1.1.0.0)
 
 pub returns-in-End : goal.returns-in-End
 returns-in-End c =

@@ -6,5 +6,4 @@ use Rattle.span_points.proofs.filling.write_span.Goals as goal
 
 pub returns : goal.returns
 returns c =
-    let start = c.args in
-    span-written (span_in start.span) _ (points_left start.s.now start.points) _ c.year-first.ensures c.from_year-at.ensures _ _ _ c.write_from.ensures
+    span-written (span_in c.args.span) _ (points_left c.args.s.now c.args.points) _ c.year-first.ensures c.from_year-at.ensures _ _ _ c.write_from.ensures

@@ -9,5 +9,4 @@ returns-then-point-running c =
 
 pub returns : goal.returns
 returns c =
-    let zeros = c.write_zeros-n in
-    fills-then _ _ _ _ _ zeros.ensures _ c.write_point-2.new.out c.write_point-2.ensures
+    fills-then _ _ _ _ _ c.write_zeros-n.ensures _ c.write_point-2.new.out c.write_point-2.ensures

@@ -73,6 +73,6 @@ returns c =
     c.byte-flags.ensures.same c.u16_at-a.ensures.same c.u16_at-b.ensures.same
     c.tag_at.ensures
     c.bit0.ensures c.bit1.ensures c.bit2.ensures
-    (to_z-of_z {w = w32} (sfits_of c.i32_at.type-inv) ∙ c.i32_at.ensures)
+    (to_z-of_z {w = w32} (sfits_of c.i32_at.type_inv) ∙ c.i32_at.ensures)
     c.first.ensures c.first-2.ensures
     c.past.ensures c.skip.ensures c.skip-2.ensures

@@ -6,10 +6,8 @@ use Rattle.record.proofs.ledger.Ledgers.points_from.Goals as goal
 
 pub returns-then-s-first : goal.returns-then-s-first
 returns-then-s-first c =
-    let a = c.args in
-    points-past a.s.now a.self a.first a.n (search rules) c.first.ensures
+    points-past c.args.s.now c.args.self c.args.first c.args.n (search rules) c.first.ensures
 
 pub returns : goal.returns
 returns c =
-    let a = c.args in
-    points-part a.s.now a.self a.first a.n c.skip-behind.ensures c.first-2.ensures
+    points-part c.args.s.now c.args.self c.args.first c.args.n c.skip-behind.ensures c.first-2.ensures

@@ -6,15 +6,12 @@ use Rattle.spans.proofs.walk.RunningSpan.behind.Goals as goal
 
 pub returns-in-Switch : goal.returns-in-Switch
 returns-in-Switch c =
-    let start = c.args in
-    c.opened.ensures ∙ behind-kind (running_in start.self) start.date c.in-Switch.is
+    c.opened.ensures ∙ behind-kind (running_in c.args.self) c.args.date c.in-Switch.is
 
 pub returns-in-Appeared : goal.returns-in-Appeared
 returns-in-Appeared c =
-    let start = c.args in
-    c.opened-in-Appeared.ensures ∙ behind-kind (running_in start.self) start.date c.in-Appeared.is
+    c.opened-in-Appeared.ensures ∙ behind-kind (running_in c.args.self) c.args.date c.in-Appeared.is
 
 pub returns-in-Annexed : goal.returns-in-Annexed
 returns-in-Annexed c =
-    let start = c.args in
-    behind-kind (running_in start.self) start.date c.in-Annexed.is
+    behind-kind (running_in c.args.self) c.args.date c.in-Annexed.is

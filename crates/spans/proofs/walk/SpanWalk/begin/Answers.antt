@@ -4,5 +4,4 @@ use Rattle.spans.proofs.walk.SpanWalk.begin.Goals as goal
 
 pub returns : goal.returns
 returns c =
-    let start = c.args in
-    λ es current. spans-begin es current _ _ start.nation.first start.nation.count c.opened-running.ensures
+    λ es current. spans-begin es current _ _ c.args.nation.first c.args.nation.count c.opened-running.ensures

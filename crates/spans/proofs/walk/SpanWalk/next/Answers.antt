@@ -6,29 +6,21 @@ use Rattle.spans.proofs.SpanLaws.{spans_on, walk-ended, walk-on, spans-gone, spa
 use borrow.Author.Rules.{rules}
 use Rattle.spans.proofs.walk.SpanWalk.next.Goals as goal
 
--- What the walk has left, once it was seen not to have ended.
-on : (c : tie.At-loop invariant-loop decreases-loop)
-    → spans_left c.before.before.before.before.args.entries.now c.before.before.before.before.args.current c.before.before.before.before.args.self
-    ≡ spans_on c.before.before.before.before.args.entries.now c.before.before.before.before.args.current c.before.before.before.before.args.self.end (running_in c.loop.running) c.loop.entry
-on c =
-    let start = c.before.before.before.before.args in
-    walk-on start.entries.now start.current start.self c.before.before.if1.false ∙ c.loop.invariant
-
 pub returns-then-self : goal.returns-then-self
 returns-then-self c =
-    let start = c.args in
-    walk-ended start.entries.now start.current start.self c.if-self.true
+    walk-ended c.args.entries.now c.args.current c.args.self c.if-self.true
 
 pub loop-entry-init : goal.loop-entry-init
 loop-entry-init c = refl
 
 pub overflow_add-entry : goal.overflow_add-entry
 overflow_add-entry c =
-    omega (arith, c.loop-entry-test.true, c.well-formed.0.1.1.1.1.0.1)
+    omega (arith, c.loop-entry-test.true, c.well_formed.0.1.1.1.1.0.1)
 
 pub returns-then-closes_one : goal.returns-then-closes_one
 returns-then-closes_one c =
-    on c
+    let on : spans_left c.args.entries.now c.args.current c.args.self ≡ spans_on c.args.entries.now c.args.current c.args.self.end (running_in c.loop-entry.running) c.loop-entry.entry = walk-on c.args.entries.now c.args.current c.args.self c.if-self.false ∙ c.loop-entry.invariant in
+    on
     ∙ span-closed _ _ _ _ _ _ _ _ (search rules) c.entry_at-e.ensures c.behind-running.ensures (sym c.closes_one.ensures ∙ c.if-closes_one.true) _ c.closed-span.ensures
 
 pub loop-entry-preserved : goal.loop-entry-preserved
@@ -38,10 +30,12 @@ loop-entry-preserved c =
 
 pub returns-then-running : goal.returns-then-running
 returns-then-running c =
+    let on : spans_left c.args.entries.now c.args.current c.args.self ≡ spans_on c.args.entries.now c.args.current c.args.self.end (running_in c.loop-entry.running) c.loop-entry.entry = walk-on c.args.entries.now c.args.current c.args.self c.if-self.false ∙ c.loop-entry.invariant in
     let past : c.args.self.end ≤ c.loop-entry.entry = search rules in
-    on c ∙ spans-gone _ _ _ _ _ past c.if-running.true
+    on ∙ spans-gone _ _ _ _ _ past c.if-running.true
 
 pub returns : goal.returns
 returns c =
+    let on : spans_left c.args.entries.now c.args.current c.args.self ≡ spans_on c.args.entries.now c.args.current c.args.self.end (running_in c.loop-entry.running) c.loop-entry.entry = walk-on c.args.entries.now c.args.current c.args.self c.if-self.false ∙ c.loop-entry.invariant in
     let past : c.args.self.end ≤ c.loop-entry.entry = search rules in
-    on c ∙ spans-last _ _ _ _ _ past c.if-running.false _ c.closed.ensures
+    on ∙ spans-last _ _ _ _ _ past c.if-running.false _ c.closed.ensures
