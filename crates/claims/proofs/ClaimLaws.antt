@@ -10,7 +10,7 @@ use borrow.Author.Tests.{not-true, not-false}
 use lib.ListN.{length}
 use Rattle.lists.specs.Lists.{keep, numbers_from}
 use Rattle.lists.proofs.BoolLaws.{cases}
-use Rattle.lists.proofs.ScanLaws.{scan, scan-greatest}
+use Rattle.lists.proofs.ScanLaws.{better, scan, scan-greatest}
 use Rattle.format.specs.declared.tag.CountryTag.{CountryTag}
 use Rattle.format.specs.declared.date.Eu4Date.{Eu4Date}
 use Rattle.format.specs.Tags.{same_tag}
@@ -128,7 +128,7 @@ module _ (ws es : List ℕ) (w : Walk) {r : NextClaim.NextClaim} (told : claims_
 pub scan-append : (p : Claim → Bool) (best : Option Claim) (xs ys : List Claim)
     → scan claim_day best (keep p (xs ++ ys)) ≡ scan claim_day (scan claim_day best (keep p xs)) (keep p ys)
 scan-append p best [] ys = refl
-scan-append p best (x ∷ xs) ys = cases (p x) (λ h. simp h (scan-append p _ xs ys)) (λ h. simp h (scan-append p best xs ys))
+scan-append p best (x ∷ xs) ys = cases (p x) (λ h. simp h (scan-append p (better claim_day best x) xs ys)) (λ h. simp h (scan-append p best xs ys))
 
 pub scan_step : (tag : CountryTag) (date : Eu4Date) (best next : Option Claim) (claim : Claim) (left rest : List Claim) (all : Option Claim)
     → left ≡ claim ∷ rest → next ≡ scan claim_day best (keep (is_asked tag date) (claim ∷ []))

@@ -1,5 +1,5 @@
 -- What is looked up among the sorted keys of a block is the best of its claims.
-use mathlib.Core.Path.{◌≡◌, refl, sym, ap, ◌∙◌}
+use mathlib.Core.Path.{◌≡◌, refl, sym, ap, subst, ◌∙◌}
 use mathlib.Core.Bool.{Bool, true, false}
 use mathlib.Core.List.{List, [], ◌∷◌, ◌++◌, map, append_assoc}
 use mathlib.Core.Option
@@ -123,7 +123,8 @@ keyed-from front k (c ∷ cs) back h l q =
     let rest : List ℕ = map (λ x. x.nation) cs ++ back in
     let e : front ++ (c.nation ∷ rest) ≡ (front ++ (c.nation ∷ [])) ++ rest = sym (append_assoc front (c.nation ∷ []) rest) in (
       record { good = q.0; small = omega arith; owner = get_or_at front c.nation rest 0 k h },
-      rw e (keyed-from (front ++ (c.nation ∷ [])) (k + 1) cs back (simp length-append (omega arith)) (omega arith) q.1),
+      subst (λ (l : List ℕ). All (KeyedClaim l) (numbered_from (k + 1) cs)) (sym e)
+      (keyed-from (front ++ (c.nation ∷ [])) (k + 1) cs back (simp length-append (omega arith)) (omega arith) q.1),
     )
 
 -- Numbers grow along the list.

@@ -36,9 +36,9 @@ pub record Between (ws es : List ℕ) (rows : List Claim → List ℕ) (before :
   pub whole : claims_in ws es ≡ passed ++ claims_left ws es walk
   pub cells : out ≡ rows passed
   pub long : length out ≡ length before
-  pub keys-long : length keys ≡ 24576
-  pub owners-long : length owners ≡ 24576
-  pub scratch-long : length scratch ≡ 24576
+  pub keys_long : length keys ≡ 24576
+  pub owners_long : length owners ≡ 24576
+  pub scratch_long : length scratch ≡ 24576
 
 pub block-first : (ws es : List ℕ) (rows : List Claim → List ℕ) (out : List ℕ) (walk : Walk) (keys owners scratch : List ℕ) → out ≡ rows [] → walk ≡ walk_start
     → length keys ≡ 24576 → length owners ≡ 24576 → length scratch ≡ 24576 → Between ws es rows out walk out keys owners scratch
@@ -48,9 +48,9 @@ block-first ws es rows out walk keys owners scratch e w k o s =
       whole = sym (ap (claims_left ws es) w ∙ walk-start ws es);
       cells = e;
       long = refl;
-      keys-long = k;
-      owners-long = o;
-      scratch-long = s;
+      keys_long = k;
+      owners_long = o;
+      scratch_long = s;
     }
 
 module _ (ws es : List ℕ) (rows : List Claim → List ℕ) (before : List ℕ) (walk : Walk) (out keys owners scratch : List ℕ) (t : Between ws es rows before walk out keys owners scratch) where
@@ -74,9 +74,9 @@ module _ (ws es : List ℕ) (rows : List Claim → List ℕ) (before : List ℕ)
         whole = t.whole ∙ (ap (λ (l : List Claim). t.passed ++ l) (sym (take-append-drop room left) ∙ ap (λ (l : List Claim). ys ++ l) (sym b.behind)) ∙ sym (append_assoc t.passed ys (claims_left ws es rest)));
         cells = w;
         long = lo ∙ t.long;
-        keys-long = lk ∙ t.keys-long;
-        owners-long = lw ∙ t.owners-long;
-        scratch-long = ls ∙ t.scratch-long;
+        keys_long = lk ∙ t.keys_long;
+        owners_long = lw ∙ t.owners_long;
+        scratch_long = ls ∙ t.scratch_long;
       }
 
 -- ## A block

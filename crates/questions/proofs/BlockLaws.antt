@@ -36,11 +36,11 @@ few-taken n cs = simp length-take (omega arith)
 pub record Taking (left rest : List Claim) (room count : ℕ) (keys₀ keys owners₀ owners : List ℕ) : Type 0 where
   pub inside : count ≤ room
   pub few : room ≤ claim_numbers
-  pub keys-wide : room ≤ length keys
-  pub owners-wide : room ≤ length owners
+  pub keys_wide : room ≤ length keys
+  pub owners_wide : room ≤ length owners
   pub behind : rest ≡ drop count left
-  pub keys-so-far : Filling (keys_from 0 (take room left)) (keys_from count (take (room - count) rest)) keys₀ count keys
-  pub owners-so-far : Filling (nations (take room left)) (nations (take (room - count) rest)) owners₀ count owners
+  pub keys_so_far : Filling (keys_from 0 (take room left)) (keys_from count (take (room - count) rest)) keys₀ count keys
+  pub owners_so_far : Filling (nations (take room left)) (nations (take (room - count) rest)) owners₀ count owners
 
 pub taking-start : (left : List Claim) (room m : ℕ) (keys owners : List ℕ) → m ≡ min (length keys) (length owners) → room ≡ min m claim_numbers
     → Taking left left room 0 keys keys owners owners
@@ -50,11 +50,11 @@ taking-start left room m keys owners p q =
     record {
       inside = omega arith;
       few = omega arith;
-      keys-wide = a;
-      owners-wide = b;
+      keys_wide = a;
+      owners_wide = b;
       behind = refl;
-      keys-so-far = rw (sub-zero room) (filling-new (keys_from 0 (take room left)) keys (omega (arith, length-keys 0 (take room left), few-taken room left)));
-      owners-so-far = rw (sub-zero room) (filling-new (nations (take room left)) owners (omega (arith, length-map (take room left) (λ (c : Claim). c.nation), few-taken room left)));
+      keys_so_far = rw (sub-zero room) (filling-new (keys_from 0 (take room left)) keys (omega (arith, length-keys 0 (take room left), few-taken room left)));
+      owners_so_far = rw (sub-zero room) (filling-new (nations (take room left)) owners (omega (arith, length-map (take room left) (λ (c : Claim). c.nation), few-taken room left)));
     }
 
 module _ (left rest : List Claim) (room count : ℕ) (keys₀ keys owners₀ owners : List ℕ) (t : Taking left rest room count keys₀ keys owners₀ owners) where
@@ -66,12 +66,12 @@ module _ (left rest : List Claim) (room count : ℕ) (keys₀ keys owners₀ own
       record {
         inside = omega arith;
         few = t.few;
-        keys-wide = simp length-set t.keys-wide;
-        owners-wide = simp length-set t.owners-wide;
+        keys_wide = simp length-set t.keys_wide;
+        owners_wide = simp length-set t.owners_wide;
         behind = next-behind;
-        keys-so-far =
-            filling-put _ _ _ _ _ t.keys-so-far (lowest_key c.tag c.date + count) _ (ap (keys_from count) first ∙ keys-cons count c _) (key + count) (ap (λ (x : ℕ). x + count) k);
-        owners-so-far = filling-one _ _ _ _ _ t.owners-so-far c.nation _ (ap nations first);
+        keys_so_far =
+            filling-put _ _ _ _ _ t.keys_so_far (lowest_key c.tag c.date + count) _ (ap (keys_from count) first ∙ keys-cons count c _) (key + count) (ap (λ (x : ℕ). x + count) k);
+        owners_so_far = filling-one _ _ _ _ _ t.owners_so_far c.nation _ (ap nations first);
       }
     where
       next-behind : rest' ≡ drop (count + 1) left
@@ -81,11 +81,11 @@ module _ (left rest : List Claim) (room count : ℕ) (keys₀ keys owners₀ own
   taken l none e d =
       record {
         counted =
-            filling-count _ _ _ _ _ t.owners-so-far (ap nations none)
+            filling-count _ _ _ _ _ t.owners_so_far (ap nations none)
             ∙ length-map (take room left) (λ (c : Claim). c.nation);
         behind = e ∙ d;
-        keys = filling-written _ _ _ _ _ t.keys-so-far (ap (keys_from count) none ∙ keys-nil count);
-        owners = filling-written _ _ _ _ _ t.owners-so-far (ap nations none);
+        keys = filling-written _ _ _ _ _ t.keys_so_far (ap (keys_from count) none ∙ keys-nil count);
+        owners = filling-written _ _ _ _ _ t.owners_so_far (ap nations none);
       }
 
   -- The walk has come to its end.

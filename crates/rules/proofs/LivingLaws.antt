@@ -104,15 +104,15 @@ module _ (start day d : Eu4Date) (loses gains : Bool) (n : ℕ) where
 
 -- Neither kind is counted.
 pub record Uncounted (start day : Eu4Date) (es : List Entry) : Type 0 where
-  pub no-appeared : counted is_appeared start day es ≡ 0
-  pub no-annexed : counted is_annexed start day es ≡ 0
+  pub no_appeared : counted is_appeared start day es ≡ 0
+  pub no_annexed : counted is_annexed start day es ≡ 0
 
 turn-out : (start day d : Eu4Date) (loses gains : Bool) (n : ℕ) → in_days start day d ≡ false
     → Uncounted start day (turn_entries start d loses gains n)
 turn-out start day d loses gains n h =
     record {
-      no-appeared = turn-appeared start day d loses gains n ∙ simp (h, and-false);
-      no-annexed = turn-annexed start day d loses gains n ∙ simp (h, and-false);
+      no_appeared = turn-appeared start day d loses gains n ∙ simp (h, and-false);
+      no_annexed = turn-annexed start day d loses gains n ∙ simp (h, and-false);
     }
 
 -- One turn inside the days, with n slots before it and n' after it.
@@ -149,7 +149,7 @@ lives_by start t ms holders n = lives_from start t (turns_from holders ms) n
 none-late : (start day : Eu4Date) (t : CountryTag) (ms : List Move) (holders : List (Option CountryTag)) (n : ℕ) → All (λ m. day.0 < m.date.0) ms
     → Uncounted start day (lives_by start t ms holders n)
 unfolding lives_from turns_from
-none-late start day t [] holders n q = record { no-appeared = refl; no-annexed = refl }
+none-late start day t [] holders n q = record { no_appeared = refl; no_annexed = refl }
 none-late start day t (m ∷ ms) holders n q =
     let loses : Bool = matches t (get_or holders m.slot.0 none) in
     let gains : Bool = same_tag m.holder t in
@@ -158,12 +158,12 @@ none-late start day t (m ∷ ms) holders n q =
     let ih = none-late start day t ms holders' (turn_count loses gains n) q.1 in
     let here : List Entry = turn_entries start m.date loses gains n in
     record {
-      no-appeared =
+      no_appeared =
           count-append (λ e. is_appeared e.kind && in_days start day e.date) here _
-          ∙ simp (out.no-appeared, ih.no-appeared);
-      no-annexed =
+          ∙ simp (out.no_appeared, ih.no_appeared);
+      no_annexed =
           count-append (λ e. is_annexed e.kind && in_days start day e.date) here _
-          ∙ simp (out.no-annexed, ih.no-annexed);
+          ∙ simp (out.no_annexed, ih.no_annexed);
     }
 
 module _ (start day : Eu4Date) (t : CountryTag) (after : start.0 ≤ day.0) where
@@ -211,4 +211,4 @@ module _ (start day : Eu4Date) (t : CountryTag) (after : start.0 ≤ day.0) wher
       (λ h2. let g : day.0 < m.date.0 = leb-false m.date.0 day.0 h2 in
       let past : All (λ x. day.0 < x.date.0) ms = all_map {Q = λ x. day.0 < x.date.0} (λ x k. omega arith) ms o.0 in
       let un = none-late start day t (m ∷ ms) holders n (g, past) in
-      simp (h, h2, u, none-due day ms past) (omega (arith, un.no-appeared, un.no-annexed))))
+      simp (h, h2, u, none-due day ms past) (omega (arith, un.no_appeared, un.no_annexed))))

@@ -90,10 +90,10 @@ told front first (n ∷ ns) h =
     ap (λ (l : List EntryRow). map entry_of (take (length n.entries) l)) (drop_at front (own ++ rest) first h)
     ∙ (ap (map entry_of) (take_at own rest (length n.entries) len) ∙ map_back entry_row entry_of entry-back n.entries) in
     let behind = told (front ++ own) (first + length n.entries) ns (simp length-append (omega arith)) in
-    rw all
-    (ap₂ (λ (es : List Entry) (l : List Nation). record { initial = n.initial; latest = n.latest; stored = n.stored; entries = es } ∷ l)
+    ap (λ (l : List EntryRow). map (nation_at l) (nation_rows_from first (n ∷ ns))) all
+    ∙ ap₂ (λ (es : List Entry) (l : List Nation). record { initial = n.initial; latest = n.latest; stored = n.stored; entries = es } ∷ l)
     here
-    (ap (λ (l : List EntryRow). map (nation_at l) (nation_rows_from (first + length n.entries) ns)) (sym (append_assoc front own rest)) ∙ behind))
+    (ap (λ (l : List EntryRow). map (nation_at l) (nation_rows_from (first + length n.entries) ns)) (sym (append_assoc front own rest)) ∙ behind)
 
 pub read-written : (ns : List Nation) → nations_in (nation_words ns) (entry_words ns) ≡ ns
 unfolding nations_in

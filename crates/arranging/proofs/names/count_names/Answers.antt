@@ -1,4 +1,4 @@
-use mathlib.Core.Path.{◌≡◌, ap}
+use mathlib.Core.Path.{sym, ◌∙◌, ◌≡◌, ap}
 use Prim.Native.Nat.{◌+◌}
 use native.Mathlib.Omega.{arith}
 use lib.ListN.{drop, drop_of_length-le}
@@ -17,8 +17,9 @@ overflow_add-total c = omega (arith, c.loop-i.invariant.1, c.loop-i-test.true, c
 
 pub loop-i-preserved : goal.loop-i-preserved
 loop-i-preserved c =
-    let next : sum_of (λ d. d.count) (drop c.loop-i.i (history_rows_in c.args.drafts.now)) ≡ (history_told c.history_at-row.result).count + sum_of (λ d. d.count) (drop (c.loop-i.i + 1) (history_rows_in c.args.drafts.now)) = rw c.history_at-row.ensures
-    (ap (sum_of (λ (d : HistoryRow). d.count)) (histories-next _ _ (omega (arith, c.loop-i-test.true, c.history_count-n.ensures)))) in
+    let next : sum_of (λ d. d.count) (drop c.loop-i.i (history_rows_in c.args.drafts.now)) ≡ (history_told c.history_at-row.result).count + sum_of (λ d. d.count) (drop (c.loop-i.i + 1) (history_rows_in c.args.drafts.now)) =
+    ap (sum_of (λ (d : HistoryRow). d.count)) (histories-next _ _ (omega (arith, c.loop-i-test.true, c.history_count-n.ensures)))
+    ∙ ap (λ (d : HistoryRow). d.count + sum_of (λ d. d.count) (drop (c.loop-i.i + 1) (history_rows_in c.args.drafts.now))) (sym c.history_at-row.ensures) in
     (search rules, omega (arith, c.loop-i.invariant.1), omega (arith, next, c.loop-i.invariant.2))
 
 pub returns : goal.returns

@@ -64,10 +64,7 @@ bounds-out-0 c =
 
 pub shape_of-out-then-popped : goal.shape_of-out-then-popped
 shape_of-out-then-popped c =
-    ap length (taken c) ∙ length-written (draft_words c.args.popped (history_rows_in c.args.rows.now)) c.args.out.now (omega (arith, length-drafted c.args.popped (history_rows_in c.args.rows.now), c.requires.counted, c.requires.left, c.requires.room))
-
-pub returns-then-popped : goal.returns-then-popped
-returns-then-popped c = taken c
+    ap length (returns-then-popped c) ∙ length-written (draft_words c.args.popped (history_rows_in c.args.rows.now)) c.args.out.now (omega (arith, length-drafted c.args.popped (history_rows_in c.args.rows.now), c.requires.counted, c.requires.left, c.requires.room))
 
 pub returns-else-popped : goal.returns-else-popped
 returns-else-popped c =

@@ -47,6 +47,5 @@ loop-start-smaller c =
 
 pub loop-start-preserved : goal.loop-start-preserved
 loop-start-preserved c =
-    let kept = c.sort_block-block.auto.1.1.1 in
     blocks-next _ _ _ _ _ _ _ _ _ c.loop-start.invariant _ _ _ _ _ _ c.requires.shaped c.requires.good c.sort_block-block.ensures c.hold_rows.ensures
-    c.hold_rows.auto.out kept.0 kept.1.0 kept.1.1.0
+    c.hold_rows.auto.out c.sort_block-block.auto.keys c.sort_block-block.auto.owners c.sort_block-block.auto.scratch

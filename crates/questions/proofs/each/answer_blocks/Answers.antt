@@ -43,6 +43,5 @@ loop-keys-smaller c =
 
 pub loop-keys-preserved : goal.loop-keys-preserved
 loop-keys-preserved c =
-    let kept = c.sort_block-block.auto.1.1.1 in
     between_next _ _ _ _ _ _ _ _ _ c.loop-keys.invariant _ _ _ _ _ _ c.requires.shaped c.requires.good c.sort_block-block.ensures c.answer_block.ensures
-    c.answer_block.auto.out kept.0 kept.1.0 kept.1.1.0
+    c.answer_block.auto.out c.sort_block-block.auto.keys c.sort_block-block.auto.owners c.sort_block-block.auto.scratch

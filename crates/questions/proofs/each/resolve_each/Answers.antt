@@ -21,7 +21,7 @@ pub answer_all-requires : goal.answer_all-requires
 answer_all-requires c =
     record {
       shaped = sym c.is_well_shaped.ensures ∙ not-false _ c.if-not-is_well_shaped.false-raw;
-      c = each-good c.args.nations.now c.args.entries.now c.args.questions.now c.args.out.now _ c.is_well_shaped.ensures c.if-not-is_well_shaped.false-raw _ c.questions_good.ensures c.if-not-questions_good.false-raw _ c.question_count-n.ensures;
+      good = each-good c.args.nations.now c.args.entries.now c.args.questions.now c.args.out.now _ c.is_well_shaped.ensures c.if-not-is_well_shaped.false-raw _ c.questions_good.ensures c.if-not-questions_good.false-raw _ c.question_count-n.ensures;
       room = each-room c.args.nations.now c.args.entries.now c.args.questions.now c.args.out.now _ c.is_well_shaped.ensures c.if-not-is_well_shaped.false-raw _ c.questions_good.ensures c.if-not-questions_good.false-raw _ c.question_count-n.ensures c.if-out-n.false;
     }
 

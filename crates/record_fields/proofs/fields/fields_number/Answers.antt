@@ -21,7 +21,7 @@ pub laid_number-requires : goal.laid_number-requires
 laid_number-requires c =
     record {
       head = c.read_head-h.ensures;
-      c = sym c.within_limits.ensures ∙ not-false _ c.if-not-within_limits.false-raw;
+      limits = sym c.within_limits.ensures ∙ not-false _ c.if-not-within_limits.false-raw;
       inside = omega (arith, c.strings_at-end.ensures, c.if-s-end.false);
     }
 

@@ -13,6 +13,14 @@ use Rattle.format.specs.Refusal.{first_of, first_in, year_number}
 use Rattle.format.proofs.RowLaws.{rows_none, rows_more}
 use Rattle.record_fields.proofs.years.four_points_number.Goals as goal
 
+four : (a b c d : Bool) → first_of (cond a 0 9 ∷ cond b 0 9 ∷ cond c 0 9 ∷ cond d 0 9 ∷ []) ≡ cond (a && b && c && d) 0 9
+unfolding first_of
+four false b c d = refl
+four true false c d = refl
+four true true false d = refl
+four true true true false = refl
+four true true true true = refl
+
 module _ (xs : List ℕ) (at : ℕ) where
   row-then : (a b n : ℕ) → 0 < n → a + 6 ≤ length xs → b ≡ a + 6 → rows_at (point_at xs) 6 xs a n ≡ point_at xs a ∷ rows_at (point_at xs) 6 xs b (n - 1)
   row-then a b n some inside e = rw e (rows_more (point_at xs) 6 xs a n some inside)
@@ -36,14 +44,6 @@ module _ (xs : List ℕ) (at : ℕ) where
       ap (first_in (λ (p : Point). year_number p.year)) (four-rows h)
       ∙ four (leb (le16 xs at) 9999) (leb (le16 xs (at + 6)) 9999) (leb (le16 xs (at + 12)) 9999) (leb (le16 xs (at + 18)) 9999)
       ∙ rw (← ew, ← ex, ← ey, ← ez) (ap (λ b. cond b 0 9) e)
-
-four : (a b c d : Bool) → first_of (cond a 0 9 ∷ cond b 0 9 ∷ cond c 0 9 ∷ cond d 0 9 ∷ []) ≡ cond (a && b && c && d) 0 9
-unfolding first_of
-four false b c d = refl
-four true false c d = refl
-four true true false d = refl
-four true true true false = refl
-four true true true true = refl
 
 abbrev allowed : ℕ → Bool
 allowed y = leb y 9999

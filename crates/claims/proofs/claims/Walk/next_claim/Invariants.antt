@@ -5,7 +5,7 @@ use Rattle.claims.specs.Claims.{claims_left}
 use Rattle.claims.proofs.claims.Walk.next_claim.Given as goal
 
 abbrev pub invariant-loop-entry : goal.invariant-loop-entry
-invariant-loop-entry l = claims_left l.nations l.entries l.self ≡ claims_left l.nations l.entries (record { owner = l.nation; l.entry = l.entry; l.end = l.end; coming = l.self.coming })
+invariant-loop-entry l = claims_left l.nations l.entries l.self ≡ claims_left l.nations l.entries (record { owner = l.nation; entry = l.entry; end = l.end; coming = l.self.coming })
 
 abbrev pub decreases-loop-entry : goal.decreases-loop-entry
 decreases-loop-entry l = l.end - l.entry
