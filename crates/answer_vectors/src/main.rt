@@ -3,6 +3,7 @@
 // the record, and how many changes, days, nations, entries, slots and countries follow; then these, of 4, 3, 5, 3, 1 and
 // 1 numbers each. Held to the record are its changes, days and nations.
 #![tactic(auto)]
+
 mod stored;
 
 ghost use Rattle.std.specs.Prelude.{◌≤◌, length};

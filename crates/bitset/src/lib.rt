@@ -1,5 +1,6 @@
 // A set of numbers as the bits of 64-bit words: number k is bit k % 64, lowest first, of word k / 64.
 #![tactic(auto)]
+
 ghost use Rattle.std.specs.Prelude.{◌≡◌};
 ghost use Rattle.bitset.specs.Bitset.{is_marked, marking};
 

@@ -1,5 +1,6 @@
 // Owner changes one by one, and the sort keys that they are ordered by.
 #![tactic(auto)]
+
 mod changes;
 mod keys;
 

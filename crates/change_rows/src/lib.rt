@@ -1,5 +1,6 @@
 // Rows of owner changes, written in entry order and put in order where they stand.
 #![tactic(auto)]
+
 mod entering;
 mod ordering;
 mod rows;

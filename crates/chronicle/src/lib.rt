@@ -1,5 +1,6 @@
 // The chronicle of a campaign.
 #![tactic(auto)]
+
 pub use bookings::{Bookings, war_participants};
 pub use histories::{HistoryCounts, PlayerHistories, player_histories};
 pub use history_rows::{

@@ -1,6 +1,7 @@
 // The rows of a lent chronicle, nation words and entry words that anybody may have written: whether they are well shaped, and each row
 // by value. Widths of rows, and positions of the words that are read, stand in `rows` and nowhere above it.
 #![tactic(auto)]
+
 mod counts;
 mod rows;
 mod shape;

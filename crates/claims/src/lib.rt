@@ -1,5 +1,6 @@
 // Claims to a tag: each nation's initial, and every tag that it switched to, with the dates. The best of them says whose tag it is.
 #![tactic(auto)]
+
 mod claims;
 
 pub use claims::{BestClaim, Claim, NextClaim, Walk, best_claim, best_initial};

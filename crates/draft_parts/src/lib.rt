@@ -1,5 +1,6 @@
 // The parts of a draft, from which a history is made: the nation stored under its country, and whether the country was released.
 #![tactic(auto)]
+
 mod marks;
 mod parts;
 

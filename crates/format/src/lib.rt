@@ -1,5 +1,6 @@
 // The packed record's types, with the rules of dates and tags. What a record is stands in specs; crate record_head has the tests of its head and of single fields.
 #![tactic(auto)]
+
 mod date;
 mod head;
 mod rows;

@@ -1,5 +1,6 @@
 // History rows by value, whether they are well shaped, and the country that a campaign was started as, which they tell.
 #![tactic(auto)]
+
 mod rows;
 mod starting;
 

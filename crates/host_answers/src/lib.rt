@@ -1,5 +1,6 @@
 // How the answers of the calls reach the host: the number that a C function returns, and words in a lent slice.
 #![tactic(auto)]
+
 mod counts;
 mod found;
 mod numbers;

@@ -13,6 +13,7 @@
 // 5 histories; besides: cells lent for names, then the names.
 // 6 a starting country; besides: the history words.
 #![tactic(auto)]
+
 mod asking;
 mod booking;
 mod ledgers;

@@ -1,5 +1,6 @@
 // Definitions and laws on lists, which every crate above cites, and two small functions that several of them call.
 #![tactic(auto)]
+
 ghost use Rattle.std.specs.Prelude.{◌≡◌, min};
 ghost use Rattle.lists.specs.Lists.{one as one_of};
 

@@ -1,5 +1,6 @@
 // Owner changes.
 #![tactic(auto)]
+
 mod answers;
 
 pub use answers::{EventsOn, Owners, events_on, province_owners};

@@ -1,5 +1,6 @@
 // What the Rust host calls: C functions over slices. A slice is a pointer and then a length.
 #![tactic(auto)]
+
 mod booking;
 mod ledgers;
 mod paging;

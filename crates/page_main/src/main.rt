@@ -1,5 +1,6 @@
 // The program page: it reads campaign.atl and, from standard input, a selection, and prints the page or the line of its refusal.
 #![tactic(auto)]
+
 mod reading;
 
 use libc::{STDERR_FILENO, STDIN_FILENO, STDOUT_FILENO};

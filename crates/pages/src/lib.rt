@@ -1,5 +1,6 @@
 // The page of a record for a selection of tags.
 #![tactic(auto)]
+
 mod listing;
 mod paging;
 mod printing;

@@ -1,5 +1,6 @@
 // The players of a campaign.
 #![tactic(auto)]
+
 mod answers;
 mod pairs;
 mod player_rows;

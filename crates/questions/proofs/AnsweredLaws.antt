@@ -124,7 +124,7 @@ keyed-from front k (c ∷ cs) back h l q =
     let e : front ++ (c.nation ∷ rest) ≡ (front ++ (c.nation ∷ [])) ++ rest = sym (append_assoc front (c.nation ∷ []) rest) in (
       record { good = q.0; small = omega arith; owner = get_or_at front c.nation rest 0 k h },
       subst (λ (l : List ℕ). All (KeyedClaim l) (numbered_from (k + 1) cs)) (sym e)
-      (keyed-from (front ++ (c.nation ∷ [])) (k + 1) cs back (simp length-append (omega arith)) (omega arith) q.1),
+          (keyed-from (front ++ (c.nation ∷ [])) (k + 1) cs back (simp length-append (omega arith)) (omega arith) q.1),
     )
 
 -- Numbers grow along the list.

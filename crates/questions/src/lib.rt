@@ -1,6 +1,7 @@
 // Many questions of the resolver at once. The claims of a chronicle are sorted a block at a time, and each question is looked up in
 // each block; between blocks a question's best claim stands in its own row of the answer.
 #![tactic(auto)]
+
 mod asked;
 mod blocks;
 mod each;

@@ -1,6 +1,7 @@
 // The packed record of a campaign: its check, and its rows for the layer above. Crates format, record_head, record_fields and record_check
 // have its types, its head, the numbers of its fields, and the check.
 #![tactic(auto)]
+
 mod bytes;
 mod cursors;
 mod ledger;

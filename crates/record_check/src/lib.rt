@@ -1,5 +1,6 @@
 // The check of a record: which number refuses it, if any does.
 #![tactic(auto)]
+
 mod bytes;
 mod refusal;
 mod repeats;

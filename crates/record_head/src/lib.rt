@@ -1,5 +1,6 @@
 // The head of a packed record: how it is read from bytes, the tests of its numbers and of single fields, and where each section begins.
 #![tactic(auto)]
+
 mod bytes;
 mod flags;
 mod numbers;

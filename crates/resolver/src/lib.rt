@@ -1,5 +1,6 @@
 // The resolver: under which tag a country that was once known by a tag stands now, and where it is stored.
 #![tactic(auto)]
+
 mod forms;
 mod worn;
 

@@ -1,5 +1,6 @@
 // Sorted 64-bit keys: how many are up to a number, and the first element that has a tag.
 #![tactic(auto)]
+
 mod halving;
 mod places;
 

@@ -1,5 +1,6 @@
 // The points that one span gives: counted, and written as rows of three words.
 #![tactic(auto)]
+
 mod counting;
 mod filling;
 mod reading;

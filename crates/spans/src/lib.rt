@@ -1,5 +1,6 @@
 // The spans of a nation, walked along its entries.
 #![tactic(auto)]
+
 mod walk;
 
 pub use walk::{NextSpan, Span, SpanWalk};

@@ -1,6 +1,7 @@
 // Runs 01's starred cases of record, nations and resolver through the code, and prints what it answers; the file stdout has what 01 says.
 // worked.atl is the worked record, one_slot.atl that of GBR's only slot.
 #![tactic(auto)]
+
 mod lines;
 
 ghost use Rattle.std.specs.Prelude.{◌≤◌, length};

@@ -17,12 +17,11 @@ returns-then-keys-row c =
     (sym (ap (leads_within c.args.keys) c.history_at-row.ensures) ∙ lt-leb _ c.args.keys c.if-keys-row.true)
 
 pub loop-i-preserved : goal.loop-i-preserved
-loop-i-preserved c =
-    (
-      search rules,
-      all_pass (leads_within c.args.keys) (history_rows_in c.args.drafts.now) c.loop-i.i (c.loop-i.i + 1) _ (histories-next _ c.loop-i.i (search rules)) c.loop-i.invariant.1
-          (sym (ap (leads_within c.args.keys) c.history_at-row.ensures) ∙ le-leb _ c.args.keys c.if-keys-row.false),
-    )
+loop-i-preserved c = (
+  search rules,
+  all_pass (leads_within c.args.keys) (history_rows_in c.args.drafts.now) c.loop-i.i (c.loop-i.i + 1) _ (histories-next _ c.loop-i.i (search rules)) c.loop-i.invariant.1
+      (sym (ap (leads_within c.args.keys) c.history_at-row.ensures) ∙ le-leb _ c.args.keys c.if-keys-row.false),
+)
 
 pub returns : goal.returns
 returns c =

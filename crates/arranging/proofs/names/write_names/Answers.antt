@@ -90,8 +90,7 @@ overflow_add-k c =
 pub loop-i-preserved : goal.loop-i-preserved
 loop-i-preserved c =
     let next : drop c.loop-i.i (history_rows_in c.args.drafts.now) ≡ history_told c.history_at-row.result ∷ drop (c.loop-i.i + 1) (history_rows_in c.args.drafts.now) = rw c.history_at-row.ensures (histories-next _ _ (omega (arith, c.loop-i-test.true, c.history_count-n.ensures))) in
-    let inside : (history_told c.history_at-row.result).first + (history_told c.history_at-row.result).count ≤ length c.args.keys.now = inside-here c.args.keys.now (history_rows_in c.args.drafts.now) c.loop-i.i _ _ c.requires.inside next in
-    (
+    let inside : (history_told c.history_at-row.result).first + (history_told c.history_at-row.result).count ≤ length c.args.keys.now = inside-here c.args.keys.now (history_rows_in c.args.drafts.now) c.loop-i.i _ _ c.requires.inside next in (
       omega (arith, c.loop-i.invariant.0, inside, c.requires.short),
       names_more _ _ _ c.copy_names.new.out c.args.keys.now _ _ _ _ c.loop-i.invariant.1 next inside c.copy_names.ensures,
     )

@@ -68,8 +68,7 @@ overflow_add-k c =
 pub loop-k-preserved : goal.loop-k-preserved
 loop-k-preserved c =
     let more : keep (has_names c.args.named) (drop c.loop-k.at (history_rows_in c.args.rows.now)) ≡ history_told c.in-Row.row ∷ keep (has_names c.args.named) (drop c.in-Row.rest (history_rows_in c.args.rows.now)) = told-row (draft_told _ _) c.next_draft.ensures c.in-Row.is refl in
-    let row : words_to_come c.loop-k.first c.args.n c.loop-k.k (keep (has_names c.args.named) (drop c.loop-k.at (history_rows_in c.args.rows.now))) ≡ history_row_words (history_from (history_told c.in-Row.row) c.loop-k.first) ++ words_to_come (c.loop-k.first + (history_told c.in-Row.row).count) c.args.n (c.loop-k.k + 1) (keep (has_names c.args.named) (drop c.in-Row.rest (history_rows_in c.args.rows.now))) = words-next _ _ _ _ _ c.loop-k-test.true more in
-    (
+    let row : words_to_come c.loop-k.first c.args.n c.loop-k.k (keep (has_names c.args.named) (drop c.loop-k.at (history_rows_in c.args.rows.now))) ≡ history_row_words (history_from (history_told c.in-Row.row) c.loop-k.first) ++ words_to_come (c.loop-k.first + (history_told c.in-Row.row).count) c.args.n (c.loop-k.k + 1) (keep (has_names c.args.named) (drop c.in-Row.rest (history_rows_in c.args.rows.now))) = words-next _ _ _ _ _ c.loop-k-test.true more in (
       search rules,
       omega (arith, c.loop-k.invariant.1, ap (sum_of (λ (d : HistoryRow). d.count)) more),
       row_more _ _ _ _ _ c.put_history.new.out _ _ c.loop-k.invariant.2 row _ c.finish.ensures c.put_history.ensures,

@@ -31,8 +31,7 @@ loop-x-smaller c =
 
 pub loop-x-preserved : goal.loop-x-preserved
 loop-x-preserved c =
-    let more : joinings_left c.args.s.now c.loop-x.walk ≡ joining_of c.in-Row.x ∷ joinings_left c.args.s.now c.in-Row.rest = joining-row c.next_joining.ensures c.in-Row.is in
-    (
+    let more : joinings_left c.args.s.now c.loop-x.walk ≡ joining_of c.in-Row.x ∷ joinings_left c.args.s.now c.in-Row.rest = joining-row c.next_joining.ensures c.in-Row.is in (
       joining-few c.next_joining.ensures c.in-Row.is,
       passing-next _ _ _ c.loop-x.invariant.1 (λ j r. refl) more _ c.claim_row.ensures,
     )

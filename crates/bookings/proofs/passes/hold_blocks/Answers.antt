@@ -35,11 +35,10 @@ pub slice_bounds-hold_rows-end : goal.slice_bounds-hold_rows-end
 slice_bounds-hold_rows-end c = sorted-inside _ _ _ _ _ _ _ _ _ _ c.sort_block-block.ensures
 
 pub hold_rows-requires : goal.hold_rows-requires
-hold_rows-requires c =
-    (
-      record { few = c.requires.few.wars; room = omega (arith, c.requires.counted, c.requires.room, c.loop-start.invariant.long, c.clear_words.auto.out) },
-      part-in-order _ _ _ _ _ _ _ _ _ _ c.sort_block-block.ensures,
-    )
+hold_rows-requires c = (
+  record { few = c.requires.few.wars; room = omega (arith, c.requires.counted, c.requires.room, c.loop-start.invariant.long, c.clear_words.auto.out) },
+  part-in-order _ _ _ _ _ _ _ _ _ _ c.sort_block-block.ensures,
+)
 
 pub loop-start-smaller : goal.loop-start-smaller
 loop-start-smaller c =

@@ -16,12 +16,11 @@ returns-then-not-row_shaped c =
     (sym (ap (history_shaped c.args.nations) c.history_at.ensures) ∙ sym c.row_shaped.ensures ∙ not-true _ c.if-not-row_shaped.true-raw)
 
 pub loop-i-preserved : goal.loop-i-preserved
-loop-i-preserved c =
-    (
-      search rules,
-      all_pass (history_shaped c.args.nations) (history_rows_in c.args.histories.now) c.loop-i.i (c.loop-i.i + 1) _ (histories-next _ c.loop-i.i (search rules)) c.loop-i.invariant.1
-          (sym (ap (history_shaped c.args.nations) c.history_at.ensures) ∙ sym c.row_shaped.ensures ∙ not-false _ c.if-not-row_shaped.false-raw),
-    )
+loop-i-preserved c = (
+  search rules,
+  all_pass (history_shaped c.args.nations) (history_rows_in c.args.histories.now) c.loop-i.i (c.loop-i.i + 1) _ (histories-next _ c.loop-i.i (search rules)) c.loop-i.invariant.1
+      (sym (ap (history_shaped c.args.nations) c.history_at.ensures) ∙ sym c.row_shaped.ensures ∙ not-false _ c.if-not-row_shaped.false-raw),
+)
 
 pub returns : goal.returns
 returns c =

@@ -55,8 +55,7 @@ slice_bounds-write_nation-end-in-loop-i c =
 pub write_nation-put-requires : goal.write_nation-put-requires
 write_nation-put-requires c =
     let readable = c.requires.readable in
-    let h = c.loop-i-test.true in
-    (
+    let h = c.loop-i-test.true in (
       readable,
       (
         (h, omega (arith, c.loop-i.invariant.short, readable.few)),

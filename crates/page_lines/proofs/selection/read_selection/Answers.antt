@@ -43,8 +43,7 @@ loop-count-smaller c =
 pub loop-count-preserved : goal.loop-count-preserved
 loop-count-preserved c =
     let told : selection_of (drop c.loop-count.at c.args.selection.now) ≡ map (λ ts. c.in-Row.field-0 ∷ ts) (selection_of (drop (c.loop-count.at + 4) c.args.selection.now)) = c.next_tag.ensures ∙ ap (tag_told _ _) c.in-Row.is in
-    let inside : c.loop-count.at + 4 ≤ length c.args.selection.now = tag-inside _ _ c.in-Row.field-0 told in
-    (
+    let inside : c.loop-count.at + 4 ≤ length c.args.selection.now = tag-inside _ _ c.in-Row.field-0 told in (
       inside,
       omega (arith, c.loop-count.invariant.1),
       tags-more c.loop-count.count c.in-Row.field-0 (selection_of (drop (c.loop-count.at + 4) c.args.selection.now)) ∙ sym (ap (more_tags c.loop-count.count) told) ∙ c.loop-count.invariant.2,

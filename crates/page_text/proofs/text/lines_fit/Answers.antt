@@ -52,8 +52,7 @@ loop-tag-preserved c =
     let told : selection_of (drop c.loop-tag.at c.args.selection.now) ≡ map (λ ts. c.in-Row.tag ∷ ts) (selection_of (drop (c.loop-tag.at + 4) c.args.selection.now)) = c.next_tag.ensures ∙ ap (tag_told _ _) c.in-Row.is in
     let grown : length (lines_of c.args.nations.now c.args.living.now (tags_read (selection_of (drop c.loop-tag.at c.args.selection.now)))) ≡ length (line_of c.args.nations.now c.args.living.now c.in-Row.tag) + length (lines_of c.args.nations.now c.args.living.now (tags_read (selection_of (drop (c.loop-tag.at + 4) c.args.selection.now)))) = ap (λ ts. length (lines_of c.args.nations.now c.args.living.now ts)) (tags-next c.args.selection.now c.loop-tag.at c.in-Row.tag told c.loop-tag.invariant.1).1
     ∙ length-append (line_of c.args.nations.now c.args.living.now c.in-Row.tag) (lines_of c.args.nations.now c.args.living.now (tags_read (selection_of (drop (c.loop-tag.at + 4) c.args.selection.now)))) in
-    let inside : c.loop-tag.at + 4 ≤ length c.args.selection.now = tag-inside _ _ c.in-Row.tag told in
-    (
+    let inside : c.loop-tag.at + 4 ≤ length c.args.selection.now = tag-inside _ _ c.in-Row.tag told in (
       inside,
       (tags-next c.args.selection.now c.loop-tag.at c.in-Row.tag told c.loop-tag.invariant.1).0,
       omega (arith, c.tag_length-need.ensures, c.if-left-need.false, c.loop-tag.invariant.2, grown),

@@ -10,13 +10,12 @@ pub loop-i-init : goal.loop-i-init
 loop-i-init c = (search rules, passing-start _ _)
 
 pub loop-i-preserved : goal.loop-i-preserved
-loop-i-preserved c =
-    (
-      search rules,
-      passing-put _ _ _ _ c.loop-i.invariant.1 _ _ _ c.put_words.ensures (omega (arith, c.requires.0, c.question_count-n.ensures, c.loop-i-test.true))
-          (block-row c.args.questions.now c.args.keys.now c.args.owners.now c.args.out.now c.loop-i.i _ _ _ _ _ c.updated_row-row.ensures (c.look_up_near-looked.ensures c.requires.1) c.question_at-q.ensures
-          (first-still _ _ _ _ c.loop-i.invariant.1) (second-still _ _ _ _ c.loop-i.invariant.1)),
-    )
+loop-i-preserved c = (
+  search rules,
+  passing-put _ _ _ _ c.loop-i.invariant.1 _ _ _ c.put_words.ensures (omega (arith, c.requires.0, c.question_count-n.ensures, c.loop-i-test.true))
+      (block-row c.args.questions.now c.args.keys.now c.args.owners.now c.args.out.now c.loop-i.i _ _ _ _ _ c.updated_row-row.ensures (c.look_up_near-looked.ensures c.requires.1) c.question_at-q.ensures
+      (first-still _ _ _ _ c.loop-i.invariant.1) (second-still _ _ _ _ c.loop-i.invariant.1)),
+)
 
 pub shape_of-out : goal.shape_of-out
 shape_of-out c = c.loop-i.invariant.1.long

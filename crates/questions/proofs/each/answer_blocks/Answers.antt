@@ -31,11 +31,10 @@ slice_bounds-answer_block-end c =
     sorted-inside _ _ _ _ _ _ _ _ _ _ c.sort_block-block.ensures
 
 pub answer_block-requires : goal.answer_block-requires
-answer_block-requires c =
-    (
-      omega (arith, c.loop-keys.invariant.long, c.clear_rows.auto.out, c.requires.room),
-      part-in-order _ _ _ _ _ _ _ _ _ _ c.sort_block-block.ensures,
-    )
+answer_block-requires c = (
+  omega (arith, c.loop-keys.invariant.long, c.clear_rows.auto.out, c.requires.room),
+  part-in-order _ _ _ _ _ _ _ _ _ _ c.sort_block-block.ensures,
+)
 
 pub loop-keys-smaller : goal.loop-keys-smaller
 loop-keys-smaller c =

@@ -7,12 +7,11 @@ pub loop-i-init : goal.loop-i-init
 loop-i-init c = (search rules, passing-start _ _)
 
 pub loop-i-preserved : goal.loop-i-preserved
-loop-i-preserved c =
-    (
-      search rules,
-      passing-put _ _ _ _ c.loop-i.invariant.1 _ _ _ c.put_words.ensures (search rules)
-          (finished-row c.args.nations.now c.args.out.now c.loop-i.i _ _ c.finished_row.ensures (second-still _ _ _ _ c.loop-i.invariant.1)),
-    )
+loop-i-preserved c = (
+  search rules,
+  passing-put _ _ _ _ c.loop-i.invariant.1 _ _ _ c.put_words.ensures (search rules)
+      (finished-row c.args.nations.now c.args.out.now c.loop-i.i _ _ c.finished_row.ensures (second-still _ _ _ _ c.loop-i.invariant.1)),
+)
 
 pub shape_of-out : goal.shape_of-out
 shape_of-out c = c.loop-i.invariant.1.long

@@ -58,11 +58,10 @@ pub repeated-requires : goal.repeated-requires
 repeated-requires c =
     let agreed : sizes_agree c.args.s.now ≡ true = sym c.sizes_agree.ensures ∙ not-false _ c.if-not-sizes_agree.false-raw in
     let fields_told : c.fields_number-field.result ≡ fields_number c.args.s.now = c.fields_number-field.ensures agreed in
-    let laid_out : Laid c.args.s.now c.read_head-h.result = laid _ _ c.read_head-h.ensures agreed in
-    (
-  laid_out,
-  fields-countries c.args.s.now (sym fields_told ∙ c.if-field-ne0.false),
-)
+    let laid_out : Laid c.args.s.now c.read_head-h.result = laid _ _ c.read_head-h.ensures agreed in (
+      laid_out,
+      fields-countries c.args.s.now (sym fields_told ∙ c.if-field-ne0.false),
+    )
 
 pub returns-then-repeated : goal.returns-then-repeated
 unfolding refusal first_of

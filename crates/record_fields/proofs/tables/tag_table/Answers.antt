@@ -11,12 +11,11 @@ pub loop-b-init : goal.loop-b-init
 loop-b-init c = (search rules, refl, λ k h. absurd (omega arith))
 
 pub loop-b-preserved : goal.loop-b-preserved
-loop-b-preserved c =
-    (
-      search rules,
-      simp length-set c.loop-b.invariant.1,
-      λ k h. entry_set tag_byte false c.loop-b.table c.loop-b.b k _ (omega arith) c.tag_byte.ensures (λ e. c.loop-b.invariant.2 k (omega arith)),
-    )
+loop-b-preserved c = (
+  search rules,
+  simp length-set c.loop-b.invariant.1,
+  λ k h. entry_set tag_byte false c.loop-b.table c.loop-b.b k _ (omega arith) c.tag_byte.ensures (λ e. c.loop-b.invariant.2 k (omega arith)),
+)
 
 pub returns : goal.returns
 returns c = record { rule = λ b h. c.loop-b.invariant.2 b (omega arith) }

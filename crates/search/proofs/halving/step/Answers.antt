@@ -9,8 +9,7 @@ overflow_mul-result c =
     omega (arith, factor-most ((c.args.top - c.args.key / 2) / 9223372036854775808) c.args.half (omega arith))
 
 pub returns : goal.returns
-returns c =
-    (
-      λ h. factor-one ((c.args.top - c.args.key / 2) / 9223372036854775808) c.args.half (omega arith),
-      λ h. factor-none ((c.args.top - c.args.key / 2) / 9223372036854775808) c.args.half (omega arith),
-    )
+returns c = (
+  λ h. factor-one ((c.args.top - c.args.key / 2) / 9223372036854775808) c.args.half (omega arith),
+  λ h. factor-none ((c.args.top - c.args.key / 2) / 9223372036854775808) c.args.half (omega arith),
+)
