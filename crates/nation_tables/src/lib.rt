@@ -1,5 +1,6 @@
 // The tables that nations are read from: of countries, switches, changes and slots.
 #![tactic(auto)]
+
 mod chains;
 mod countries;
 mod gathering;

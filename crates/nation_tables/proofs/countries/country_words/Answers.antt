@@ -50,8 +50,7 @@ loop-row-smaller c =
 
 pub loop-row-preserved : goal.loop-row-preserved
 loop-row-preserved c =
-    let told : countries_left c.args.s.now c.loop-row.left ≡ country_of c.args.s.now c.in-Row.row ∷ countries_left c.args.s.now c.in-Row.rest = told-row (country_told _) c.next.ensures c.in-Row.is refl in
-    (
+    let told : countries_left c.args.s.now c.loop-row.left ≡ country_of c.args.s.now c.in-Row.row ∷ countries_left c.args.s.now c.in-Row.rest = told-row (country_told _) c.next.ensures c.in-Row.is refl in (
       filling-put _ _ _ _ _ c.loop-row.invariant.0 _ _ (ap words_of_tags told) _ c.word.ensures,
       filling-put _ _ _ _ _ c.loop-row.invariant.1 _ _ (ap initial_words told) _ (c.word-in-Row.ensures ∙ ap (λ x. x.0) c.initial_of-first.ensures),
     )

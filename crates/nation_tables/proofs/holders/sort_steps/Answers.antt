@@ -12,10 +12,14 @@ slice_bounds-spread_sort-end c =
 
 pub settle_changes-requires : goal.settle_changes-requires
 settle_changes-requires c =
-    let filled-all : KeysFilled c.args.s.now c.fill_keys-n.result c.fill_keys-n.new.keys = keys_filled _ _ c.requires.at_first_province _ _ _ c.requires.s_in_bounds.0 c.fill_keys-n.ensures in record { at_first_province = c.requires.at_first_province; n_value = (
-          filled-all.counted,
-          omega (arith, filled-all.counted, c.spread_sort.auto.scratch, c.requires.s_in_bounds.1),
-        ); settler = c.requires.settler }
+    let filled-all : KeysFilled c.args.s.now c.fill_keys-n.result c.fill_keys-n.new.keys = keys_filled _ _ c.requires.at_first_province _ _ _ c.requires.s_in_bounds.0 c.fill_keys-n.ensures in record {
+      at_first_province = c.requires.at_first_province;
+      n_value = (
+        filled-all.counted,
+        omega (arith, filled-all.counted, c.spread_sort.auto.scratch, c.requires.s_in_bounds.1),
+      );
+      settler = c.requires.settler;
+    }
 
 pub returns : goal.returns
 returns c =
