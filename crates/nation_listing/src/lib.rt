@@ -1,5 +1,6 @@
 // The listed nations, read from the tables of nation_tables and written as rows.
 #![tactic(auto)]
+
 mod entries;
 mod listing;
 mod lives;
