@@ -1,5 +1,6 @@
 // nation_events: memory for the tables, the nations placed by nation_listing, and the rest written.
 #![tactic(auto)]
+
 mod nations;
 mod telling;
 mod writing;
