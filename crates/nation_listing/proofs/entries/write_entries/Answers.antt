@@ -1,5 +1,5 @@
 use mathlib.Core.Path.{sym, ◌∙◌}
-use Prim.Native.Nat.{◌+◌, ◌*◌, ◌≤◌, ◌<◌}
+use Prim.Native.Nat.{◌*◌, ◌<◌}
 use borrow.Author.Rules.{rules}
 use lib.ListN.{length, get_or}
 use Rattle.lists.proofs.WriteLaws.{behind}
@@ -10,25 +10,9 @@ use Rattle.nation_listing.proofs.MergeEntryLaws.{switch-inside, merging-none, me
 use Rattle.nation_listing.proofs.MergeEntryLaws.{switch-room, switch-less, switch-more, life-room, life-light, life-less, life-more}
 use Rattle.nation_listing.proofs.entries.write_entries.Goals as goal
 
--- The switch at i is there, and it finds room.
-module _ (c : tie.Then1 invariant-loop decreases-loop) where
-  inside : c.before.before.loop.i < length (start c.before.before).args.run.now
-  inside = switch-inside _ _ _ (sym c.before.switch-first.ensures ∙ c.if1.true)
-
-  room : entry_width * c.before.before.loop.k + entry_width ≤ length c.before.before.loop.out
-  room = switch-room _ _ _ _ _ _ _ _ _ _ _ _ c.before.before.loop.invariant (sym c.before.switch-first.ensures ∙ c.if1.true)
-
--- The told life finds room.
-module _ (c : tie.After-life invariant-loop decreases-loop) where
-  told-room : entry_width * c.before.before.before.before.loop.k + entry_width ≤ length c.before.before.before.before.loop.out
-  told-room =
-      let test = c.before.before.before in
-      let none = sym test.switch-first.ensures ∙ c.before.before.if1.false in
-      life-room _ _ _ _ _ _ _ _ _ _ _ _ test.before.loop.invariant none _ _ _ c.life.given.1
-
 pub next-life-requires : goal.next-life-requires
 next-life-requires c =
-    (c.requires.chained, c.requires.light)
+    record { chained = c.requires.chained; light = c.requires.light }
 
 pub loop-key-init : goal.loop-key-init
 loop-key-init c = merging-none _ _ _ _ _ _ _ _ _ c.next-life.ensures c.requires.walk_in_bounds
@@ -40,25 +24,25 @@ overflow_mul-at c =
 
 pub offset_bounds-run-i : goal.offset_bounds-run-i
 offset_bounds-run-i c =
-    let l = inside c in
+    let l : c.loop-key.i < length c.args.run.now = switch-inside _ _ _ (sym c.switch_first.ensures ∙ c.if-switch_first.true) in
     search rules
 
 pub bounds-run-i : goal.bounds-run-i
-bounds-run-i c = inside c
+bounds-run-i c = switch-inside _ _ _ (sym c.switch_first.ensures ∙ c.if-switch_first.true)
 
 pub put_entry-requires : goal.put_entry-requires
 put_entry-requires c =
-    let l = room c in
+    let l = switch-room _ _ _ _ _ _ _ _ _ _ _ _ c.loop-key.invariant (sym c.switch_first.ensures ∙ c.if-switch_first.true) in
     search rules
 
 pub overflow_add-i : goal.overflow_add-i
 overflow_add-i c =
-    let l = inside c in
+    let l : c.loop-key.i < length c.args.run.now = switch-inside _ _ _ (sym c.switch_first.ensures ∙ c.if-switch_first.true) in
     search rules
 
 pub overflow_add-k : goal.overflow_add-k
 overflow_add-k c =
-    let l = room c in
+    let l = switch-room _ _ _ _ _ _ _ _ _ _ _ _ c.loop-key.invariant (sym c.switch_first.ensures ∙ c.if-switch_first.true) in
     let n = c.loop-key.invariant.cells.long in
     search rules
 
@@ -70,23 +54,23 @@ pub loop-key-preserved-then-switch_first : goal.loop-key-preserved-then-switch_f
 loop-key-preserved-then-switch_first c =
     let row = entry_row_words (entry_row (switch_in c.args.targets.now (get_or c.args.run.now c.loop-key.i 0))) in
     let wrote =
-    behind c.loop-key.out row c.put_entry.new.out (entry_width * c.loop-key.k) (room c)
+    behind c.loop-key.out row c.put_entry.new.out (entry_width * c.loop-key.k) (switch-room _ _ _ _ _ _ _ _ _ _ _ _ c.loop-key.invariant (sym c.switch_first.ensures ∙ c.if-switch_first.true))
     (rw (c.switch_date.ensures, c.switch_target.ensures) at c.put_entry.ensures) in
     switch-more _ _ _ _ _ _ _ _ _ _ _ _ c.loop-key.invariant (sym c.switch_first.ensures ∙ c.if-switch_first.true) _ wrote
 
 pub put_entry-requires-in-Life : goal.put_entry-requires-in-Life
 put_entry-requires-in-Life c =
-    let l = told-room c in
+    let l = life-room _ _ _ _ _ _ _ _ _ _ _ _ c.loop-key.invariant (sym c.switch_first.ensures ∙ c.if-switch_first.false) _ _ _ c.in-Life.is in
     search rules
 
 pub next-life-requires-in-Life : goal.next-life-requires-in-Life
 next-life-requires-in-Life c =
     let none = sym c.switch_first.ensures ∙ c.if-switch_first.false in
-    (c.requires.chained, life-light _ _ _ _ _ _ _ _ _ _ _ _ c.loop-key.invariant none _ _ _ c.in-Life.is)
+    record { chained = c.requires.chained; light = life-light _ _ _ _ _ _ _ _ _ _ _ _ c.loop-key.invariant none _ _ _ c.in-Life.is }
 
 pub overflow_add-k-in-Life : goal.overflow_add-k-in-Life
 overflow_add-k-in-Life c =
-    let l = told-room c in
+    let l = life-room _ _ _ _ _ _ _ _ _ _ _ _ c.loop-key.invariant (sym c.switch_first.ensures ∙ c.if-switch_first.false) _ _ _ c.in-Life.is in
     let n = c.loop-key.invariant.cells.long in
     search rules
 
@@ -100,7 +84,7 @@ loop-key-preserved c =
     let none = sym c.switch_first.ensures ∙ c.if-switch_first.false in
     let row = entry_row_words (entry_row (life_entry c.in-Life.date c.in-Life.falls)) in
     let wrote =
-    behind c.loop-key.out row c.put_entry-in-Life.new.out (entry_width * c.loop-key.k) (told-room c)
+    behind c.loop-key.out row c.put_entry-in-Life.new.out (entry_width * c.loop-key.k) (life-room _ _ _ _ _ _ _ _ _ _ _ _ c.loop-key.invariant none _ _ _ c.in-Life.is)
     (rw c.life_kind.ensures at c.put_entry-in-Life.ensures) in
     life-more _ _ _ _ _ _ _ _ _ _ _ _ c.loop-key.invariant none _ _ _ c.in-Life.is _ c.next-life-in-Life.ensures _ wrote
 

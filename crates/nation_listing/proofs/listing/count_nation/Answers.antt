@@ -20,7 +20,7 @@ is_listed-requires c =
 
 pub count-lived-requires : goal.count-lived-requires
 count-lived-requires c =
-    (c.requires.readable.chained, key-light _ c.requires.readable _ c.requires.i_in_bounds _ c.first_lives-walk.ensures)
+    record { chained = c.requires.readable.chained; light = key-light _ c.requires.readable _ c.requires.i_in_bounds _ c.first_lives-walk.ensures }
 
 pub overflow_sub-result : goal.overflow_sub-result
 overflow_sub-result c =

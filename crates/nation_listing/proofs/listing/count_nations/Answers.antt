@@ -6,7 +6,7 @@ pub loop-i-init : goal.loop-i-init
 loop-i-init c = nations-counting-none _
 
 pub count_nation-one-requires : goal.count_nation-one-requires
-count_nation-one-requires c = (c.requires, c.loop-i-test.true)
+count_nation-one-requires c = record { readable = c.requires; i_in_bounds = c.loop-i-test.true }
 
 pub overflow_add-nations : goal.overflow_add-nations
 overflow_add-nations c =

@@ -8,18 +8,6 @@ use Rattle.nation_listing.proofs.ListingLaws.{run-rises, run_inside, key-tagged,
 use Rattle.nation_listing.proofs.ListingLaws.{put-silent, room_row, room-entries, count-narrow, put-listed}
 use Rattle.nation_listing.proofs.listing.write_nation.Goals as goal
 
--- The run lies inside.
-module _ (c : tie.After-run-start2) where
-  from_end : c.before.run-start.result ≤ c.run-start2.result
-  from_end =
-      let a = (start c.before.before.before.before).args in
-      rw (c.before.run-start.ensures, c.run-start2.ensures) (run-rises (row_in (get_or a.initial-keys.now a.i 0)) a.runs.now)
-
-  end-inside : c.run-start2.result ≤ length (start c.before.before.before.before).args.runs.now
-  end-inside =
-      let a = (start c.before.before.before.before).args in
-      rw c.run-start2.ensures (run_inside (row_in (get_or a.initial-keys.now a.i 0) + 1) a.runs.now)
-
 pub bounds-started-row : goal.bounds-started-row
 bounds-started-row c =
     key-started _ c.requires.readable _ c.requires.i_in_bounds.0
@@ -44,16 +32,23 @@ overflow_cast-key c =
 
 pub offset_bounds-runs-from : goal.offset_bounds-runs-from
 offset_bounds-runs-from c =
-    omega (arith, from_end c, end-inside c, c.well_formed)
+    let from_end : c.run_start-from.result ≤ c.run_start-end.result =
+    rw (c.run_start-from.ensures, c.run_start-end.ensures) (run-rises (row_in (get_or c.args.initial_keys.now c.args.i 0)) c.args.runs.now) in
+    let end-inside : c.run_start-end.result ≤ length c.args.runs.now =
+    rw c.run_start-end.ensures (run_inside (row_in (get_or c.args.initial_keys.now c.args.i 0) + 1) c.args.runs.now) in
+    omega (arith, from_end, end-inside, c.well_formed)
 
 pub slice_bounds-run-count : goal.slice_bounds-run-count
-slice_bounds-run-count c = from_end c
+slice_bounds-run-count c =
+    rw (c.run_start-from.ensures, c.run_start-end.ensures) (run-rises (row_in (get_or c.args.initial_keys.now c.args.i 0)) c.args.runs.now)
 
 pub slice_bounds-run-start : goal.slice_bounds-run-start
-slice_bounds-run-start c = from_end c
+slice_bounds-run-start c =
+    rw (c.run_start-from.ensures, c.run_start-end.ensures) (run-rises (row_in (get_or c.args.initial_keys.now c.args.i 0)) c.args.runs.now)
 
 pub slice_bounds-run-end : goal.slice_bounds-run-end
-slice_bounds-run-end c = end-inside c
+slice_bounds-run-end c =
+    rw c.run_start-end.ensures (run_inside (row_in (get_or c.args.initial_keys.now c.args.i 0) + 1) c.args.runs.now)
 
 pub write_entries-count-requires : goal.write_entries-count-requires
 write_entries-count-requires c =
@@ -62,7 +57,11 @@ write_entries-count-requires c =
     room-entries _ c.requires.readable _ c.requires.i_in_bounds.0 _ c.first_lives-walk.ensures listed
     _ _ c.run_start-from.ensures c.run_start-end.ensures
     _ _ c.requires.nations_room in
-    (c.requires.readable.chained, (key-light _ c.requires.readable _ c.requires.i_in_bounds.0 _ c.first_lives-walk.ensures, room))
+    record {
+      chained = c.requires.readable.chained;
+      light = key-light _ c.requires.readable _ c.requires.i_in_bounds.0 _ c.first_lives-walk.ensures;
+      walk_in_bounds = room;
+    }
 
 pub bounds-tag_words-row : goal.bounds-tag_words-row
 bounds-tag_words-row c =

@@ -55,13 +55,12 @@ slice_bounds-write_nation-end-in-loop-i c =
 pub write_nation-put-requires : goal.write_nation-put-requires
 write_nation-put-requires c =
     let readable = c.requires.readable in
-    let h = c.loop-i-test.true in (
-      readable,
-      (
-        (h, omega (arith, c.loop-i.invariant.short, readable.few)),
-        listing-room _ _ _ _ _ _ _ _ c.loop-i.invariant h,
-      ),
-    )
+    let h = c.loop-i-test.true in
+    record {
+      readable = readable;
+      i_in_bounds = (h, omega (arith, c.loop-i.invariant.short, readable.few));
+      nations_room = listing-room _ _ _ _ _ _ _ _ c.loop-i.invariant h;
+    }
 
 pub overflow_add-n : goal.overflow_add-n
 overflow_add-n c =
@@ -82,9 +81,9 @@ overflow_add-i c =
 pub loop-i-preserved : goal.loop-i-preserved
 loop-i-preserved c =
     let h = c.loop-i-test.true in
-    let after = c.write_nation-put.new.1.1.1.1.1.1.1.1.1.1.1 in
-    let rows = behind c.loop-i.nations _ after.0 (nation_width * c.loop-i.n) (rows_fit _ _ _ _ _ _ _ _ c.loop-i.invariant h) c.write_nation-put.ensures.rows in
-    let told = behind c.loop-i.entries _ after.1.0 (entry_width * c.loop-i.first) (entries_fit _ _ _ _ _ _ _ _ c.loop-i.invariant h) c.write_nation-put.ensures.entries in
+    let after = c.write_nation-put.new in
+    let rows = behind c.loop-i.nations _ after.nations (nation_width * c.loop-i.n) (rows_fit _ _ _ _ _ _ _ _ c.loop-i.invariant h) c.write_nation-put.ensures.rows in
+    let told = behind c.loop-i.entries _ after.entries (entry_width * c.loop-i.first) (entries_fit _ _ _ _ _ _ _ _ c.loop-i.invariant h) c.write_nation-put.ensures.entries in
     listing-more _ _ _ _ _ _ _ _ c.loop-i.invariant h c.requires.readable _ c.write_nation-put.ensures.listed _ _ rows told
 
 pub shape_of-nations : goal.shape_of-nations

@@ -10,7 +10,7 @@ pub overflow_add-p : goal.overflow_add-p
 overflow_add-p c = let few = slots-within _ _ c.requires.begun _ _ _ _ _ _ _ _ _ c.requires.table_room _ most_slots c.len-p.ensures (omega arith) in omega (arith, few)
 
 pub fill_tables-sizes-requires : goal.fill_tables-sizes-requires
-fill_tables-sizes-requires c = tables-asked _ _ c.requires.begun _ _ _ _ _ _ _ _ _ c.requires.table_room
+fill_tables-sizes-requires c = let asked = tables-asked _ _ c.requires.begun _ _ _ _ _ _ _ _ _ c.requires.table_room in record { keyed = asked.0; tables_room = asked.1 }
 
 pub slice_bounds-hold_slots-end : goal.slice_bounds-hold_slots-end
 slice_bounds-hold_slots-end c = countries-within _ _ c.requires.begun _ _ _ _ _ _ _ _ _ c.requires.table_room _ _ _ c.fill_tables-sizes.ensures.countries c.fill_tables-sizes.auto.tag_words c.requires.table_room.words
@@ -28,7 +28,7 @@ pub slice_bounds-hold_slots-end-5 : goal.slice_bounds-hold_slots-end-5
 slice_bounds-hold_slots-end-5 c = countries-within _ _ c.requires.begun _ _ _ _ _ _ _ _ _ c.requires.table_room _ _ _ c.fill_tables-sizes.ensures.countries refl c.requires.table_room.started
 
 pub hold_slots-n-requires : goal.hold_slots-n-requires
-hold_slots-n-requires c = holding-asked _ _ c.requires.begun _ _ _ _ _ _ _ _ _ c.requires.table_room _ _ _ _ _ c.fill_tables-sizes.ensures c.len-p.ensures _ c.fill_tables-sizes.auto.scratch
+hold_slots-n-requires c = let asked = holding-asked _ _ c.requires.begun _ _ _ _ _ _ _ _ _ c.requires.table_room _ _ _ _ _ c.fill_tables-sizes.ensures c.len-p.ensures _ c.fill_tables-sizes.auto.scratch in record { at_first_province = asked.0; tables = asked.1.0; holding_room = asked.1.1 }
 
 pub slice_bounds-arrange-end : goal.slice_bounds-arrange-end
 slice_bounds-arrange-end c = changes-within _ _ c.requires.begun _ _ _ _ _ _ _ _ _ c.requires.table_room _ _ _ _ _ c.fill_tables-sizes.ensures c.len-p.ensures _ _ _ _ _ c.hold_slots-n.ensures _ _ c.hold_slots-n.auto.turns c.requires.table_room.turns

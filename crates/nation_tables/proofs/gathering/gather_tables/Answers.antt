@@ -6,7 +6,7 @@ pub returns-then-not-has_cells : goal.returns-then-not-has_cells
 returns-then-not-has_cells c = λ room. absurd (room-denied _ _ _ _ _ _ _ _ _ _ _ c.has_cells.ensures c.if-not-has_cells.true-raw room)
 
 pub fill_all-sizes-requires : goal.fill_all-sizes-requires
-fill_all-sizes-requires c = (begun-at _ _ c.begin_at.ensures c.in-At.is, room-there _ _ _ _ _ _ _ _ _ _ _ c.has_cells.ensures c.if-not-has_cells.false-raw)
+fill_all-sizes-requires c = record { begun = begun-at _ _ c.begin_at.ensures c.in-At.is; table_room = room-there _ _ _ _ _ _ _ _ _ _ _ c.has_cells.ensures c.if-not-has_cells.false-raw }
 
 pub shape_of-tag_words : goal.shape_of-tag_words
 shape_of-tag_words c = c.fill_all-sizes.auto.tag_words

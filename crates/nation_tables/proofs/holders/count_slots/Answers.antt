@@ -1,6 +1,6 @@
-use mathlib.Core.Logic.{⊎_elim}
 use native.Mathlib.Omega.{arith}
 use Rattle.nation_tables.proofs.slots.CellLaws.{slots-counting-none, slots-counting-long, slots-counting-few, slots-counting-next, slots-counting-past, slots-counting-done}
+use Rattle.nation_tables.proofs.holders.count_slots.Goals.{then-row-counts, else-row-counts}
 use Rattle.nation_tables.proofs.holders.count_slots.Goals as goal
 
 pub loop-i-init : goal.loop-i-init
@@ -17,10 +17,10 @@ overflow_add-counts c =
 pub loop-i-preserved : goal.loop-i-preserved
 loop-i-preserved c =
     let more = c.loop-i-test.true in
-    ⊎_elim
-    (λ w. rw w.2 (slots-counting-next _ _ c.loop-i.counts c.loop-i.i c.loop-i.invariant more))
-    (λ w. rw w.1 (slots-counting-past _ _ c.loop-i.counts c.loop-i.i c.loop-i.invariant more w.0.left))
-    c.if-row-counts.branch
+    elim c.if-row-counts.branch [
+      | then-row-counts w ↦ rw w.counts-is (slots-counting-next _ _ c.loop-i.counts c.loop-i.i c.loop-i.invariant more)
+      | else-row-counts w ↦ rw w.counts-is (slots-counting-past _ _ c.loop-i.counts c.loop-i.i c.loop-i.invariant more w.if-row-counts.false)
+    ]
 
 pub shape_of-counts : goal.shape_of-counts
 shape_of-counts c =

@@ -12,7 +12,8 @@ start_slots-requires c =
     let room = c.requires.holding_room in record { at_first_province = c.requires.at_first_province; tag_words_value = tables.settler.words; initial_keys_value = tables.initials; slots_len = (room.slots, room.started) }
 
 pub sort_steps-n-requires : goal.sort_steps-n-requires
-sort_steps-n-requires c = (c.requires.at_first_province, (c.requires.tables.settler, (c.requires.holding_room.keys, c.requires.holding_room.cells)))
+sort_steps-n-requires c =
+    let room = c.requires.holding_room in record { at_first_province = c.requires.at_first_province; settler = c.requires.tables.settler; s_in_bounds = (room.keys, room.cells) }
 
 pub slice_bounds-pass-end : goal.slice_bounds-pass-end
 slice_bounds-pass-end c =
