@@ -1,5 +1,6 @@
 // The lines of the page, one by one, and the selection that says which: tags read, and numbers, fields and lines written.
 #![tactic(auto)]
+
 mod decimal;
 mod fields;
 mod heading;

@@ -26,8 +26,7 @@ overflow_add-result c =
     omega (arith, c.requires, c.well_formed.1.1.0.0, c.write_decimal-k.ensures.0, c.put_status.ensures.0, length-append (decimal c.args.count) (status_field c.args.living))
 
 pub returns : goal.returns
-returns c =
-    (
-      omega (arith, c.write_decimal-k.ensures.0, c.put_status.ensures.0, length-append (decimal c.args.count) (status_field c.args.living)),
-      then-written (decimal c.args.count) _ _ _ c.write_decimal-k.ensures.0 c.write_decimal-k.ensures.1 (status_field c.args.living) _ c.put_status.ensures.1,
-    )
+returns c = (
+  omega (arith, c.write_decimal-k.ensures.0, c.put_status.ensures.0, length-append (decimal c.args.count) (status_field c.args.living)),
+  then-written (decimal c.args.count) _ _ _ c.write_decimal-k.ensures.0 c.write_decimal-k.ensures.1 (status_field c.args.living) _ c.put_status.ensures.1,
+)
