@@ -1,5 +1,6 @@
 // The text of the page: its first line, and a line for each tag of the selection.
 #![tactic(auto)]
+
 mod status;
 mod stored;
 mod tag_lines;

@@ -48,8 +48,7 @@ put_lines-rest-requires c =
     let lines : List ℕ = lines_of c.args.nations.now c.args.living.now (tags_read (selection_of c.args.selection.now)) in
     let fits : length (first-line ++ lines) ≤ length c.args.out.now = let l = leb-true (length lines) _ (sym c.lines_fit.ensures ∙ not-false _ c.if-not-lines_fit.false-raw) in
     omega (arith, l, c.if-out-first.false, c.heading_length-first.ensures, length-append first-line lines) in
-    let headed : (c.put_heading.result ≡ length first-line) × (c.put_heading.new.out ≡ written first-line c.args.out.now) = text-fits first-line c.args.out.now (omega (arith, c.if-out-first.false, c.heading_length-first.ensures)) _ _ c.put_heading.ensures in
-    (
+    let headed : (c.put_heading.result ≡ length first-line) × (c.put_heading.new.out ≡ written first-line c.args.out.now) = text-fits first-line c.args.out.now (omega (arith, c.if-out-first.false, c.heading_length-first.ensures)) _ _ c.put_heading.ensures in (
       c.requires.0,
       c.requires.1,
       tail-room first-line c.args.out.now _ _ c.heading_length-first.ensures headed.1 lines fits,

@@ -33,8 +33,7 @@ slice_bounds-write_tabled-end c =
 pub write_tabled-requires : goal.write_tabled-requires
 write_tabled-requires c =
     let few : let n = c.nation_count-n.result in (n ≤ 2000) × (n ≤ length c.args.living.now) = let both = neither _ _ c.if-n-living.false in (ltb-false _ _ both.0, ltb-false _ _ both.1) in
-    let tags-told : some c.in-Tags.count ≡ map length (selection_of c.args.selection.now) = sym (ap selection_told c.in-Tags.is) ∙ c.read_selection.ensures in
-    (
+    let tags-told : some c.in-Tags.count ≡ map length (selection_of c.args.selection.now) = sym (ap selection_told c.in-Tags.is) ∙ c.read_selection.ensures in (
       tabled _ _ c.nation_count-n.ensures _ _ few.0 few.1 c.sort_stored.ensures,
       (tags-counted (selection_of c.args.selection.now) tags-told).1,
     )
