@@ -1,6 +1,7 @@
 // The ledger of a nation, and of all nations: the points of its spans, with zeros for the years between. All are counted before the first
 // cell is written, and no more of them than there may be room for.
 #![tactic(auto)]
+
 mod answers;
 mod counting;
 mod frame;

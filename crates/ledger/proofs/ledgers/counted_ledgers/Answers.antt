@@ -16,10 +16,13 @@ returns-then-room-n c =
     rows_short c.args.s.now c.args.nations.now c.args.entries.now c.args.out.now c.args.counts.now _ c.count_ledgers-n.ensures c.if-room-n.true
 
 pub write_ledgers-requires : goal.write_ledgers-requires
-write_ledgers-requires c = record { framed = c.requires; entries_in_bounds = (
-        (room-few (row_ledgers c.args.s.now c.args.nations.now c.args.entries.now) c.args.out.now _ c.count_ledgers-n.ensures c.if-room-n.false).1,
-        omega (arith, c.nation_count.ensures, c.if-counts-nation_count.false),
-      ) }
+write_ledgers-requires c = record {
+  framed = c.requires;
+  entries_in_bounds = (
+    (room-few (row_ledgers c.args.s.now c.args.nations.now c.args.entries.now) c.args.out.now _ c.count_ledgers-n.ensures c.if-room-n.false).1,
+    omega (arith, c.nation_count.ensures, c.if-counts-nation_count.false),
+  );
+}
 
 pub shape_of-out : goal.shape_of-out
 shape_of-out c = c.write_ledgers.auto.out
