@@ -2,6 +2,9 @@
 ghost use Rattle.std.specs.Prelude.{◌≤◌, length};
 
 use pages::CampaignFile;
+use std::fs::File;
+use std::io::Read;
+use std::rt::Files;
 
 // How many bytes were read, and whether a read failed behind them.
 #[derive(Clone, Copy)]
@@ -11,19 +14,17 @@ pub(crate) struct Taken {
 }
 
 // Reads until the slice is full, the input ends or a read fails.
-pub(crate) fn read_bytes(file: i32, buf: &mut [u8]) -> Taken
+pub(crate) fn read_bytes(reader: &mut impl Read, buf: &mut [u8]) -> Taken
     ensures { result.count ≤ length buf.new }
 {
     let mut done = 0;
     while done < buf.len() {
-        let got = libc::read(file, &mut buf[done..]);
-        if got < 0 {
+        let Ok(n) = reader.read(&mut buf[done..]) else {
             return Taken {
                 count: done,
                 failed: true,
             };
-        }
-        let n = io::count(got, &buf[done..]);
+        };
         if n == 0 {
             break;
         }
@@ -36,19 +37,16 @@ pub(crate) fn read_bytes(file: i32, buf: &mut [u8]) -> Taken
 }
 
 // Reads a file. One that cannot be opened has failed.
-pub(crate) fn read_file(name: &[u8], buf: &mut [u8]) -> Taken
+pub(crate) fn read_file(rt: &impl Files, name: &str, buf: &mut [u8]) -> Taken
     ensures { result.count ≤ length buf.new }
 {
-    let file = os::open_read(name);
-    if file < 0 {
+    let Ok(mut file) = File::open(rt, name) else {
         return Taken {
             count: 0,
             failed: true,
         };
-    }
-    let taken = read_bytes(file, buf);
-    libc::close(file);
-    taken
+    };
+    read_bytes(&mut file, buf)
 }
 
 // Whether the file could be read.

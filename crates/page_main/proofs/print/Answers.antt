@@ -5,6 +5,6 @@ use Rattle.pages.proofs.PrintLaws.{print-inside}
 use Rattle.page_main.proofs.print.Goals as goal
 
 pub slice_bounds-write_out-end : goal.slice_bounds-write_out-end
-slice_bounds-write_out-end c =
+slice_bounds-write_out-end g c =
     let call = c.print_page in
-    print-inside _ _ _ _ _ (sym (ap (λ r. printed_outcome r call.new.1.1.1.0) c.in-Bytes.is) ∙ call.ensures)
+    print-inside _ _ _ _ _ (sym (ap (λ r. printed_outcome r call.new.out) c.in-Bytes.is) ∙ call.ensures)
