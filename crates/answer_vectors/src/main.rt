@@ -4,13 +4,15 @@
 // 1 numbers each. Held to the record are its changes, days and nations.
 #![tactic(auto)]
 
+mod input;
 mod stored;
 
 ghost use Rattle.std.specs.Prelude.{◌≤◌, length};
 
 use chronicle::{EventsOn, NationCounts, NationEvents, Owners};
-use libc::STDOUT_FILENO;
 use record::Eu4Date;
+use std::fs::File;
+use std::io;
 
 // Whether the list goes on, how many days were asked for, and how many answers are wrong.
 #[derive(Clone, Copy)]
@@ -125,11 +127,11 @@ fn wrong_day(s: &[u8], day: &[u8]) -> u64
 }
 
 // Reads the next day and checks it. A list that breaks off counts as a wrong answer.
-fn replay_day(file: i32, s: &[u8]) -> u64
+fn replay_day(file: &mut File, s: &[u8]) -> u64
     ensures { result ≤ 1 }
 {
     let mut day = [0u8; 12];
-    let got = io::read_full(file, &mut day);
+    let got = input::read_full(file, &mut day);
     if got != 12 {
         return 1;
     }
@@ -137,7 +139,7 @@ fn replay_day(file: i32, s: &[u8]) -> u64
 }
 
 // How many of the next days are wrong.
-fn wrong_days(file: i32, s: &[u8], days: usize) -> u64
+fn wrong_days(file: &mut File, s: &[u8], days: usize) -> u64
     requires { days ≤ 1000 }
     ensures { result ≤ 1000 }
 {
@@ -162,7 +164,7 @@ fn broken() -> Replayed
 }
 
 // Reads the campaign of a head and checks it.
-fn replay_campaign(file: i32, head: &[u8], s: &mut [u8], bytes: &mut [u8]) -> Replayed
+fn replay_campaign(file: &mut File, head: &[u8], s: &mut [u8], bytes: &mut [u8]) -> Replayed
     requires in_bounds { 4096 ≤ length s.old }
     requires in_bounds_2 { 65536 ≤ length bytes.old }
     ensures { (result.days ≤ 1000) × (result.wrong ≤ 1002) }
@@ -190,13 +192,13 @@ fn replay_campaign(file: i32, head: &[u8], s: &mut [u8], bytes: &mut [u8]) -> Re
 }
 
 // Reads the next campaign and checks it.
-fn replay(file: i32, s: &mut [u8], bytes: &mut [u8]) -> Replayed
+fn replay(file: &mut File, s: &mut [u8], bytes: &mut [u8]) -> Replayed
     requires in_bounds { 4096 ≤ length s.old }
     requires in_bounds_2 { 65536 ≤ length bytes.old }
     ensures { (result.days ≤ 1000) × (result.wrong ≤ 1002) }
 {
     let mut head = [0u8; 28];
-    let got = io::read_full(file, &mut head);
+    let got = input::read_full(file, &mut head);
     if got == 0 {
         return Replayed {
             more: false,
@@ -213,27 +215,22 @@ fn replay(file: i32, s: &mut [u8], bytes: &mut [u8]) -> Replayed
     replay_campaign(file, &head, s, bytes)
 }
 
-fn main() {
+fn main(rt: HostRuntime) -> io::Result<()> {
     let mut s = [0u8; 4096];
     let mut bytes = [0u8; 65536];
     let mut campaigns: u64 = 0;
     let mut days: u64 = 0;
     let mut wrong: u64 = 0;
-    let file = os::open_read(b"answers.bin");
-    while campaigns < 100000 {
-        let one = replay(file, &mut s, &mut bytes);
-        days += one.days;
-        wrong += one.wrong;
-        if !one.more {
-            break;
+    if let Ok(mut file) = File::open(&rt, "answers.bin") {
+        while campaigns < 100000 {
+            let one = replay(&mut file, &mut s, &mut bytes);
+            days += one.days;
+            wrong += one.wrong;
+            if !one.more {
+                break;
+            }
+            campaigns += 1;
         }
-        campaigns += 1;
     }
-    libc::close(file);
-    io::print_decimal(STDOUT_FILENO, campaigns);
-    io::write_all(STDOUT_FILENO, b" campaigns, ");
-    io::print_decimal(STDOUT_FILENO, days);
-    io::write_all(STDOUT_FILENO, b" days, ");
-    io::print_decimal(STDOUT_FILENO, wrong);
-    io::write_all(STDOUT_FILENO, b" wrong\n");
+    println!(rt; "{campaigns} campaigns, {days} days, {wrong} wrong")
 }

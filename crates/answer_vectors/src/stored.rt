@@ -1,6 +1,9 @@
 // The stored list: numbers of 32 bits each, low byte first.
 ghost use Rattle.std.specs.Prelude.{◌<◌, ◌≤◌, length};
 
+use crate::input;
+use std::fs::File;
+
 // A byte as a number.
 fn wide(b: u8) -> u32
     ensures { result < 256 }
@@ -64,10 +67,10 @@ pub(crate) fn rest_of(head: &[u8]) -> usize
 }
 
 // Whether the list had n more bytes, which then begin the buffer.
-pub(crate) fn read_exactly(file: i32, buf: &mut [u8], n: usize) -> bool
+pub(crate) fn read_exactly(file: &mut File, buf: &mut [u8], n: usize) -> bool
     requires { n ≤ length buf.old }
 {
-    let got = io::read_full(file, &mut buf[0..n]);
+    let got = input::read_full(file, &mut buf[0..n]);
     got == n
 }
 

@@ -16,13 +16,15 @@
 
 mod asking;
 mod booking;
+mod input;
 mod ledgers;
 mod playing;
 mod stored;
 
 ghost use Rattle.std.specs.Prelude.{◌≤◌, ◌*◌, length};
 
-use libc::STDOUT_FILENO;
+use std::fs::File;
+use std::io;
 
 // How many numbers a head has.
 const HEAD: usize = 10;
@@ -169,12 +171,12 @@ fn replay_vector(s: &[u8], words: &[u32]) -> Replayed
 }
 
 // Reads the record of a vector, and checks both.
-fn replay_record(file: i32, bytes: &mut [u8], words: &[u32]) -> Replayed
+fn replay_record(file: &mut File, bytes: &mut [u8], words: &[u32]) -> Replayed
     requires { (16384 ≤ length bytes.old) × (10 ≤ length words.now) × (length words.now ≤ 4096) }
     ensures { (result.questions ≤ 4096) × (result.wrong ≤ 4097) × (result.noticed ≤ 4097) }
 {
     let n = stored::number(words, 9);
-    let got = io::read_full(file, &mut bytes[0..n]);
+    let got = input::read_full(file, &mut bytes[0..n]);
     if got != n {
         return broken();
     }
@@ -182,7 +184,7 @@ fn replay_record(file: i32, bytes: &mut [u8], words: &[u32]) -> Replayed
 }
 
 // Reads the next vector and checks it.
-fn replay(file: i32, bytes: &mut [u8], words: &mut [u32]) -> Replayed
+fn replay(file: &mut File, bytes: &mut [u8], words: &mut [u32]) -> Replayed
     requires { (16384 ≤ length bytes.old) × (4096 ≤ length words.old) }
     ensures { (result.questions ≤ 4096) × (result.wrong ≤ 4097) × (result.noticed ≤ 4097) }
 {
@@ -214,7 +216,7 @@ struct Tally {
 }
 
 // Replays vectors until there are no more.
-fn replay_list(file: i32) -> Tally {
+fn replay_list(file: &mut File) -> Tally {
     let mut bytes = [0u8; 16384];
     let mut words = [0u32; 4096];
     let mut vectors: u64 = 0;
@@ -239,16 +241,22 @@ fn replay_list(file: i32) -> Tally {
     }
 }
 
-fn main() {
-    let file = os::open_read(b"lent.bin");
-    let all = replay_list(file);
-    libc::close(file);
-    io::print_decimal(STDOUT_FILENO, all.vectors);
-    io::write_all(STDOUT_FILENO, b" vectors, ");
-    io::print_decimal(STDOUT_FILENO, all.questions);
-    io::write_all(STDOUT_FILENO, b" questions one at a time, ");
-    io::print_decimal(STDOUT_FILENO, all.wrong);
-    io::write_all(STDOUT_FILENO, b" wrong, ");
-    io::print_decimal(STDOUT_FILENO, all.noticed);
-    io::write_all(STDOUT_FILENO, b" falsified and noticed\n");
+fn main(rt: HostRuntime) -> io::Result<()> {
+    let all = match File::open(&rt, "lent.bin") {
+        Ok(mut file) => replay_list(&mut file),
+        Err(_) => Tally {
+            vectors: 0,
+            questions: 0,
+            wrong: 0,
+            noticed: 0,
+        },
+    };
+    print!(rt;
+        "{} vectors, {} questions one at a time, ",
+        all.vectors, all.questions
+    )?;
+    println!(rt;
+        "{} wrong, {} falsified and noticed",
+        all.wrong, all.noticed
+    )
 }

@@ -1,6 +1,9 @@
 // The stored list: numbers of 32 bits each, low byte first.
 ghost use Rattle.std.specs.Prelude.{◌≡◌, ◌+◌, ◌*◌, ◌<◌, ◌≤◌, length};
 
+use crate::input;
+use std::fs::File;
+
 // The most numbers that a vector has.
 const MOST: usize = 4096;
 
@@ -36,12 +39,12 @@ fn tell_words(bytes: &[u8], words: &mut [u32], n: usize)
 }
 
 // Reads n numbers into the first words, and says whether there were so many.
-pub(crate) fn read_words(file: i32, bytes: &mut [u8], words: &mut [u32], n: usize) -> bool
+pub(crate) fn read_words(file: &mut File, bytes: &mut [u8], words: &mut [u32], n: usize) -> bool
     requires { (n ≤ length words.old) × (4 * n ≤ length bytes.old) × (n ≤ 4096) }
     ensures words_len_unchanged { length words.new ≡ length words.old }
     ensures bytes_len_unchanged { length bytes.new ≡ length bytes.old }
 {
-    let got = io::read_full(file, &mut bytes[0..4 * n]);
+    let got = input::read_full(file, &mut bytes[0..4 * n]);
     if got != 4 * n {
         return false;
     }

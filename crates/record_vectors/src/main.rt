@@ -1,9 +1,15 @@
 // Replays the stored records of vectors.bin, each a length in 32 bits, its expected number and its bytes, and counts the wrong answers.
 #![tactic(auto)]
 
+<<<<<<< HEAD
+=======
+mod input;
+
+>>>>>>> 28da2aa8c2c6bd763b7d00aade10203727e80c72
 ghost use Rattle.std.specs.Prelude.{◌<◌, ◌≤◌, length};
 
-use libc::STDOUT_FILENO;
+use std::fs::File;
+use std::io;
 
 // Whether the list had another record, and 1 for a wrong answer.
 #[derive(Clone, Copy)]
@@ -29,12 +35,12 @@ fn length_of(head: &[u8; 5]) -> usize
 }
 
 // Reads the next record and checks it. A list that breaks off counts as a wrong answer.
-fn replay(file: i32, buf: &mut [u8]) -> Replayed
+fn replay(file: &mut File, buf: &mut [u8]) -> Replayed
     requires { 65536 ≤ length buf.old }
     ensures { result.wrong ≤ 1 }
 {
     let mut head = [0u8; 5];
-    let got = io::read_full(file, &mut head);
+    let got = input::read_full(file, &mut head);
     if got == 0 {
         return Replayed {
             more: false,
@@ -42,7 +48,7 @@ fn replay(file: i32, buf: &mut [u8]) -> Replayed
         };
     }
     let len = length_of(&head);
-    let read = io::read_full(file, &mut buf[0..len]);
+    let read = input::read_full(file, &mut buf[0..len]);
     if read != len {
         return Replayed {
             more: true,
@@ -63,22 +69,19 @@ fn replay(file: i32, buf: &mut [u8]) -> Replayed
     }
 }
 
-fn main() {
+fn main(rt: HostRuntime) -> io::Result<()> {
     let mut buf = [0u8; 65536];
     let mut records: u64 = 0;
     let mut wrong: u64 = 0;
-    let file = os::open_read(b"vectors.bin");
-    while records < 100000 {
-        let one = replay(file, &mut buf);
-        if !one.more {
-            break;
+    if let Ok(mut file) = File::open(&rt, "vectors.bin") {
+        while records < 100000 {
+            let one = replay(&mut file, &mut buf);
+            if !one.more {
+                break;
+            }
+            records += 1;
+            wrong += one.wrong;
         }
-        records += 1;
-        wrong += one.wrong;
     }
-    libc::close(file);
-    io::print_decimal(STDOUT_FILENO, records);
-    io::write_all(STDOUT_FILENO, b" records, ");
-    io::print_decimal(STDOUT_FILENO, wrong);
-    io::write_all(STDOUT_FILENO, b" wrong\n");
+    println!(rt; "{records} records, {wrong} wrong")
 }

@@ -1,81 +1,80 @@
 // Lines of text for answers.
 use chronicle::Resolved;
-use libc::STDOUT_FILENO;
 use record::CountryTag;
+use std::io;
+use std::io::Write;
 
-pub(crate) fn text(bytes: &[u8]) {
-    io::write_all(STDOUT_FILENO, bytes);
+pub(crate) fn text(rt: &impl Print, bytes: &[u8]) -> io::Result<()> {
+    io::writer(rt).write_all(bytes)
 }
 
-fn number(n: u32) {
-    io::print_decimal(STDOUT_FILENO, n as u64);
+fn number(rt: &impl Print, n: u32) -> io::Result<()> {
+    print!(rt; "{n}")
 }
 
 // A tag's three bytes.
-fn tag(t: CountryTag) {
+fn tag(rt: &impl Print, t: CountryTag) -> io::Result<()> {
     let w = t.word();
     let bytes = [
         (w / 65536 % 256) as u8,
         (w / 256 % 256) as u8,
         (w % 256) as u8,
     ];
-    text(&bytes);
+    text(rt, &bytes)
 }
 
 // What a refusal's number says of a record.
-pub(crate) fn checked(what: &[u8], refusal: u32) {
-    text(what);
+pub(crate) fn checked(rt: &impl Print, what: &[u8], refusal: u32) -> io::Result<()> {
+    text(rt, what)?;
     if refusal == 0 {
-        text(b"accepted\n");
-        return;
+        return text(rt, b"accepted\n");
     }
-    text(b"refused ");
-    number(refusal);
-    text(b"\n");
+    text(rt, b"refused ")?;
+    number(rt, refusal)?;
+    text(rt, b"\n")
 }
 
 // What the resolver answers.
-pub(crate) fn answer(what: &[u8], resolved: Resolved) {
-    text(what);
+pub(crate) fn answer(rt: &impl Print, what: &[u8], resolved: Resolved) -> io::Result<()> {
+    text(rt, what)?;
     match resolved {
         Resolved::Found(data) => {
-            tag(data.current);
-            text(b", stored ");
-            tag(data.stored);
+            tag(rt, data.current)?;
+            text(rt, b", stored ")?;
+            tag(rt, data.stored)?;
         }
         Resolved::Nothing => {
-            text(b"none");
+            text(rt, b"none")?;
         }
         Resolved::Refused(refusal) => {
-            text(b"refused ");
-            number(refusal);
+            text(rt, b"refused ")?;
+            number(rt, refusal)?;
         }
     }
-    text(b"\n");
+    text(rt, b"\n")
 }
 
 // An entry's three words.
-fn entry(date: u32, kind: u32, target: u32) {
-    number(date);
+fn entry(rt: &impl Print, date: u32, kind: u32, target: u32) -> io::Result<()> {
+    number(rt, date)?;
     if kind == 0 {
-        text(b" switch to ");
-        tag(CountryTag::kept(target));
-        text(b"\n");
-        return;
+        text(rt, b" switch to ")?;
+        tag(rt, CountryTag::kept(target))?;
+        return text(rt, b"\n");
     }
     if kind == 1 {
-        text(b" Appeared\n");
-        return;
+        return text(rt, b" Appeared\n");
     }
-    text(b" Annexed\n");
+    text(rt, b" Annexed\n")
 }
 
 // All entry rows.
-pub(crate) fn entries(words: &[u32]) {
+pub(crate) fn entries(rt: &impl Print, words: &[u32]) -> io::Result<()> {
     let n = words.len() / 3;
     let mut i = 0;
     while i < n {
-        entry(words[3 * i], words[3 * i + 1], words[3 * i + 2]);
+        entry(rt, words[3 * i], words[3 * i + 1], words[3 * i + 2])?;
         i += 1;
     }
+    Ok(())
 }

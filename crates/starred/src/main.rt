@@ -2,12 +2,15 @@
 // worked.atl is the worked record, one_slot.atl that of GBR's only slot.
 #![tactic(auto)]
 
+mod input;
 mod lines;
 
 ghost use Rattle.std.specs.Prelude.{◌≤◌, length};
 
 use chronicle::NationEvents;
 use record::{CountryTag, Eu4Date};
+use std::fs::File;
+use std::io;
 
 // The tags of the cases.
 const ENG: u32 = 4542023;
@@ -15,13 +18,13 @@ const ENG: u32 = 4542023;
 const GBR: u32 = 4670034;
 
 // Reads a record of at most 103 bytes, and gives its length.
-fn read_record(name: &[u8], s: &mut [u8]) -> usize
+fn read_record(rt: &HostRuntime, name: &str, s: &mut [u8]) -> usize
     ensures { result ≤ length s.new }
 {
-    let file = os::open_read(name);
-    let n = io::read_full(file, s);
-    libc::close(file);
-    n
+    match File::open(rt, name) {
+        Ok(mut file) => input::read_full(&mut file, s),
+        Err(_) => 0,
+    }
 }
 
 // Writes a byte of a record that is long enough for it.
@@ -39,80 +42,86 @@ fn starts_in_february(s: &mut [u8], low: u8) -> u32 {
 }
 
 // The whole record, cut short, and starting on the last day of a February and on the day after.
-fn checks(s: &mut [u8])
+fn checks(rt: &impl Print, s: &mut [u8]) -> io::Result<()>
     requires { 103 ≤ length s.old }
 {
-    lines::checked(b"103 bytes: ", record::check(s));
-    lines::checked(b"102 bytes: ", record::check(&s[0..102]));
-    lines::checked(b"starts on 14440228: ", starts_in_february(s, 36));
-    lines::checked(b"starts on 14440229: ", starts_in_february(s, 37));
+    lines::checked(rt, b"103 bytes: ", record::check(s))?;
+    lines::checked(rt, b"102 bytes: ", record::check(&s[0..102]))?;
+    lines::checked(rt, b"starts on 14440228: ", starts_in_february(s, 36))?;
+    lines::checked(rt, b"starts on 14440229: ", starts_in_february(s, 37))
 }
 
 // Asks the resolver about a chronicle.
-fn questions(nations: &[u32], entries: &[u32]) {
+fn questions(rt: &impl Print, nations: &[u32], entries: &[u32]) -> io::Result<()> {
     let eng = CountryTag::kept(ENG);
     let gbr = CountryTag::kept(GBR);
     let before = Eu4Date::kept(14480531);
     let on = Eu4Date::kept(14480601);
     lines::answer(
+        rt,
         b"resolve GBR on 14480531: ",
         chronicle::resolve(nations, entries, gbr, before),
-    );
+    )?;
     lines::answer(
+        rt,
         b"resolve GBR on 14480601: ",
         chronicle::resolve(nations, entries, gbr, on),
-    );
+    )?;
     lines::answer(
+        rt,
         b"set to 14480531, resolve ENG on 14480531: ",
         chronicle::at(before).resolve_at(nations, entries, eng, before),
-    );
+    )?;
     lines::answer(
+        rt,
         b"set to 14480531, initial ENG: ",
         chronicle::at(before).initial_at(nations, entries, eng),
-    );
+    )?;
     lines::answer(
+        rt,
         b"set to 14480601, resolve GBR on 14480601: ",
         chronicle::at(on).resolve_at(nations, entries, gbr, on),
-    );
+    )
 }
 
 // Writes the nations and entries of a record, of two countries and two provinces at most, and prints the entries.
-fn nation_rows(s: &[u8], nations: &mut [u32], entries: &mut [u32]) {
+fn nation_rows(
+    rt: &impl Print,
+    s: &[u8],
+    nations: &mut [u32],
+    entries: &mut [u32],
+) -> io::Result<()> {
     let mut holders = [0u32; 3];
     let mut held = [0u32; 2];
     let mut changes = [0u32; 8];
     match chronicle::nation_events(s, nations, entries, &mut holders, &mut held, &mut changes) {
-        NationEvents::Rows(_) => {
-            lines::entries(entries);
-        }
-        NationEvents::Refused(number) => {
-            lines::checked(b"nations: ", number);
-        }
+        NationEvents::Rows(_) => lines::entries(rt, entries),
+        NationEvents::Refused(number) => lines::checked(rt, b"nations: ", number),
     }
 }
 
 // The worked record: its rows, and what the resolver makes of them.
-fn worked(s: &[u8]) {
+fn worked(rt: &impl Print, s: &[u8]) -> io::Result<()> {
     let mut nations = [0u32; 10];
     let mut entries = [0u32; 9];
-    lines::text(b"entries of the worked record:\n");
-    nation_rows(s, &mut nations, &mut entries);
-    questions(&nations, &entries);
+    lines::text(rt, b"entries of the worked record:\n")?;
+    nation_rows(rt, s, &mut nations, &mut entries)?;
+    questions(rt, &nations, &entries)
 }
 
 // The record in which GBR's only slot goes from ENG to GBR.
-fn one_slot(s: &[u8]) {
+fn one_slot(rt: &impl Print, s: &[u8]) -> io::Result<()> {
     let mut nations = [0u32; 5];
     let mut entries = [0u32; 9];
-    lines::text(b"entries with one slot, from ENG to GBR:\n");
-    nation_rows(s, &mut nations, &mut entries);
+    lines::text(rt, b"entries with one slot, from ENG to GBR:\n")?;
+    nation_rows(rt, s, &mut nations, &mut entries)
 }
 
-fn main() {
+fn main(rt: HostRuntime) -> io::Result<()> {
     let mut s = [0u8; 103];
-    let n = read_record(b"worked.atl", &mut s);
-    worked(&s[0..n]);
-    checks(&mut s);
-    let k = read_record(b"one_slot.atl", &mut s);
-    one_slot(&s[0..k]);
+    let n = read_record(&rt, "worked.atl", &mut s);
+    worked(&rt, &s[0..n])?;
+    checks(&rt, &mut s)?;
+    let k = read_record(&rt, "one_slot.atl", &mut s);
+    one_slot(&rt, &s[0..k])
 }

@@ -5,7 +5,7 @@ use lib.ListN.{length}
 use Rattle.answer_vectors.proofs.main.Given as goal
 
 abbrev pub invariant-loop-campaigns : goal.invariant-loop-campaigns
-invariant-loop-campaigns l = (length s ≡ 4096) × (length bytes ≡ 65536) × (days ≤ 1000 * campaigns) × (wrong ≤ 1002 * campaigns) × (campaigns ≤ 100000)
+invariant-loop-campaigns l = (length l.s ≡ 4096) × (length l.bytes ≡ 65536) × (l.days ≤ 1000 * l.campaigns) × (l.wrong ≤ 1002 * l.campaigns) × (l.campaigns ≤ 100000)
 
 abbrev pub decreases-loop-campaigns : goal.decreases-loop-campaigns
-decreases-loop-campaigns l = 100000 - campaigns
+decreases-loop-campaigns l = 100000 - l.campaigns
