@@ -20,7 +20,7 @@ tag_length-need-requires c = c.requires.0
 pub returns-then-left-need : goal.returns-then-left-need
 returns-then-left-need c =
     let all : ℕ = length (lines_of c.args.nations.now c.args.living.now (tags_read (selection_of c.args.selection.now))) in
-    let told : selection_of (drop c.loop-tag.at c.args.selection.now) ≡ map (λ ts. c.in-Row.tag ∷ ts) (selection_of (drop (c.loop-tag.at + 4) c.args.selection.now)) = c.next_tag.ensures ∙ ap (tag_told _ _) c.in-Row.is in
+    let told : selection_of (drop c.loop-tag.at c.args.selection.now) ≡ map (λ ts. c.in-Row.tag ∷ ts) (selection_of (drop (c.loop-tag.at + 4) c.args.selection.now)) = c.next_tag.ensures ∙ ap (tag_told c.args.selection.now c.loop-tag.at) c.in-Row.is in
     let grown : length (lines_of c.args.nations.now c.args.living.now (tags_read (selection_of (drop c.loop-tag.at c.args.selection.now)))) ≡ length (line_of c.args.nations.now c.args.living.now c.in-Row.tag) + length (lines_of c.args.nations.now c.args.living.now (tags_read (selection_of (drop (c.loop-tag.at + 4) c.args.selection.now)))) = ap (λ ts. length (lines_of c.args.nations.now c.args.living.now ts)) (tags-next c.args.selection.now c.loop-tag.at c.in-Row.tag told c.loop-tag.invariant.1).1
     ∙ length-append (line_of c.args.nations.now c.args.living.now c.in-Row.tag) (lines_of c.args.nations.now c.args.living.now (tags_read (selection_of (drop (c.loop-tag.at + 4) c.args.selection.now)))) in
     sym (lt-leb all _ (omega (arith, c.if-left-need.true, c.tag_length-need.ensures, c.loop-tag.invariant.2, grown)))
@@ -28,28 +28,28 @@ returns-then-left-need c =
 pub returns-in-End : goal.returns-in-End
 returns-in-End c =
     let all : ℕ = length (lines_of c.args.nations.now c.args.living.now (tags_read (selection_of c.args.selection.now))) in
-    let e = ap tags_read (c.next_tag.ensures ∙ ap (tag_told _ _) c.in-End.is) in
+    let e = ap tags_read (c.next_tag.ensures ∙ ap (tag_told c.args.selection.now c.loop-tag.at) c.in-End.is) in
     sym (le-leb all _ (omega (arith, c.loop-tag.invariant.2, ap (λ ts. length (lines_of c.args.nations.now c.args.living.now ts)) e)))
 
 pub returns-in-NoTag : goal.returns-in-NoTag
 returns-in-NoTag c =
-    absurd (tags-broken _ c.loop-tag.invariant.1 (c.next_tag.ensures ∙ ap (tag_told _ _) c.in-NoTag.is))
+    absurd (tags-broken _ c.loop-tag.invariant.1 (c.next_tag.ensures ∙ ap (tag_told c.args.selection.now c.loop-tag.at) c.in-NoTag.is))
 
 pub overflow_add-at : goal.overflow_add-at
 overflow_add-at c =
-    let told : selection_of (drop c.loop-tag.at c.args.selection.now) ≡ map (λ ts. c.in-Row.tag ∷ ts) (selection_of (drop (c.loop-tag.at + 4) c.args.selection.now)) = c.next_tag.ensures ∙ ap (tag_told _ _) c.in-Row.is in
+    let told : selection_of (drop c.loop-tag.at c.args.selection.now) ≡ map (λ ts. c.in-Row.tag ∷ ts) (selection_of (drop (c.loop-tag.at + 4) c.args.selection.now)) = c.next_tag.ensures ∙ ap (tag_told c.args.selection.now c.loop-tag.at) c.in-Row.is in
     let inside : c.loop-tag.at + 4 ≤ length c.args.selection.now = tag-inside _ _ c.in-Row.tag told in
     omega (arith, inside)
 
 pub loop-tag-smaller : goal.loop-tag-smaller
 loop-tag-smaller c =
-    let told : selection_of (drop c.loop-tag.at c.args.selection.now) ≡ map (λ ts. c.in-Row.tag ∷ ts) (selection_of (drop (c.loop-tag.at + 4) c.args.selection.now)) = c.next_tag.ensures ∙ ap (tag_told _ _) c.in-Row.is in
+    let told : selection_of (drop c.loop-tag.at c.args.selection.now) ≡ map (λ ts. c.in-Row.tag ∷ ts) (selection_of (drop (c.loop-tag.at + 4) c.args.selection.now)) = c.next_tag.ensures ∙ ap (tag_told c.args.selection.now c.loop-tag.at) c.in-Row.is in
     let inside : c.loop-tag.at + 4 ≤ length c.args.selection.now = tag-inside _ _ c.in-Row.tag told in
     omega (arith, inside)
 
 pub loop-tag-preserved : goal.loop-tag-preserved
 loop-tag-preserved c =
-    let told : selection_of (drop c.loop-tag.at c.args.selection.now) ≡ map (λ ts. c.in-Row.tag ∷ ts) (selection_of (drop (c.loop-tag.at + 4) c.args.selection.now)) = c.next_tag.ensures ∙ ap (tag_told _ _) c.in-Row.is in
+    let told : selection_of (drop c.loop-tag.at c.args.selection.now) ≡ map (λ ts. c.in-Row.tag ∷ ts) (selection_of (drop (c.loop-tag.at + 4) c.args.selection.now)) = c.next_tag.ensures ∙ ap (tag_told c.args.selection.now c.loop-tag.at) c.in-Row.is in
     let grown : length (lines_of c.args.nations.now c.args.living.now (tags_read (selection_of (drop c.loop-tag.at c.args.selection.now)))) ≡ length (line_of c.args.nations.now c.args.living.now c.in-Row.tag) + length (lines_of c.args.nations.now c.args.living.now (tags_read (selection_of (drop (c.loop-tag.at + 4) c.args.selection.now)))) = ap (λ ts. length (lines_of c.args.nations.now c.args.living.now ts)) (tags-next c.args.selection.now c.loop-tag.at c.in-Row.tag told c.loop-tag.invariant.1).1
     ∙ length-append (line_of c.args.nations.now c.args.living.now c.in-Row.tag) (lines_of c.args.nations.now c.args.living.now (tags_read (selection_of (drop (c.loop-tag.at + 4) c.args.selection.now)))) in
     let inside : c.loop-tag.at + 4 ≤ length c.args.selection.now = tag-inside _ _ c.in-Row.tag told in (
