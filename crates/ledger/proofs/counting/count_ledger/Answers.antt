@@ -19,7 +19,10 @@ loop-n-preserved c =
     c.loop-n.invariant c.count_points-n.result c.count_points-n.ensures
 
 pub overflow_add-n : goal.overflow_add-n
-overflow_add-n c = omega (arith, (loop-again c).few, c.fits.most)
+overflow_add-n c =
+    let counted = span-counted c.args.s.now c.args.entries.now c.args.frame.current c.loop-n.walk c.next.ensures _ _ c.in-Row.is
+    c.loop-n.invariant c.count_points-n.result c.count_points-n.ensures in
+    omega (arith, counted.few, c.ranges.most)
 
 pub loop-n-smaller : goal.loop-n-smaller
 loop-n-smaller c =

@@ -21,7 +21,10 @@ loop-i-preserved c = (
 )
 
 pub overflow_add-n : goal.overflow_add-n
-overflow_add-n c = omega (arith, (loop-again c).1.few, c.ranges.most)
+overflow_add-n c =
+    let counted = nation-counted c.args.s.now c.args.nations.now c.args.entries.now c.loop-i.i _ c.nation_at-row.result c.nation_at-row.ensures c.loop-i-test.true
+    c.loop-i.invariant.1 c.count_ledger-n.result c.count_ledger-n.ensures in
+    omega (arith, counted.few, c.ranges.most)
 
 pub loop-i-smaller : goal.loop-i-smaller
 loop-i-smaller c = omega (arith, c.loop-i-test.true)

@@ -16,7 +16,7 @@ bounds-keys-n c =
     (naming-room c.loop-row.invariant (told-row (ledger_told _) c.next.ensures c.in-Row.is refl)).0
 
 pub overflow_mul-places : goal.overflow_mul-places
-overflow_mul-places c = omega (arith, c.loop-row.invariant.few_points)
+overflow_mul-places c = omega (arith, c.loop-row.invariant.few-points)
 
 pub overflow_add-places : goal.overflow_add-places
 overflow_add-places c =

@@ -7,7 +7,7 @@ use Rattle.ledger.proofs.ledgers.ledgers_of.Goals as goal
 
 pub index_names-names-requires : goal.index_names-names-requires
 index_names-names-requires c =
-    (c.requires.first, (length-replicate {A = ℕ} 2000 0, length-replicate {A = ℕ} 2000 0))
+    record { at_first_ledger = c.requires.first; keys_len = (length-replicate {A = ℕ} 2000 0, length-replicate {A = ℕ} 2000 0) }
 
 pub slice_bounds-counted_ledgers-end : goal.slice_bounds-counted_ledgers-end
 slice_bounds-counted_ledgers-end c = omega (arith, c.index_names-names.ensures.few, c.index_names-names.ensures.keys_long)

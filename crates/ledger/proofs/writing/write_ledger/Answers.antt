@@ -9,10 +9,10 @@ pub loop-span-init : goal.loop-span-init
 loop-span-init c = fills-start _ _ _ refl
 
 pub overflow_mul-k : goal.overflow_mul-k
-overflow_mul-k c = omega (arith, rows_inside c.loop-span.invariant, c.loop-span.invariant.filling.long, c.good.1.1.1.1.1.1.0)
+overflow_mul-k c = omega (arith, rows_inside c.loop-span.invariant, c.loop-span.invariant.filling.long, c.well_formed.1.1.1.1.1.1.0)
 
 pub offset_bounds-out-k : goal.offset_bounds-out-k
-offset_bounds-out-k c = omega (arith, rows_inside c.loop-span.invariant, c.loop-span.invariant.filling.long, c.good.1.1.1.1.1.1.0)
+offset_bounds-out-k c = omega (arith, rows_inside c.loop-span.invariant, c.loop-span.invariant.filling.long, c.well_formed.1.1.1.1.1.1.0)
 
 pub slice_bounds-write_points-count : goal.slice_bounds-write_points-count
 slice_bounds-write_points-count c = rows_inside c.loop-span.invariant
@@ -34,7 +34,9 @@ loop-span-preserved c =
 
 pub overflow_add-n : goal.overflow_add-n
 overflow_add-n c =
-    omega (arith, (loop-again c).few, c.good.1.1.1.1.1.1.0)
+    let passed = span-passed c.args.s.now c.args.entries.now c.args.frame.current c.loop-span.walk c.next.ensures _ _ c.in-Row.is
+    c.loop-span.invariant c.write_points-n.result _ c.write_points-n.ensures in
+    omega (arith, passed.few, c.well_formed.1.1.1.1.1.1.0)
 
 pub shape_of-out-in-End : goal.shape_of-out-in-End
 shape_of-out-in-End c = c.loop-span.invariant.filling.long

@@ -38,7 +38,8 @@ bounds-counts-i c =
 
 pub overflow_add-passed : goal.overflow_add-passed
 overflow_add-passed c =
-    omega (arith, (loop-again c).rows.few, c.well_formed.1.1.1.1.1.1.0)
+    let more = ledgers-more _ _ _ _ _ _ c.loop-i.invariant c.nation_at-row.result c.nation_at-row.ensures c.loop-i-test.true c.write_ledger-n.result _ c.write_ledger-n.ensures in
+    omega (arith, more.rows.few, c.well_formed.1.1.1.1.1.1.0)
 
 pub loop-i-smaller : goal.loop-i-smaller
 loop-i-smaller c = omega (arith, c.loop-i-test.true)
