@@ -12,12 +12,6 @@ use Rattle.pages.proofs.RoomLaws.{LentFor, over, nations-inside, entries-inside,
 use Rattle.pages.proofs.TextLaws.{rows_few, cells-listed, listed-front}
 use Rattle.pages.proofs.listing.list_nations.Goals as goal
 
--- The answer by its case, with the slices.
-told : (c : tie.After-nation-events) (r : Events.NationEvents) → c.nation-events.result ≡ r
-    → record { answer = nations_answer r; memory = left c } ≡ call_nation_events (begun c).args.s.now (lent c)
-told c r e =
-    sym (ap (λ (x : Events.NationEvents). record { answer = nations_answer x; memory = left c }) e) ∙ c.nation-events.ensures
-
 fits-within : {a b : ℕ} → a ≤ 2000 → b ≡ 2000 → a ≤ b
 fits-within h e = omega (arith, h, e)
 
@@ -43,9 +37,10 @@ overflow_mul-n c =
       held = length-replicate {A = ℕ} 2000 0;
       changes = length-replicate {A = ℕ} 16000 0;
     } in
-    let left : NationCells = let m = c.nation_events.new.1 in
-    nation_cells m.0 m.1.0 m.1.1.0 m.1.1.1.0 m.1.1.1.1.0 in
-    let rows_told : record { answer = nations_answer (Events.TheVariants.Rows c.in-Rows.counts); memory = left } ≡ call_nation_events c.args.s.now lent = told c _ c.in-Rows.is in
+    let left : NationCells = let m = c.nation_events.new in
+    nation_cells m.nations m.entries m.holders m.held m.changes in
+    let rows_told : record { answer = nations_answer (Events.TheVariants.Rows c.in-Rows.counts); memory = left } ≡ call_nation_events c.args.s.now lent =
+    sym (ap (λ (x : Events.NationEvents). record { answer = nations_answer x; memory = left }) c.in-Rows.is) ∙ c.nation_events.ensures in
     omega (arith, (counts-short lent new _ c.requires.0 rows_told).0)
 
 pub overflow_mul-m : goal.overflow_mul-m
@@ -58,9 +53,10 @@ overflow_mul-m c =
       held = length-replicate {A = ℕ} 2000 0;
       changes = length-replicate {A = ℕ} 16000 0;
     } in
-    let left : NationCells = let m = c.nation_events.new.1 in
-    nation_cells m.0 m.1.0 m.1.1.0 m.1.1.1.0 m.1.1.1.1.0 in
-    let rows_told : record { answer = nations_answer (Events.TheVariants.Rows c.in-Rows.counts); memory = left } ≡ call_nation_events c.args.s.now lent = told c _ c.in-Rows.is in
+    let left : NationCells = let m = c.nation_events.new in
+    nation_cells m.nations m.entries m.holders m.held m.changes in
+    let rows_told : record { answer = nations_answer (Events.TheVariants.Rows c.in-Rows.counts); memory = left } ≡ call_nation_events c.args.s.now lent =
+    sym (ap (λ (x : Events.NationEvents). record { answer = nations_answer x; memory = left }) c.in-Rows.is) ∙ c.nation_events.ensures in
     omega (arith, (counts-short lent new _ c.requires.0 rows_told).1)
 
 pub slice_bounds-fill_living-end : goal.slice_bounds-fill_living-end
@@ -73,9 +69,10 @@ slice_bounds-fill_living-end c =
       held = length-replicate {A = ℕ} 2000 0;
       changes = length-replicate {A = ℕ} 16000 0;
     } in
-    let left : NationCells = let m = c.nation_events.new.1 in
-    nation_cells m.0 m.1.0 m.1.1.0 m.1.1.1.0 m.1.1.1.1.0 in
-    let rows_told : record { answer = nations_answer (Events.TheVariants.Rows c.in-Rows.counts); memory = left } ≡ call_nation_events c.args.s.now lent = told c _ c.in-Rows.is in
+    let left : NationCells = let m = c.nation_events.new in
+    nation_cells m.nations m.entries m.holders m.held m.changes in
+    let rows_told : record { answer = nations_answer (Events.TheVariants.Rows c.in-Rows.counts); memory = left } ≡ call_nation_events c.args.s.now lent =
+    sym (ap (λ (x : Events.NationEvents). record { answer = nations_answer x; memory = left }) c.in-Rows.is) ∙ c.nation_events.ensures in
     nations-inside lent new _ c.requires.0 rows_told
 
 pub slice_bounds-fill_living-end-in-Rows : goal.slice_bounds-fill_living-end-in-Rows
@@ -88,9 +85,10 @@ slice_bounds-fill_living-end-in-Rows c =
       held = length-replicate {A = ℕ} 2000 0;
       changes = length-replicate {A = ℕ} 16000 0;
     } in
-    let left : NationCells = let m = c.nation_events.new.1 in
-    nation_cells m.0 m.1.0 m.1.1.0 m.1.1.1.0 m.1.1.1.1.0 in
-    let rows_told : record { answer = nations_answer (Events.TheVariants.Rows c.in-Rows.counts); memory = left } ≡ call_nation_events c.args.s.now lent = told c _ c.in-Rows.is in
+    let left : NationCells = let m = c.nation_events.new in
+    nation_cells m.nations m.entries m.holders m.held m.changes in
+    let rows_told : record { answer = nations_answer (Events.TheVariants.Rows c.in-Rows.counts); memory = left } ≡ call_nation_events c.args.s.now lent =
+    sym (ap (λ (x : Events.NationEvents). record { answer = nations_answer x; memory = left }) c.in-Rows.is) ∙ c.nation_events.ensures in
     entries-inside lent new _ c.requires.0 rows_told
 
 pub fill_living-requires : goal.fill_living-requires
@@ -103,16 +101,17 @@ fill_living-requires c =
       held = length-replicate {A = ℕ} 2000 0;
       changes = length-replicate {A = ℕ} 16000 0;
     } in
-    let left : NationCells = let m = c.nation_events.new.1 in
-    nation_cells m.0 m.1.0 m.1.1.0 m.1.1.1.0 m.1.1.1.1.0 in
-    let rows_told : record { answer = nations_answer (Events.TheVariants.Rows c.in-Rows.counts); memory = left } ≡ call_nation_events c.args.s.now lent = told c _ c.in-Rows.is in
+    let left : NationCells = let m = c.nation_events.new in
+    nation_cells m.nations m.entries m.holders m.held m.changes in
+    let rows_told : record { answer = nations_answer (Events.TheVariants.Rows c.in-Rows.counts); memory = left } ≡ call_nation_events c.args.s.now lent =
+    sym (ap (λ (x : Events.NationEvents). record { answer = nations_answer x; memory = left }) c.in-Rows.is) ∙ c.nation_events.ensures in
     let z = c.requires.0 in
     fits-within (rows_few _ z (nation-front lent new _ z rows_told)) c.requires.2
 
 pub returns-in-Rows : goal.returns-in-Rows
 returns-in-Rows c =
-    let left : NationCells = let m = c.nation_events.new.1 in
-    nation_cells m.0 m.1.0 m.1.1.0 m.1.1.1.0 m.1.1.1.1.0 in
+    let left : NationCells = let m = c.nation_events.new in
+    nation_cells m.nations m.entries m.holders m.held m.changes in
     let lent : NationCells = nation_cells c.args.nations.now (replicate 15000 0) (replicate 8001 0) (replicate 2000 0) (replicate 16000 0) in
     let new : LentFor lent = record {
       nations = c.requires.1;
@@ -121,7 +120,8 @@ returns-in-Rows c =
       held = length-replicate {A = ℕ} 2000 0;
       changes = length-replicate {A = ℕ} 16000 0;
     } in
-    let rows_told : record { answer = nations_answer (Events.TheVariants.Rows c.in-Rows.counts); memory = left } ≡ call_nation_events c.args.s.now lent = told c _ c.in-Rows.is in
+    let rows_told : record { answer = nations_answer (Events.TheVariants.Rows c.in-Rows.counts); memory = left } ≡ call_nation_events c.args.s.now lent =
+    sym (ap (λ (x : Events.NationEvents). record { answer = nations_answer x; memory = left }) c.in-Rows.is) ∙ c.nation_events.ensures in
     let z = c.requires.0 in
     let nations = nation-front lent new _ z rows_told in
     let entries = entry-front lent new _ z rows_told in (
@@ -139,4 +139,6 @@ returns-in-Refused c =
       held = length-replicate {A = ℕ} 2000 0;
       changes = length-replicate {A = ℕ} 16000 0;
     } in
-    over lent new _ c.requires.0 (told c _ c.in-Refused.is)
+    let left : NationCells = let m = c.nation_events.new in
+    nation_cells m.nations m.entries m.holders m.held m.changes in
+    over lent new _ c.requires.0 (sym (ap (λ (x : Events.NationEvents). record { answer = nations_answer x; memory = left }) c.in-Refused.is) ∙ c.nation_events.ensures)

@@ -9,12 +9,6 @@ use Rattle.pages.proofs.PageLaws.{page-over}
 use Rattle.pages.proofs.TextLaws.{listed-part}
 use Rattle.pages.proofs.paging.chronicle_page.Goals as goal
 
--- What is listed, by its case.
-told : (c : tie.After-list-nations) (r : PageNations) → c.list-nations.result ≡ r
-    → PageNationsTold (begun c).args.s.now r c.list-nations.new.1.0 c.list-nations.new.1.1.0
-told c r e =
-    subst (λ (x : PageNations). PageNationsTold (begun c).args.s.now x c.list-nations.new.1.0 c.list-nations.new.1.1.0) e c.list-nations.ensures
-
 pub slice_bounds-list_nations-end : goal.slice_bounds-list_nations-end
 slice_bounds-list_nations-end c = sym (length-replicate {A = ℕ} 10000 0)
 
@@ -27,12 +21,14 @@ list_nations-requires c =
 
 pub slice_bounds-listed_page-end : goal.slice_bounds-listed_page-end
 slice_bounds-listed_page-end c =
-    (told c _ c.in-Words.is).0
+    let told = subst (λ (x : PageNations). PageNationsTold c.args.s.now x c.list_nations.new.nations c.list_nations.new.living) c.in-Words.is c.list_nations.ensures in
+    told.0
 
 pub listed_page-requires : goal.listed_page-requires
 listed_page-requires c =
-    (c.requires, listed-part c.in-Words.n c.list_nations.new.nations (told c _ c.in-Words.is).1)
+    let told = subst (λ (x : PageNations). PageNationsTold c.args.s.now x c.list_nations.new.nations c.list_nations.new.living) c.in-Words.is c.list_nations.ensures in
+    (c.requires, listed-part c.in-Words.n c.list_nations.new.nations told.1)
 
 pub returns-in-OverLimits : goal.returns-in-OverLimits
 returns-in-OverLimits c =
-    page-over _ _ _ c.requires (told c _ c.in-OverLimits.is)
+    page-over _ _ _ c.requires (subst (λ (x : PageNations). PageNationsTold c.args.s.now x c.list_nations.new.nations c.list_nations.new.living) c.in-OverLimits.is c.list_nations.ensures)
