@@ -11,7 +11,7 @@ fn main() {
     println!("cargo:rerun-if-changed={}", archive.display());
     if !archive.is_file() {
         eprintln!(
-            "{} is missing: run `rt staticlib page` at the top of the repository first, \
+            "{} is missing: run `bash tools/build.sh` at the top of the repository first, \
              or set CHRONICLE_LIB_DIR to the folder that holds libpage.a",
             archive.display()
         );

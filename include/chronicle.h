@@ -1,7 +1,7 @@
 /*
  * The campaign chronicle: the C functions of libpage.a (x86-64 Linux).
  *
- * Build the archive with `rt staticlib page`, then, at the top of the repository:
+ * Build the archive with `bash tools/build.sh`, then, at the top of the repository:
  *
  *     cc -Iinclude main.c -Ltarget/staticlib -lpage
  *
