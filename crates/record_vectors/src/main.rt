@@ -1,11 +1,8 @@
 // Replays the stored records of vectors.bin, each a length in 32 bits, its expected number and its bytes, and counts the wrong answers.
 #![tactic(auto)]
 
-<<<<<<< HEAD
-=======
 mod input;
 
->>>>>>> 28da2aa8c2c6bd763b7d00aade10203727e80c72
 ghost use Rattle.std.specs.Prelude.{◌<◌, ◌≤◌, length};
 
 use std::fs::File;
