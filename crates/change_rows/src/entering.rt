@@ -11,9 +11,9 @@ use record::Provinces;
 
 // How many changes were entered, and how many of them go before the one that was entered before them.
 #[derive(Clone, Copy)]
-pub(crate) struct Walked {
-    pub(crate) count: usize,
-    pub(crate) falls: usize,
+pub struct Walked {
+    pub count: usize,
+    pub falls: usize,
 }
 
 // Whether there are at most so many changes.

@@ -6,5 +6,6 @@ mod ordering;
 mod rows;
 mod writing;
 
+pub use entering::Walked;
 pub use ordering::{OrderedRows, write_ordered};
 pub use writing::write_sorted;

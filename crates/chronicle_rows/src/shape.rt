@@ -81,7 +81,8 @@ fn nations_shaped(nations: &[u32], end: usize) -> bool
         let nation = rows::nation_at(nations, i);
         let first = nation.first as usize;
         let count = nation.count as usize;
-        if !(tags_shaped(nation) & (first == next) & (count <= end - next)) {
+        let follows = tags_shaped(nation) & (first == next) & (count <= end - next);
+        if !follows {
             return false;
         }
         next += count;

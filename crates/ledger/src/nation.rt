@@ -64,7 +64,8 @@ fn asked_number(nations: &[u32], entries: &[u32], nation: usize) -> u32
     ensures { result ≡ asked_number nations.now entries.now nation }
 {
     let count = nation_count(nations);
-    if !is_well_shaped(nations, entries) {
+    let torn = !is_well_shaped(nations, entries);
+    if torn {
         return 11;
     }
     if count <= nation {

@@ -200,17 +200,17 @@ lower_in a b n k e l g =
 -- ## From entry to entry
 
 -- A walk came from one place to another without a word.
-pub record LivesWalked (start : Eu4Date) (keys olds news : List ℕ) (from to : Lives) : Type 0 where
+pub record Walked (start : Eu4Date) (keys olds news : List ℕ) (from to : Lives) : Type 0 where
   pub told : lived_left start keys olds news from ≡ lived_left start keys olds news to
   pub light : Light to
   pub near : ahead to ≤ ahead from
 
 module _ (start : Eu4Date) (keys olds news : List ℕ) where
-  pub walked_none : (c : Lives) → Light c → LivesWalked start keys olds news c c
+  pub walked_none : (c : Lives) → Light c → Walked start keys olds news c c
   walked_none c light = record { told = refl; light = light; near = omega arith }
 
-  module _ (from to : Lives) (w : LivesWalked start keys olds news from to) where
-    pub walked_more : (c : Lives) → Turns start keys olds news to (Silent c) → LivesWalked start keys olds news from c
+  module _ (from to : Lives) (w : Walked start keys olds news from to) where
+    pub walked_more : (c : Lives) → Turns start keys olds news to (Silent c) → Walked start keys olds news from c
     walked_more c t =
         record { told = w.told ∙ t.told; light = t.onward.light; near = omega (arith, w.near, t.onward.less) }
 

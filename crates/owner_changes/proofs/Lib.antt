@@ -1,2 +1,3 @@
 pub mod OutcomeLaws
 pub mod CountLaws
+pub mod OwnerRowLaws

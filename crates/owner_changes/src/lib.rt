@@ -4,3 +4,4 @@
 mod answers;
 
 pub use answers::{EventsOn, Owners, events_on, province_owners};
+pub use change_rows::write_sorted;

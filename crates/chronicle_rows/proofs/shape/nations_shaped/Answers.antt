@@ -12,21 +12,21 @@ use Rattle.chronicle_rows.proofs.shape.nations_shaped.Goals as goal
 pub loop-i-init : goal.loop-i-init
 loop-i-init c = record { inside = search rules; room = search rules; tells = refl }
 
-pub returns-then-not-tags_shaped-first : goal.returns-then-not-tags_shaped-first
-returns-then-not-tags_shaped-first c =
+pub returns-then-not-follows : goal.returns-then-not-follows
+returns-then-not-follows c =
     let more : drop c.loop-i.i (nation_rows_in c.args.nations.now) ≡ nation_told c.nation_at-nation.result ∷ drop (c.loop-i.i + 1) (nation_rows_in c.args.nations.now) = rw c.nation_at-nation.ensures (nations-next _ _ (search rules)) in
-    follow-stop _ _ _ _ _ more (search rules) c.loop-i.invariant _ c.tags_shaped.ensures c.if-not-tags_shaped-first.true-raw
+    follow-stop _ _ _ _ _ more (search rules) c.loop-i.invariant _ c.tags_shaped.ensures c.if-not-follows.true-raw
 
 pub overflow_add-next : goal.overflow_add-next
 overflow_add-next c =
     let more : drop c.loop-i.i (nation_rows_in c.args.nations.now) ≡ nation_told c.nation_at-nation.result ∷ drop (c.loop-i.i + 1) (nation_rows_in c.args.nations.now) = rw c.nation_at-nation.ensures (nations-next _ _ (search rules)) in
-    let few = (follow-pass _ _ _ _ _ more (search rules) c.loop-i.invariant _ c.tags_shaped.ensures c.if-not-tags_shaped-first.false-raw).room in
+    let few = (follow-pass _ _ _ _ _ more (search rules) c.loop-i.invariant _ c.tags_shaped.ensures c.if-not-follows.false-raw).room in
     search rules
 
 pub loop-i-preserved : goal.loop-i-preserved
 loop-i-preserved c =
     let more : drop c.loop-i.i (nation_rows_in c.args.nations.now) ≡ nation_told c.nation_at-nation.result ∷ drop (c.loop-i.i + 1) (nation_rows_in c.args.nations.now) = rw c.nation_at-nation.ensures (nations-next _ _ (search rules)) in
-    follow-pass _ _ _ _ _ more (search rules) c.loop-i.invariant _ c.tags_shaped.ensures c.if-not-tags_shaped-first.false-raw
+    follow-pass _ _ _ _ _ more (search rules) c.loop-i.invariant _ c.tags_shaped.ensures c.if-not-follows.false-raw
 
 pub returns : goal.returns
 returns c =

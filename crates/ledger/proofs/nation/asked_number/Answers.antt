@@ -2,13 +2,13 @@
 use Rattle.ledger.proofs.LedgerOutcomeLaws.{asked-torn, asked-unlisted, asked-listed}
 use Rattle.ledger.proofs.nation.asked_number.Goals as goal
 
-pub returns-then-not-is_well_shaped : goal.returns-then-not-is_well_shaped
-returns-then-not-is_well_shaped c = asked-torn _ _ _ _ c.is_well_shaped.ensures c.if-not-is_well_shaped.true-raw
+pub returns-then-torn : goal.returns-then-torn
+returns-then-torn c = asked-torn _ _ _ _ c.is_well_shaped-torn.ensures c.if-torn.true-raw
 
 pub returns-then-count-nation : goal.returns-then-count-nation
 returns-then-count-nation c =
-    asked-unlisted _ _ _ _ c.is_well_shaped.ensures c.if-not-is_well_shaped.false-raw _ c.nation_count-count.ensures c.if-count-nation.true
+    asked-unlisted _ _ _ _ c.is_well_shaped-torn.ensures c.if-torn.false-raw _ c.nation_count-count.ensures c.if-count-nation.true
 
 pub returns : goal.returns
 returns c =
-    asked-listed _ _ _ _ c.is_well_shaped.ensures c.if-not-is_well_shaped.false-raw _ c.nation_count-count.ensures c.if-count-nation.false
+    asked-listed _ _ _ _ c.is_well_shaped-torn.ensures c.if-torn.false-raw _ c.nation_count-count.ensures c.if-count-nation.false
