@@ -79,7 +79,7 @@ impl Folder {
     ///
     /// # Panics
     ///
-    /// If the program is not there: `rt check page_main` makes it.
+    /// If the program is not there: `bash tools/build.sh` makes it.
     pub fn run(&self, selection: &[u8]) -> Output {
         let mut child = self.program().spawn().expect("the program page_main has been built");
         let mut input = child.stdin.take().expect("standard input is a pipe");
