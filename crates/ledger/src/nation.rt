@@ -64,7 +64,8 @@ fn asked_number(nations: &[u32], entries: &[u32], nation: usize) -> u32
     ensures { result ≡ asked_number nations.now entries.now nation }
 {
     let count = nation_count(nations);
-    let torn = !is_well_shaped(nations, entries);
+    let shaped = is_well_shaped(nations, entries);
+    let torn = !shaped;
     if torn {
         return 11;
     }
