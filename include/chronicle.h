@@ -5,7 +5,7 @@
  *
  *     cc -Iinclude main.c -Ltarget/staticlib -lpage
  *
- * with gcc or clang, -lpage behind what calls it; c++ likewise. Beside memset of the C library the archive needs __udivti3, the 128-bit
+ * with gcc or clang, -lpage behind what calls it; c++ likewise. Beside memset and memcpy of the C library the archive needs __udivti3, the 128-bit
  * division of the compiler's run-time library. Both drivers link that by themselves; a link without it (-nodefaultlibs, or ld alone)
  * takes -lgcc behind -lpage, or clang's builtins archive.
  *
