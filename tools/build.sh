@@ -4,8 +4,8 @@
 set -eu
 cd "$(dirname "$0")/.."
 mkdir -p target/staticlib target/bin
-(cd crates/page && rt lib)
-cp crates/page/out/libpage.a target/staticlib/
+(cd crates/page_c && rt lib)
+cp crates/page_c/out/libpage_c.a target/staticlib/libpage.a
 (cd crates/page_main && rt run < stdin > /dev/null)
 cp crates/page_main/out/page_main target/bin/
 echo "build: target/staticlib/libpage.a and target/bin/page_main"

@@ -1,4 +1,4 @@
-// The C functions of the ledger. A nation is asked for by its number, from 0, among the lent nation words.
+// What C calls of the ledger. A nation is asked for by its number, from 0, among the lent nation words.
 ghost use Rattle.std.specs.Prelude.{◌≡◌, min};
 ghost use Rattle.rules.specs.Outcomes.{call_nation_ledger, call_nation_ledger_rows, call_nation_ledgers};
 ghost use Rattle.ledger.specs.Cases.{ledger_cells};
@@ -9,8 +9,7 @@ use host_answers::{can_return, minus};
 
 // Writes a nation's ledger, three words each: tag, year and value in two's complement. Gives the number of rows, or minus the refusal
 // number: 13 for a number that is no nation's.
-#[unsafe(no_mangle)]
-pub extern "C" fn nation_ledger(
+pub fn nation_ledger(
     s: &[u8],
     nations: &[u32],
     entries: &[u32],
@@ -27,8 +26,7 @@ pub extern "C" fn nation_ledger(
 
 // How many rows `nation_ledger` has to write, or `most` if there are more; else minus the refusal number. A `most` above
 // 9223372036854775807 counts as that, so that the number can be returned.
-#[unsafe(no_mangle)]
-pub extern "C" fn nation_ledger_rows(
+pub fn nation_ledger_rows(
     s: &[u8],
     nations: &[u32],
     entries: &[u32],
@@ -45,8 +43,7 @@ pub extern "C" fn nation_ledger_rows(
 
 // Writes the ledgers of all nations, one behind the other, and into `counts` the number of rows of each. Gives the number of all rows, or
 // minus the refusal number: 10 where either slice is too short.
-#[unsafe(no_mangle)]
-pub extern "C" fn nation_ledgers(
+pub fn nation_ledgers(
     s: &[u8],
     nations: &[u32],
     entries: &[u32],

@@ -1,4 +1,4 @@
-// What the Rust host calls: C functions over slices. A slice is a pointer and then a length.
+// What the Rust host calls, over slices, with numbers for answers. Crate page_c exports these functions for C.
 #![tactic(auto)]
 
 mod booking;
@@ -13,22 +13,28 @@ ghost use Rattle.rules.specs.Outcomes.{call_province_owners};
 ghost use Rattle.nations.specs.Cases.{nation_cells};
 ghost use Rattle.host_answers.specs.Host.{Returns, call_events_on_cells, nation_slices, call_nation_events_cells};
 
+pub use booking::war_participants;
 use chronicle::{EventsOn, NationEvents, Owners};
 use host_answers::{has_counts, minus, put_counts, put_two, room_number};
+pub use ledgers::{nation_ledger, nation_ledger_rows, nation_ledgers};
 pub use pages::{CampaignFile, PRINTED_BYTES, Paged, Printed, print_page, write_page};
+pub use paging::page;
+pub use playing::{player_histories, players, starting_country};
 use record::Eu4Date;
+pub use resolving::{
+    resolver_initial, resolver_initial_at, resolver_resolve, resolver_resolve_at,
+    resolver_resolve_each,
+};
 
 // The record's refusal number, 0 when it is accepted.
-#[unsafe(no_mangle)]
-pub extern "C" fn check(s: &[u8]) -> i64
+pub fn check(s: &[u8]) -> i64
     ensures { result ≡ pos (refusal s.now) }
 {
     record::check(s) as i64
 }
 
 // Writes the owner changes, four words each. Gives their number, or minus the refusal number.
-#[unsafe(no_mangle)]
-pub extern "C" fn province_owners(s: &[u8], out: &mut [u32]) -> i64
+pub fn province_owners(s: &[u8], out: &mut [u32]) -> i64
     ensures { Returns (call_province_owners s.now out.old) result out.new }
 {
     match chronicle::province_owners(s, out) {
@@ -39,8 +45,7 @@ pub extern "C" fn province_owners(s: &[u8], out: &mut [u32]) -> i64
 
 // Writes where the changes of a date begin, and how many there are. Gives 2, or minus the refusal number: 12 for a word that is no
 // date, 10 where the slice has no two words.
-#[unsafe(no_mangle)]
-pub extern "C" fn events_on(s: &[u8], date: u32, out: &mut [u32]) -> i64
+pub fn events_on(s: &[u8], date: u32, out: &mut [u32]) -> i64
     ensures { Returns (call_events_on_cells s.now date out.old) result out.new }
 {
     // The word is tested by the call, behind the record.
@@ -53,8 +58,7 @@ pub extern "C" fn events_on(s: &[u8], date: u32, out: &mut [u32]) -> i64
 // Writes the listed nations, five words each, their entries, three words each, the holder of each slot and the slots held by each country
 // after the last change, the owner changes, four words each, and how many of each there are. Gives 5, the number of counts, or minus the
 // refusal number: 10 where any slice is too short.
-#[unsafe(no_mangle)]
-pub extern "C" fn nation_events(
+pub fn nation_events(
     s: &[u8],
     nations: &mut [u32],
     entries: &mut [u32],

@@ -1,4 +1,4 @@
-// The C function of the page.
+// What C calls of the page.
 ghost use Rattle.rules.specs.PageOutcomes.{call_page};
 ghost use Rattle.host_answers.specs.Host.{Returns};
 
@@ -7,8 +7,7 @@ use pages::Paged;
 
 // Writes the page of a record for a selection of stored tags, each followed by a line feed. Gives the number of bytes, or minus the
 // refusal number.
-#[unsafe(no_mangle)]
-pub extern "C" fn page(s: &[u8], selection: &[u8], out: &mut [u8]) -> i64
+pub fn page(s: &[u8], selection: &[u8], out: &mut [u8]) -> i64
     ensures { Returns (call_page s.now selection.now out.old) result out.new }
 {
     match pages::write_page(s, selection, out) {

@@ -1,4 +1,4 @@
-// The C functions of players, of their histories, and of the country that they started as.
+// What C calls of players, of their histories, and of the country that they started as.
 ghost use Rattle.rules.specs.PlayerOutcomes.{call_players};
 ghost use Rattle.histories.specs.Cases.{history_cells};
 ghost use Rattle.host_answers.specs.Host.{Returns};
@@ -8,8 +8,7 @@ use chronicle::{PlayerHistories, Players};
 use host_answers::{minus, put_starting};
 
 // Writes the players, two words each: the string number of the name, and the tag. Gives their number, or minus the refusal number.
-#[unsafe(no_mangle)]
-pub extern "C" fn players(s: &[u8], out: &mut [u32]) -> i64
+pub fn players(s: &[u8], out: &mut [u32]) -> i64
     ensures { Returns (call_players s.now out.old) result out.new }
 {
     match chronicle::players(s, out) {
@@ -20,8 +19,7 @@ pub extern "C" fn players(s: &[u8], out: &mut [u32]) -> i64
 
 // Writes the histories, seven words each, and the names that they point into, a word each. Gives the number of histories, or minus the
 // refusal number. There are as many names as the last row's first and count make together; without a row there are none.
-#[unsafe(no_mangle)]
-pub extern "C" fn player_histories(
+pub fn player_histories(
     s: &[u8],
     nations: &[u32],
     entries: &[u32],
@@ -38,13 +36,7 @@ pub extern "C" fn player_histories(
 
 // Writes the tag of the starting country, by lent history words, nation words and entry words, and gives 1; for none 0. Else minus the
 // refusal number: 10 only where there is a tag and no room for it.
-#[unsafe(no_mangle)]
-pub extern "C" fn starting_country(
-    histories: &[u32],
-    nations: &[u32],
-    entries: &[u32],
-    out: &mut [u32],
-) -> i64
+pub fn starting_country(histories: &[u32], nations: &[u32], entries: &[u32], out: &mut [u32]) -> i64
     ensures { Returns (call_starting_country_cells histories.now nations.now entries.now out.old) result out.new }
 {
     put_starting(

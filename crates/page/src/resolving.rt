@@ -1,4 +1,4 @@
-// The C functions of the resolver. A tag, a date and a day are words; each is lent nation words and entry words.
+// What C calls of the resolver. A tag, a date and a day are words; each is lent nation words and entry words.
 ghost use Rattle.rules.specs.Outcomes.{call_resolve, call_initial, call_resolve_on, call_initial_on};
 ghost use Rattle.rules.specs.Questions.{call_resolve_each};
 ghost use Rattle.host_answers.specs.Host.{Returns};
@@ -9,8 +9,7 @@ use host_answers::{minus, put_data};
 use record::{CountryTag, Eu4Date};
 
 // `resolve`.
-#[unsafe(no_mangle)]
-pub extern "C" fn resolver_resolve(
+pub fn resolver_resolve(
     nations: &[u32],
     entries: &[u32],
     tag: u32,
@@ -25,13 +24,7 @@ pub extern "C" fn resolver_resolve(
 }
 
 // `initial`.
-#[unsafe(no_mangle)]
-pub extern "C" fn resolver_initial(
-    nations: &[u32],
-    entries: &[u32],
-    tag: u32,
-    out: &mut [u32],
-) -> i64
+pub fn resolver_initial(nations: &[u32], entries: &[u32], tag: u32, out: &mut [u32]) -> i64
     ensures { Returns (data_cells (call_initial nations.now entries.now tag) out.old) result out.new }
 {
     let tag = CountryTag::kept(tag);
@@ -39,8 +32,7 @@ pub extern "C" fn resolver_initial(
 }
 
 // `resolve`, set to a day.
-#[unsafe(no_mangle)]
-pub extern "C" fn resolver_resolve_at(
+pub fn resolver_resolve_at(
     nations: &[u32],
     entries: &[u32],
     day: u32,
@@ -57,8 +49,7 @@ pub extern "C" fn resolver_resolve_at(
 }
 
 // `initial`, set to a day.
-#[unsafe(no_mangle)]
-pub extern "C" fn resolver_initial_at(
+pub fn resolver_initial_at(
     nations: &[u32],
     entries: &[u32],
     day: u32,
@@ -73,8 +64,7 @@ pub extern "C" fn resolver_initial_at(
 }
 
 // `resolve_each`: the number of rows, two words each, or minus the refusal number.
-#[unsafe(no_mangle)]
-pub extern "C" fn resolver_resolve_each(
+pub fn resolver_resolve_each(
     nations: &[u32],
     entries: &[u32],
     questions: &[u32],

@@ -1,0 +1,205 @@
+// libpage.a: the functions of crate page, exported for C. A slice is a pointer and then a length.
+#![tactic(auto)]
+
+ghost use Rattle.std.specs.Prelude.{min, pos, ◌≡◌};
+ghost use Rattle.format.specs.Refusal.{refusal};
+ghost use Rattle.histories.specs.Cases.{history_cells};
+ghost use Rattle.host_answers.specs.Host.{Returns, call_events_on_cells, call_nation_events_cells, most_returned, nation_slices, returned};
+ghost use Rattle.host_answers.specs.Playing.{call_player_histories_given, call_starting_country_cells};
+ghost use Rattle.host_answers.specs.Resolving.{data_cells};
+ghost use Rattle.ledger.specs.Cases.{ledger_cells};
+ghost use Rattle.nations.specs.Cases.{nation_cells};
+ghost use Rattle.rules.specs.Outcomes.{call_initial, call_initial_on, call_nation_ledger, call_nation_ledger_rows, call_nation_ledgers, call_province_owners, call_resolve, call_resolve_on, call_war_participants};
+ghost use Rattle.rules.specs.PageOutcomes.{call_page};
+ghost use Rattle.rules.specs.PlayerOutcomes.{call_players};
+ghost use Rattle.rules.specs.Questions.{call_resolve_each};
+
+#[unsafe(no_mangle)]
+pub extern "C" fn check(s: &[u8]) -> i64
+    ensures { result ≡ pos (refusal s.now) }
+{
+    page::check(s)
+}
+
+#[unsafe(no_mangle)]
+pub extern "C" fn province_owners(s: &[u8], out: &mut [u32]) -> i64
+    ensures { Returns (call_province_owners s.now out.old) result out.new }
+{
+    page::province_owners(s, out)
+}
+
+#[unsafe(no_mangle)]
+pub extern "C" fn events_on(s: &[u8], date: u32, out: &mut [u32]) -> i64
+    ensures { Returns (call_events_on_cells s.now date out.old) result out.new }
+{
+    page::events_on(s, date, out)
+}
+
+#[unsafe(no_mangle)]
+pub extern "C" fn nation_events(
+    s: &[u8],
+    nations: &mut [u32],
+    entries: &mut [u32],
+    holders: &mut [u32],
+    held: &mut [u32],
+    changes: &mut [u32],
+    counts: &mut [u32],
+) -> i64
+    ensures { Returns (call_nation_events_cells s.now (nation_slices (nation_cells nations.old entries.old holders.old held.old changes.old) counts.old)) result (nation_slices (nation_cells nations.new entries.new holders.new held.new changes.new) counts.new) }
+{
+    page::nation_events(s, nations, entries, holders, held, changes, counts)
+}
+
+#[unsafe(no_mangle)]
+pub extern "C" fn war_participants(
+    s: &[u8],
+    nations: &[u32],
+    entries: &[u32],
+    out: &mut [u32],
+) -> i64
+    ensures { Returns (call_war_participants s.now nations.now entries.now out.old) result out.new }
+{
+    page::war_participants(s, nations, entries, out)
+}
+
+#[unsafe(no_mangle)]
+pub extern "C" fn nation_ledger(
+    s: &[u8],
+    nations: &[u32],
+    entries: &[u32],
+    nation: usize,
+    out: &mut [u32],
+) -> i64
+    ensures { Returns (call_nation_ledger s.now nations.now entries.now nation out.old) result out.new }
+{
+    page::nation_ledger(s, nations, entries, nation, out)
+}
+
+#[unsafe(no_mangle)]
+pub extern "C" fn nation_ledger_rows(
+    s: &[u8],
+    nations: &[u32],
+    entries: &[u32],
+    nation: usize,
+    most: usize,
+) -> i64
+    ensures { result ≡ returned (call_nation_ledger_rows s.now nations.now entries.now nation (min most most_returned)) }
+{
+    page::nation_ledger_rows(s, nations, entries, nation, most)
+}
+
+#[unsafe(no_mangle)]
+pub extern "C" fn nation_ledgers(
+    s: &[u8],
+    nations: &[u32],
+    entries: &[u32],
+    out: &mut [u32],
+    counts: &mut [u64],
+) -> i64
+    ensures { Returns (call_nation_ledgers s.now nations.now entries.now (ledger_cells out.old counts.old)) result (ledger_cells out.new counts.new) }
+{
+    page::nation_ledgers(s, nations, entries, out, counts)
+}
+
+#[unsafe(no_mangle)]
+pub extern "C" fn page(s: &[u8], selection: &[u8], out: &mut [u8]) -> i64
+    ensures { Returns (call_page s.now selection.now out.old) result out.new }
+{
+    page::page(s, selection, out)
+}
+
+#[unsafe(no_mangle)]
+pub extern "C" fn players(s: &[u8], out: &mut [u32]) -> i64
+    ensures { Returns (call_players s.now out.old) result out.new }
+{
+    page::players(s, out)
+}
+
+#[unsafe(no_mangle)]
+pub extern "C" fn player_histories(
+    s: &[u8],
+    nations: &[u32],
+    entries: &[u32],
+    histories: &mut [u32],
+    names: &mut [u32],
+) -> i64
+    ensures { Returns (call_player_histories_given s.now nations.now entries.now (history_cells histories.old names.old)) result (history_cells histories.new names.new) }
+{
+    page::player_histories(s, nations, entries, histories, names)
+}
+
+#[unsafe(no_mangle)]
+pub extern "C" fn starting_country(
+    histories: &[u32],
+    nations: &[u32],
+    entries: &[u32],
+    out: &mut [u32],
+) -> i64
+    ensures { Returns (call_starting_country_cells histories.now nations.now entries.now out.old) result out.new }
+{
+    page::starting_country(histories, nations, entries, out)
+}
+
+#[unsafe(no_mangle)]
+pub extern "C" fn resolver_resolve(
+    nations: &[u32],
+    entries: &[u32],
+    tag: u32,
+    date: u32,
+    out: &mut [u32],
+) -> i64
+    ensures { Returns (data_cells (call_resolve nations.now entries.now tag date) out.old) result out.new }
+{
+    page::resolver_resolve(nations, entries, tag, date, out)
+}
+
+#[unsafe(no_mangle)]
+pub extern "C" fn resolver_initial(
+    nations: &[u32],
+    entries: &[u32],
+    tag: u32,
+    out: &mut [u32],
+) -> i64
+    ensures { Returns (data_cells (call_initial nations.now entries.now tag) out.old) result out.new }
+{
+    page::resolver_initial(nations, entries, tag, out)
+}
+
+#[unsafe(no_mangle)]
+pub extern "C" fn resolver_resolve_at(
+    nations: &[u32],
+    entries: &[u32],
+    day: u32,
+    tag: u32,
+    date: u32,
+    out: &mut [u32],
+) -> i64
+    ensures { Returns (data_cells (call_resolve_on nations.now entries.now day tag date) out.old) result out.new }
+{
+    page::resolver_resolve_at(nations, entries, day, tag, date, out)
+}
+
+#[unsafe(no_mangle)]
+pub extern "C" fn resolver_initial_at(
+    nations: &[u32],
+    entries: &[u32],
+    day: u32,
+    tag: u32,
+    out: &mut [u32],
+) -> i64
+    ensures { Returns (data_cells (call_initial_on nations.now entries.now day tag) out.old) result out.new }
+{
+    page::resolver_initial_at(nations, entries, day, tag, out)
+}
+
+#[unsafe(no_mangle)]
+pub extern "C" fn resolver_resolve_each(
+    nations: &[u32],
+    entries: &[u32],
+    questions: &[u32],
+    out: &mut [u32],
+) -> i64
+    ensures { Returns (call_resolve_each nations.now entries.now questions.now out.old) result out.new }
+{
+    page::resolver_resolve_each(nations, entries, questions, out)
+}
