@@ -12,7 +12,28 @@ use Rattle.rules.specs.HistoryRows.{history_rows_in}
 use Rattle.arranging.specs.Cases.{history_cells}
 use Rattle.arranging.specs.Arranging.{has_names, kept_of}
 use Rattle.arranging.proofs.ArrangeLaws.{popped-some, kept_less, total-few, arranged-short, arranged-rows}
+use Rattle.arranging.proofs.answers.put_drafts.Goals.{After-count_names-total, After-kept_of, Else-histories-n}
 use Rattle.arranging.proofs.answers.put_drafts.Goals as goal
+
+-- There are few of each kind.
+few : (c : After-kept_of) → (c.count_drafts-played.result ≤ 2000) × (c.kept_of.result ≤ 2000)
+few c = let ds = history_rows_in c.args.drafts.now in
+    let idle = kept_less c.is_popped-popped.result _ _ c.kept_of.ensures in (
+      omega (arith, keep-short (has_names true) ds, c.requires.few, c.count_drafts-played.ensures),
+      omega (arith, idle, keep-short (has_names false) ds, c.requires.few, c.count_drafts-idle.ensures),
+    )
+
+-- And few names.
+total : (c : After-count_names-total) → c.count_names-total.result ≤ 2000000
+total c = omega (arith, total-few c.args.keys.now (history_rows_in c.args.drafts.now) c.requires, c.count_names-total.ensures)
+
+-- What was tested.
+roomy : (c : Else-histories-n) → (7 * (c.count_drafts-played.result + c.kept_of.result) ≤ length c.args.histories.now) × (c.count_names-total.result ≤ length c.args.names.now)
+roomy c = let n = 7 * (c.count_drafts-played.result + c.kept_of.result) in
+    let rows = length c.args.histories.now in
+    let names = length c.args.names.now in
+    let t = neither (ltb rows n) (ltb names c.count_names-total.result) c.if-histories-n.false in
+    (ltb-false rows n t.0, ltb-false names c.count_names-total.result t.1)
 
 sub-left : (a b : ℕ) → a + b - a ≡ b
 sub-left a b = omega arith
@@ -32,24 +53,14 @@ kept_of-requires c =
 
 pub overflow_add-n : goal.overflow_add-n
 overflow_add-n c =
-    let few : (c.count_drafts-played.result ≤ 2000) × (c.kept_of.result ≤ 2000) = let ds = history_rows_in c.args.drafts.now in
-    let idle = kept_less c.is_popped-popped.result _ _ c.kept_of.ensures in (
-      omega (arith, keep-short (has_names true) ds, c.requires.few, c.count_drafts-played.ensures),
-      omega (arith, idle, keep-short (has_names false) ds, c.requires.few, c.count_drafts-idle.ensures),
-    ) in
-    omega (arith, few.0, few.1)
+    omega (arith, (few (goal.at.overflow_add-n c).After-kept_of).0, (few (goal.at.overflow_add-n c).After-kept_of).1)
 
 pub count_names-total-requires : goal.count_names-total-requires
 count_names-total-requires c = c.requires.few
 
 pub overflow_mul-n : goal.overflow_mul-n
 overflow_mul-n c =
-    let few : (c.count_drafts-played.result ≤ 2000) × (c.kept_of.result ≤ 2000) = let ds = history_rows_in c.args.drafts.now in
-    let idle = kept_less c.is_popped-popped.result _ _ c.kept_of.ensures in (
-      omega (arith, keep-short (has_names true) ds, c.requires.few, c.count_drafts-played.ensures),
-      omega (arith, idle, keep-short (has_names false) ds, c.requires.few, c.count_drafts-idle.ensures),
-    ) in
-    omega (arith, few.0, few.1)
+    omega (arith, (few (goal.at.overflow_mul-n c).After-kept_of).0, (few (goal.at.overflow_mul-n c).After-kept_of).1)
 
 pub returns-then-histories-n : goal.returns-then-histories-n
 returns-then-histories-n c =
@@ -59,41 +70,24 @@ returns-then-histories-n c =
 
 pub overflow_cast-total : goal.overflow_cast-total
 overflow_cast-total c =
-    let total : c.count_names-total.result ≤ 2000000 = omega (arith, total-few c.args.keys.now (history_rows_in c.args.drafts.now) c.requires, c.count_names-total.ensures) in
-    omega (arith, total)
+    omega (arith, total (goal.at.overflow_cast-total c).After-count_names-total)
 
 pub write_histories-requires : goal.write_histories-requires
 write_histories-requires c =
-    let few : (c.count_drafts-played.result ≤ 2000) × (c.kept_of.result ≤ 2000) = let ds = history_rows_in c.args.drafts.now in
-    let idle = kept_less c.is_popped-popped.result _ _ c.kept_of.ensures in (
-      omega (arith, keep-short (has_names true) ds, c.requires.few, c.count_drafts-played.ensures),
-      omega (arith, idle, keep-short (has_names false) ds, c.requires.few, c.count_drafts-idle.ensures),
-    ) in
     let left : c.kept_of.result ≡ kept_of c.is_popped-popped.result (history_rows_in c.args.drafts.now) = c.kept_of.ensures ∙ ap (λ (n : ℕ). cond c.is_popped-popped.result (n - 1) n) c.count_drafts-idle.ensures in
-    let roomy : (7 * (c.count_drafts-played.result + c.kept_of.result) ≤ length c.args.histories.now) × (c.count_names-total.result ≤ length c.args.names.now) = let n = 7 * (c.count_drafts-played.result + c.kept_of.result) in
-    let rows = length c.args.histories.now in
-    let names = length c.args.names.now in
-    let t = neither (ltb rows n) (ltb names c.count_names-total.result) c.if-histories-n.false in
-    (ltb-false rows n t.0, ltb-false names c.count_names-total.result t.1) in
-    let total : c.count_names-total.result ≤ 2000000 = omega (arith, total-few c.args.keys.now (history_rows_in c.args.drafts.now) c.requires, c.count_names-total.ensures) in
     record {
       counted = c.count_drafts-played.ensures;
       left = sub-left _ _ ∙ left;
       named = c.count_names-total.ensures;
-      few = omega (arith, total);
-      many = (few.0, omega (arith, few.1));
+      few = omega (arith, total (goal.at.write_histories-requires c).After-count_names-total);
+      many = ((few (goal.at.write_histories-requires c).After-kept_of).0, omega (arith, (few (goal.at.write_histories-requires c).After-kept_of).1));
       sole = λ h. omega (arith, (popped-some c.args.ironman (history_rows_in c.args.drafts.now) (sym c.is_popped-popped.ensures ∙ h)).0, c.count_drafts-played.ensures);
-      room = omega (arith, roomy.0);
+      room = omega (arith, (roomy (goal.at.write_histories-requires c).Else-histories-n).0);
     }
 
 pub write_names-requires : goal.write_names-requires
 write_names-requires c =
-    let roomy : (7 * (c.count_drafts-played.result + c.kept_of.result) ≤ length c.args.histories.now) × (c.count_names-total.result ≤ length c.args.names.now) = let n = 7 * (c.count_drafts-played.result + c.kept_of.result) in
-    let rows = length c.args.histories.now in
-    let names = length c.args.names.now in
-    let t = neither (ltb rows n) (ltb names c.count_names-total.result) c.if-histories-n.false in
-    (ltb-false rows n t.0, ltb-false names c.count_names-total.result t.1) in
-    record { few = c.requires.few; short = c.requires.short; inside = c.requires.inside; room = omega (arith, roomy.1, c.count_names-total.ensures) }
+    record { few = c.requires.few; short = c.requires.short; inside = c.requires.inside; room = omega (arith, (roomy (goal.at.write_names-requires c).Else-histories-n).1, c.count_names-total.ensures) }
 
 pub returns : goal.returns
 returns c =

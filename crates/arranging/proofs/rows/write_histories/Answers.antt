@@ -9,16 +9,20 @@ use Rattle.rules.specs.Lent.{written}
 use Rattle.rules.specs.HistoryRows.{HistoryRow, history_rows_in}
 use Rattle.arranging.specs.Arranging.{has_names, kept_words, draft_words}
 use Rattle.arranging.proofs.ArrangeLaws.{length-written, sum-part, sum-idle, length-drafted, kept-written, kept-long, drafted-plain, drafted-popped}
+use Rattle.arranging.proofs.rows.write_histories.Goals.{After-write_kind-2}
 use Rattle.arranging.proofs.rows.write_histories.Goals as goal
+
+-- Both passes have written.
+wholly : (c : After-write_kind-2) → take (7 * c.args.played) c.write_kind.new.out ++ (c.write_kind-2.new.out ++ drop (length c.write_kind.new.out - 7 * c.args.played) (drop (7 * c.args.played) c.write_kind.new.out)) ≡ written (kept_words (history_rows_in c.args.rows.now) c.args.kept) c.args.out.now
+wholly c = kept-written (history_rows_in c.args.rows.now) c.args.popped c.args.played c.args.kept c.requires.counted c.requires.left c.args.names c.args.out.now _ _ c.requires.named c.requires.room
+    c.write_kind.ensures c.write_kind-2.ensures
 
 -- And the first history has taken an initial.
 pub returns-then-popped : goal.returns-then-popped
 returns-then-popped c =
-    let wholly : take (7 * c.args.played) c.write_kind.new.out ++ (c.write_kind-2.new.out ++ drop (length c.write_kind.new.out - 7 * c.args.played) (drop (7 * c.args.played) c.write_kind.new.out)) ≡ written (kept_words (history_rows_in c.args.rows.now) c.args.kept) c.args.out.now = kept-written (history_rows_in c.args.rows.now) c.args.popped c.args.played c.args.kept c.requires.counted c.requires.left c.args.names c.args.out.now _ _ c.requires.named c.requires.room
-    c.write_kind.ensures c.write_kind-2.ensures in
     let e = c.if-popped.true in
     drafted-popped (history_rows_in c.args.rows.now) c.args.popped _ _ c.requires.counted c.requires.left e (c.requires.sole e) _ _ _
-    (c.word.ensures ∙ ap (λ (d : HistoryRow). d.initial.0) c.last_draft-last.ensures) wholly
+    (c.word.ensures ∙ ap (λ (d : HistoryRow). d.initial.0) c.last_draft-last.ensures) (wholly (goal.at.returns-then-popped c).After-write_kind-2)
 
 pub write_kind-requires : goal.write_kind-requires
 write_kind-requires c =
@@ -58,9 +62,7 @@ write_kind-requires-2 c =
 
 pub bounds-out-0 : goal.bounds-out-0
 bounds-out-0 c =
-    let wholly : take (7 * c.args.played) c.write_kind.new.out ++ (c.write_kind-2.new.out ++ drop (length c.write_kind.new.out - 7 * c.args.played) (drop (7 * c.args.played) c.write_kind.new.out)) ≡ written (kept_words (history_rows_in c.args.rows.now) c.args.kept) c.args.out.now = kept-written (history_rows_in c.args.rows.now) c.args.popped c.args.played c.args.kept c.requires.counted c.requires.left c.args.names c.args.out.now _ _ c.requires.named c.requires.room
-    c.write_kind.ensures c.write_kind-2.ensures in
-    omega (arith, ap length wholly, kept-long (history_rows_in c.args.rows.now) c.args.popped _ _ c.requires.counted c.requires.left (c.requires.sole c.if-popped.true) c.args.out.now)
+    omega (arith, ap length (wholly (goal.at.bounds-out-0 c).After-write_kind-2), kept-long (history_rows_in c.args.rows.now) c.args.popped _ _ c.requires.counted c.requires.left (c.requires.sole c.if-popped.true) c.args.out.now)
 
 pub shape_of-out-then-popped : goal.shape_of-out-then-popped
 shape_of-out-then-popped c =
@@ -68,6 +70,4 @@ shape_of-out-then-popped c =
 
 pub returns-else-popped : goal.returns-else-popped
 returns-else-popped c =
-    let wholly : take (7 * c.args.played) c.write_kind.new.out ++ (c.write_kind-2.new.out ++ drop (length c.write_kind.new.out - 7 * c.args.played) (drop (7 * c.args.played) c.write_kind.new.out)) ≡ written (kept_words (history_rows_in c.args.rows.now) c.args.kept) c.args.out.now = kept-written (history_rows_in c.args.rows.now) c.args.popped c.args.played c.args.kept c.requires.counted c.requires.left c.args.names c.args.out.now _ _ c.requires.named c.requires.room
-    c.write_kind.ensures c.write_kind-2.ensures in
-    drafted-plain (history_rows_in c.args.rows.now) c.args.popped _ _ c.requires.counted c.requires.left c.if-popped.false _ _ wholly
+    drafted-plain (history_rows_in c.args.rows.now) c.args.popped _ _ c.requires.counted c.requires.left c.if-popped.false _ _ (wholly (goal.at.returns-else-popped c).After-write_kind-2)

@@ -8,7 +8,12 @@ use Rattle.format.proofs.CampaignLaws.{told-row, told-end}
 use Rattle.rules.specs.HistoryRows.{history_rows_in}
 use Rattle.history_rows.specs.Cases.{history_told}
 use Rattle.arranging.specs.Arranging.{has_names, draft_told}
+use Rattle.arranging.proofs.walk.count_drafts.Goals.{In-Row}
 use Rattle.arranging.proofs.walk.count_drafts.Goals as goal
+
+-- The draft that was told is the first of those left.
+more : (c : In-Row) → keep (has_names c.args.named) (drop c.loop-rest.at (history_rows_in c.args.rows.now)) ≡ history_told c.in-Row.field-0 ∷ keep (has_names c.args.named) (drop c.in-Row.rest (history_rows_in c.args.rows.now))
+more c = told-row (draft_told _ _) c.next_draft.ensures c.in-Row.is refl
 
 pub overflow_add-n : goal.overflow_add-n
 overflow_add-n c =
@@ -16,13 +21,11 @@ overflow_add-n c =
 
 pub loop-rest-smaller : goal.loop-rest-smaller
 loop-rest-smaller c =
-    let more : keep (has_names c.args.named) (drop c.loop-rest.at (history_rows_in c.args.rows.now)) ≡ history_told c.in-Row.field-0 ∷ keep (has_names c.args.named) (drop c.in-Row.rest (history_rows_in c.args.rows.now)) = told-row (draft_told _ _) c.next_draft.ensures c.in-Row.is refl in
-    omega (arith, ap length more)
+    omega (arith, ap length (more (goal.at.loop-rest-smaller c).In-Row))
 
 pub loop-rest-preserved : goal.loop-rest-preserved
 loop-rest-preserved c =
-    let more : keep (has_names c.args.named) (drop c.loop-rest.at (history_rows_in c.args.rows.now)) ≡ history_told c.in-Row.field-0 ∷ keep (has_names c.args.named) (drop c.in-Row.rest (history_rows_in c.args.rows.now)) = told-row (draft_told _ _) c.next_draft.ensures c.in-Row.is refl in
-    omega (arith, ap length more, c.loop-rest.invariant)
+    omega (arith, ap length (more (goal.at.loop-rest-preserved c).In-Row), c.loop-rest.invariant)
 
 pub returns-in-End : goal.returns-in-End
 returns-in-End c =

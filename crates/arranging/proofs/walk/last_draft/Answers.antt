@@ -8,7 +8,12 @@ use Rattle.rules.specs.HistoryRows.{HistoryRow, history_rows_in}
 use Rattle.history_rows.specs.Cases.{history_told}
 use Rattle.history_rows.proofs.HistoryLaws.{histories-count, history-past}
 use Rattle.arranging.specs.Arranging.{has_names, draft_told}
+use Rattle.arranging.proofs.walk.last_draft.Goals.{In-Row}
 use Rattle.arranging.proofs.walk.last_draft.Goals as goal
+
+-- The draft that was told is the first of those left.
+more : (c : In-Row) → keep (has_names c.args.named) (drop c.loop-row.at (history_rows_in c.args.rows.now)) ≡ history_told c.in-Row.row ∷ keep (has_names c.args.named) (drop c.in-Row.rest (history_rows_in c.args.rows.now))
+more c = told-row (draft_told _ _) c.next_draft.ensures c.in-Row.is refl
 
 pub loop-row-init : goal.loop-row-init
 loop-row-init c =
@@ -18,13 +23,11 @@ loop-row-init c =
 
 pub loop-row-smaller : goal.loop-row-smaller
 loop-row-smaller c =
-    let more : keep (has_names c.args.named) (drop c.loop-row.at (history_rows_in c.args.rows.now)) ≡ history_told c.in-Row.row ∷ keep (has_names c.args.named) (drop c.in-Row.rest (history_rows_in c.args.rows.now)) = told-row (draft_told _ _) c.next_draft.ensures c.in-Row.is refl in
-    omega (arith, ap length more)
+    omega (arith, ap length (more (goal.at.loop-row-smaller c).In-Row))
 
 pub loop-row-preserved : goal.loop-row-preserved
 loop-row-preserved c =
-    let more : keep (has_names c.args.named) (drop c.loop-row.at (history_rows_in c.args.rows.now)) ≡ history_told c.in-Row.row ∷ keep (has_names c.args.named) (drop c.in-Row.rest (history_rows_in c.args.rows.now)) = told-row (draft_told _ _) c.next_draft.ensures c.in-Row.is refl in
-    sym (ap (last_or (history_told c.loop-row.last)) more) ∙ c.loop-row.invariant
+    sym (ap (last_or (history_told c.loop-row.last)) (more (goal.at.loop-row-preserved c).In-Row)) ∙ c.loop-row.invariant
 
 pub returns-in-End : goal.returns-in-End
 returns-in-End c =

@@ -5,7 +5,12 @@ use lib.ListN.{length}
 use Rattle.bookings.specs.Walking.{joining_of, joinings_left}
 use Rattle.bookings.proofs.JoiningLaws.{joining-row, joining-few, joining-end}
 use Rattle.bookings.proofs.BookingPassLaws.{passing-start, passing-room, passing-next, passing-end}
+use Rattle.bookings.proofs.passes.finish_bookings.Goals.{In-Row}
 use Rattle.bookings.proofs.passes.finish_bookings.Goals as goal
+
+-- The joining that was told is the first of those left.
+more : (c : In-Row) → joinings_left c.args.s.now c.loop-x.walk ≡ joining_of c.in-Row.x ∷ joinings_left c.args.s.now c.in-Row.rest
+more c = joining-row c.next_joining.ensures c.in-Row.is
 
 pub loop-x-init : goal.loop-x-init
 loop-x-init c =
@@ -16,25 +21,21 @@ next_joining-requires c = c.loop-x.invariant.0
 
 pub finish_row-requires : goal.finish_row-requires
 finish_row-requires c =
-    let more : joinings_left c.args.s.now c.loop-x.walk ≡ joining_of c.in-Row.x ∷ joinings_left c.args.s.now c.in-Row.rest = joining-row c.next_joining.ensures c.in-Row.is in
-    passing-room _ _ _ c.loop-x.invariant.1 more
+    passing-room _ _ _ c.loop-x.invariant.1 (more (goal.at.finish_row-requires c).In-Row)
 
 pub overflow_add-k : goal.overflow_add-k
 overflow_add-k c =
-    let more : joinings_left c.args.s.now c.loop-x.walk ≡ joining_of c.in-Row.x ∷ joinings_left c.args.s.now c.in-Row.rest = joining-row c.next_joining.ensures c.in-Row.is in
-    omega (arith, passing-room _ _ _ c.loop-x.invariant.1 more, c.loop-x.invariant.1.long, c.well_formed.1.1.1.0.0)
+    omega (arith, passing-room _ _ _ c.loop-x.invariant.1 (more (goal.at.overflow_add-k c).In-Row), c.loop-x.invariant.1.long, c.well_formed.1.1.1.0.0)
 
 pub loop-x-smaller : goal.loop-x-smaller
 loop-x-smaller c =
-    let more : joinings_left c.args.s.now c.loop-x.walk ≡ joining_of c.in-Row.x ∷ joinings_left c.args.s.now c.in-Row.rest = joining-row c.next_joining.ensures c.in-Row.is in
-    omega (arith, ap length more)
+    omega (arith, ap length (more (goal.at.loop-x-smaller c).In-Row))
 
 pub loop-x-preserved : goal.loop-x-preserved
-loop-x-preserved c =
-    let more : joinings_left c.args.s.now c.loop-x.walk ≡ joining_of c.in-Row.x ∷ joinings_left c.args.s.now c.in-Row.rest = joining-row c.next_joining.ensures c.in-Row.is in (
-      joining-few c.next_joining.ensures c.in-Row.is,
-      passing-next _ _ _ c.loop-x.invariant.1 (λ j r. refl) more _ c.finish_row.ensures,
-    )
+loop-x-preserved c = (
+  joining-few c.next_joining.ensures c.in-Row.is,
+  passing-next _ _ _ c.loop-x.invariant.1 (λ j r. refl) (more (goal.at.loop-x-preserved c).In-Row) _ c.finish_row.ensures,
+)
 
 pub shape_of-out-in-End : goal.shape_of-out-in-End
 shape_of-out-in-End c = c.loop-x.invariant.1.long

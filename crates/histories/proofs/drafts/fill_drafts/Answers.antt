@@ -11,7 +11,20 @@ use Rattle.rules.specs.HistoryRows.{HistoryRow, history_row_words}
 use Rattle.histories.specs.Tables.{tags_left}
 use Rattle.histories.specs.Drafts.{played_left, played_told, draft_for}
 use Rattle.history_rows.proofs.PutLaws.{length-rows, row_room, row_more}
+use Rattle.histories.proofs.drafts.fill_drafts.Goals.{In-Row}
 use Rattle.histories.proofs.drafts.fill_drafts.Goals as goal
+
+-- The draft of each country.
+abbrev draft_of-loop : (c : In-Row) → Country → HistoryRow
+draft_of-loop c = draft_for c.args.nations.now (tags_left c.args.s.now c.args.countries) c.args.cells.now c.args.keys.now
+
+-- The country that was told is the first of those left.
+more : (c : In-Row) → played_left c.args.s.now c.loop-row.at ≡ country_of c.args.s.now c.in-Row.row ∷ played_left c.args.s.now c.in-Row.rest
+more c = told-row (played_told _) c.next_played.ensures c.in-Row.is refl
+
+-- So is its draft.
+row : (c : In-Row) → join_of history_row_words (map (draft_of-loop c) (played_left c.args.s.now c.loop-row.at)) ≡ history_row_words ((draft_of-loop c) (country_of c.args.s.now c.in-Row.row)) ++ join_of history_row_words (map (draft_of-loop c) (played_left c.args.s.now c.in-Row.rest))
+row c = ap (λ (ks : List Country). join_of history_row_words (map (draft_of-loop c) ks)) (more c)
 
 pub loop-row-init : goal.loop-row-init
 loop-row-init c =
@@ -22,58 +35,36 @@ draft_for-draft-requires c = (c.requires.ordered, c.requires.short)
 
 pub overflow_mul-n : goal.overflow_mul-n
 overflow_mul-n c =
-    let draft_of-loop : Country → HistoryRow = draft_for c.args.nations.now (tags_left c.args.s.now c.args.countries) c.args.cells.now c.args.keys.now in
-    let more : played_left c.args.s.now c.loop-row.at ≡ country_of c.args.s.now c.in-Row.row ∷ played_left c.args.s.now c.in-Row.rest = told-row (played_told _) c.next_played.ensures c.in-Row.is refl in
-    let row : join_of history_row_words (map draft_of-loop (played_left c.args.s.now c.loop-row.at)) ≡ history_row_words (draft_of-loop (country_of c.args.s.now c.in-Row.row)) ++ join_of history_row_words (map draft_of-loop (played_left c.args.s.now c.in-Row.rest)) = ap (λ (ks : List Country). join_of history_row_words (map draft_of-loop ks)) more in
-    omega (arith, row_room _ _ _ _ _ [] _ _ c.loop-row.invariant row, c.loop-row.invariant.long, c.requires.small)
+    omega (arith, row_room _ _ _ _ _ [] _ _ c.loop-row.invariant (row (goal.at.overflow_mul-n c).In-Row), c.loop-row.invariant.long, c.requires.small)
 
 pub offset_bounds-out-n : goal.offset_bounds-out-n
 offset_bounds-out-n c =
-    let draft_of-loop : Country → HistoryRow = draft_for c.args.nations.now (tags_left c.args.s.now c.args.countries) c.args.cells.now c.args.keys.now in
-    let more : played_left c.args.s.now c.loop-row.at ≡ country_of c.args.s.now c.in-Row.row ∷ played_left c.args.s.now c.in-Row.rest = told-row (played_told _) c.next_played.ensures c.in-Row.is refl in
-    let row : join_of history_row_words (map draft_of-loop (played_left c.args.s.now c.loop-row.at)) ≡ history_row_words (draft_of-loop (country_of c.args.s.now c.in-Row.row)) ++ join_of history_row_words (map draft_of-loop (played_left c.args.s.now c.in-Row.rest)) = ap (λ (ks : List Country). join_of history_row_words (map draft_of-loop ks)) more in
-    omega (arith, row_room _ _ _ _ _ [] _ _ c.loop-row.invariant row, c.loop-row.invariant.long, c.requires.small)
+    omega (arith, row_room _ _ _ _ _ [] _ _ c.loop-row.invariant (row (goal.at.offset_bounds-out-n c).In-Row), c.loop-row.invariant.long, c.requires.small)
 
 pub slice_bounds-put_history-count : goal.slice_bounds-put_history-count
 slice_bounds-put_history-count c =
-    let draft_of-loop : Country → HistoryRow = draft_for c.args.nations.now (tags_left c.args.s.now c.args.countries) c.args.cells.now c.args.keys.now in
-    let more : played_left c.args.s.now c.loop-row.at ≡ country_of c.args.s.now c.in-Row.row ∷ played_left c.args.s.now c.in-Row.rest = told-row (played_told _) c.next_played.ensures c.in-Row.is refl in
-    let row : join_of history_row_words (map draft_of-loop (played_left c.args.s.now c.loop-row.at)) ≡ history_row_words (draft_of-loop (country_of c.args.s.now c.in-Row.row)) ++ join_of history_row_words (map draft_of-loop (played_left c.args.s.now c.in-Row.rest)) = ap (λ (ks : List Country). join_of history_row_words (map draft_of-loop ks)) more in
-    omega (arith, row_room _ _ _ _ _ [] _ _ c.loop-row.invariant row)
+    omega (arith, row_room _ _ _ _ _ [] _ _ c.loop-row.invariant (row (goal.at.slice_bounds-put_history-count c).In-Row))
 
 pub slice_bounds-put_history-start : goal.slice_bounds-put_history-start
 slice_bounds-put_history-start c =
-    let draft_of-loop : Country → HistoryRow = draft_for c.args.nations.now (tags_left c.args.s.now c.args.countries) c.args.cells.now c.args.keys.now in
-    let more : played_left c.args.s.now c.loop-row.at ≡ country_of c.args.s.now c.in-Row.row ∷ played_left c.args.s.now c.in-Row.rest = told-row (played_told _) c.next_played.ensures c.in-Row.is refl in
-    let row : join_of history_row_words (map draft_of-loop (played_left c.args.s.now c.loop-row.at)) ≡ history_row_words (draft_of-loop (country_of c.args.s.now c.in-Row.row)) ++ join_of history_row_words (map draft_of-loop (played_left c.args.s.now c.in-Row.rest)) = ap (λ (ks : List Country). join_of history_row_words (map draft_of-loop ks)) more in
-    omega (arith, row_room _ _ _ _ _ [] _ _ c.loop-row.invariant row)
+    omega (arith, row_room _ _ _ _ _ [] _ _ c.loop-row.invariant (row (goal.at.slice_bounds-put_history-start c).In-Row))
 
 pub slice_bounds-put_history-end : goal.slice_bounds-put_history-end
 slice_bounds-put_history-end c =
-    let draft_of-loop : Country → HistoryRow = draft_for c.args.nations.now (tags_left c.args.s.now c.args.countries) c.args.cells.now c.args.keys.now in
-    let more : played_left c.args.s.now c.loop-row.at ≡ country_of c.args.s.now c.in-Row.row ∷ played_left c.args.s.now c.in-Row.rest = told-row (played_told _) c.next_played.ensures c.in-Row.is refl in
-    let row : join_of history_row_words (map draft_of-loop (played_left c.args.s.now c.loop-row.at)) ≡ history_row_words (draft_of-loop (country_of c.args.s.now c.in-Row.row)) ++ join_of history_row_words (map draft_of-loop (played_left c.args.s.now c.in-Row.rest)) = ap (λ (ks : List Country). join_of history_row_words (map draft_of-loop ks)) more in
-    omega (arith, row_room _ _ _ _ _ [] _ _ c.loop-row.invariant row)
+    omega (arith, row_room _ _ _ _ _ [] _ _ c.loop-row.invariant (row (goal.at.slice_bounds-put_history-end c).In-Row))
 
 pub overflow_add-n : goal.overflow_add-n
 overflow_add-n c =
-    let draft_of-loop : Country → HistoryRow = draft_for c.args.nations.now (tags_left c.args.s.now c.args.countries) c.args.cells.now c.args.keys.now in
-    let more : played_left c.args.s.now c.loop-row.at ≡ country_of c.args.s.now c.in-Row.row ∷ played_left c.args.s.now c.in-Row.rest = told-row (played_told _) c.next_played.ensures c.in-Row.is refl in
-    let row : join_of history_row_words (map draft_of-loop (played_left c.args.s.now c.loop-row.at)) ≡ history_row_words (draft_of-loop (country_of c.args.s.now c.in-Row.row)) ++ join_of history_row_words (map draft_of-loop (played_left c.args.s.now c.in-Row.rest)) = ap (λ (ks : List Country). join_of history_row_words (map draft_of-loop ks)) more in
-    omega (arith, row_room _ _ _ _ _ [] _ _ c.loop-row.invariant row, c.loop-row.invariant.long, c.requires.small)
+    omega (arith, row_room _ _ _ _ _ [] _ _ c.loop-row.invariant (row (goal.at.overflow_add-n c).In-Row), c.loop-row.invariant.long, c.requires.small)
 
 pub loop-row-smaller : goal.loop-row-smaller
 loop-row-smaller c =
-    let more : played_left c.args.s.now c.loop-row.at ≡ country_of c.args.s.now c.in-Row.row ∷ played_left c.args.s.now c.in-Row.rest = told-row (played_told _) c.next_played.ensures c.in-Row.is refl in
-    omega (arith, ap length more)
+    omega (arith, ap length (more (goal.at.loop-row-smaller c).In-Row))
 
 pub loop-row-preserved : goal.loop-row-preserved
 loop-row-preserved c =
-    let draft_of-loop : Country → HistoryRow = draft_for c.args.nations.now (tags_left c.args.s.now c.args.countries) c.args.cells.now c.args.keys.now in
-    let more : played_left c.args.s.now c.loop-row.at ≡ country_of c.args.s.now c.in-Row.row ∷ played_left c.args.s.now c.in-Row.rest = told-row (played_told _) c.next_played.ensures c.in-Row.is refl in
-    let row : join_of history_row_words (map draft_of-loop (played_left c.args.s.now c.loop-row.at)) ≡ history_row_words (draft_of-loop (country_of c.args.s.now c.in-Row.row)) ++ join_of history_row_words (map draft_of-loop (played_left c.args.s.now c.in-Row.rest)) = ap (λ (ks : List Country). join_of history_row_words (map draft_of-loop ks)) more in
     let d = c.draft_for-draft.ensures c.args.s.now (tags_left c.args.s.now c.args.countries) c.requires.few c.requires.indexed in
-    row_more _ _ _ _ _ c.put_history.new.out _ _ c.loop-row.invariant row _ d c.put_history.ensures
+    row_more _ _ _ _ _ c.put_history.new.out _ _ c.loop-row.invariant (row (goal.at.loop-row-preserved c).In-Row) _ d c.put_history.ensures
 
 pub shape_of-out-in-End : goal.shape_of-out-in-End
 shape_of-out-in-End c = c.loop-row.invariant.long

@@ -11,7 +11,17 @@ use Rattle.search.specs.Places.{tag_key, tag_keys_from}
 use Rattle.histories.specs.Tables.{tags_left}
 use Rattle.histories.proofs.PlayerKeyLaws.{tag-key-small}
 use Rattle.search.proofs.PlaceLaws.{length-tag-keys}
+use Rattle.histories.proofs.tables.fill_countries.Goals.{In-Row}
 use Rattle.histories.proofs.tables.fill_countries.Goals as goal
+
+-- The country that was told is the first of those left.
+more : (c : In-Row) → countries_left c.args.s.now c.loop-row.at ≡ country_of c.args.s.now c.in-Row.row ∷ countries_left c.args.s.now c.in-Row.rest
+more c = told-row (country_told _) c.next.ensures c.in-Row.is refl
+
+-- So is its key.
+key : (c : In-Row) → tag_keys_from c.loop-row.n (tags_left c.args.s.now c.loop-row.at) ≡ tag_key c.in-Row.row.tag c.loop-row.n ∷ tag_keys_from (c.loop-row.n + 1) (tags_left c.args.s.now c.in-Row.rest)
+unfolding tag_keys_from
+key c = ap (λ (ks : List Country). tag_keys_from c.loop-row.n (map (λ k. k.tag) ks)) (more c)
 
 pub loop-row-init : goal.loop-row-init
 loop-row-init c = filling-new _ _ (omega (arith, length-tag-keys 0 (tags_left c.args.s.now c.args.countries), c.requires.0))
@@ -19,22 +29,17 @@ loop-row-init c = filling-new _ _ (omega (arith, length-tag-keys 0 (tags_left c.
 pub bounds-keys-n : goal.bounds-keys-n
 unfolding tag_keys_from
 bounds-keys-n c =
-    let more : countries_left c.args.s.now c.loop-row.at ≡ country_of c.args.s.now c.in-Row.row ∷ countries_left c.args.s.now c.in-Row.rest = told-row (country_told _) c.next.ensures c.in-Row.is refl in
-    let key : tag_keys_from c.loop-row.n (tags_left c.args.s.now c.loop-row.at) ≡ tag_key c.in-Row.row.tag c.loop-row.n ∷ tag_keys_from (c.loop-row.n + 1) (tags_left c.args.s.now c.in-Row.rest) = ap (λ (ks : List Country). tag_keys_from c.loop-row.n (map (λ k. k.tag) ks)) more in
-    filling-room _ _ _ _ _ c.loop-row.invariant _ _ key
+    filling-room _ _ _ _ _ c.loop-row.invariant _ _ (key (goal.at.bounds-keys-n c).In-Row)
 
 pub loop-row-smaller : goal.loop-row-smaller
 loop-row-smaller c =
-    let more : countries_left c.args.s.now c.loop-row.at ≡ country_of c.args.s.now c.in-Row.row ∷ countries_left c.args.s.now c.in-Row.rest = told-row (country_told _) c.next.ensures c.in-Row.is refl in
-    omega (arith, ap length more)
+    omega (arith, ap length (more (goal.at.loop-row-smaller c).In-Row))
 
 pub loop-row-preserved : goal.loop-row-preserved
 unfolding tag_keys_from
 loop-row-preserved c =
-    let more : countries_left c.args.s.now c.loop-row.at ≡ country_of c.args.s.now c.in-Row.row ∷ countries_left c.args.s.now c.in-Row.rest = told-row (country_told _) c.next.ensures c.in-Row.is refl in
-    let key : tag_keys_from c.loop-row.n (tags_left c.args.s.now c.loop-row.at) ≡ tag_key c.in-Row.row.tag c.loop-row.n ∷ tag_keys_from (c.loop-row.n + 1) (tags_left c.args.s.now c.in-Row.rest) = ap (λ (ks : List Country). tag_keys_from c.loop-row.n (map (λ k. k.tag) ks)) more in
-    let room = filling-room _ _ _ _ _ c.loop-row.invariant _ _ key in
-    filling-put _ _ _ _ _ c.loop-row.invariant _ _ key _ (c.tag_key.ensures ∙ tag-key-small _ c.loop-row.n (omega (arith, room, c.loop-row.invariant.long, c.requires.1)))
+    let room = filling-room _ _ _ _ _ c.loop-row.invariant _ _ (key (goal.at.loop-row-preserved c).In-Row) in
+    filling-put _ _ _ _ _ c.loop-row.invariant _ _ (key (goal.at.loop-row-preserved c).In-Row) _ (c.tag_key.ensures ∙ tag-key-small _ c.loop-row.n (omega (arith, room, c.loop-row.invariant.long, c.requires.1)))
 
 pub shape_of-keys-in-End : goal.shape_of-keys-in-End
 shape_of-keys-in-End c = c.loop-row.invariant.long

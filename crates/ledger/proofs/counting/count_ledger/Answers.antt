@@ -2,7 +2,12 @@ use mathlib.Core.Path.{◌≡◌}
 use native.Mathlib.Omega.{arith}
 use Rattle.ledger.specs.Ledgers.{row_ledger, ledger_left}
 use Rattle.ledger.proofs.LedgerLaws.{count-start, count-end, count-full, walk-all, walk-fewer, walk_end, span-counted}
+use Rattle.ledger.proofs.counting.count_ledger.Goals.{After-begin-walk}
 use Rattle.ledger.proofs.counting.count_ledger.Goals as goal
+
+-- All points are left there.
+all : (c : After-begin-walk) → ledger_left c.args.s.now c.args.entries.now c.args.frame.current c.begin-walk.result ≡ row_ledger c.args.s.now c.args.entries.now c.args.nation
+all c = walk-all c.args.s.now c.args.entries.now c.args.frame c.args.nation c.begin-walk.result c.requires.0 c.begin-walk.ensures
 
 pub loop-n-init : goal.loop-n-init
 loop-n-init c = count-start _ _
@@ -30,11 +35,9 @@ loop-n-smaller c =
 
 pub returns-in-End : goal.returns-in-End
 returns-in-End c =
-    let all : ledger_left c.args.s.now c.args.entries.now c.args.frame.current c.begin-walk.result ≡ row_ledger c.args.s.now c.args.entries.now c.args.nation = walk-all c.args.s.now c.args.entries.now c.args.frame c.args.nation c.begin-walk.result c.requires.0 c.begin-walk.ensures in
-    count-end c.loop-n.invariant _ all
+    count-end c.loop-n.invariant _ (all (goal.at.returns-in-End c).After-begin-walk)
     (walk_end c.args.s.now c.args.entries.now c.args.frame.current c.loop-n.walk c.next.ensures c.in-End.is)
 
 pub returns : goal.returns
 returns c =
-    let all : ledger_left c.args.s.now c.args.entries.now c.args.frame.current c.begin-walk.result ≡ row_ledger c.args.s.now c.args.entries.now c.args.nation = walk-all c.args.s.now c.args.entries.now c.args.frame c.args.nation c.begin-walk.result c.requires.0 c.begin-walk.ensures in
-    count-full c.loop-n.invariant _ all (omega (arith, c.loop-n-test.false))
+    count-full c.loop-n.invariant _ (all (goal.at.returns c).After-begin-walk) (omega (arith, c.loop-n-test.false))

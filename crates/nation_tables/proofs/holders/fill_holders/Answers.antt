@@ -10,7 +10,12 @@ use Rattle.nation_tables.specs.Countries.{settling_keys_from}
 use Rattle.nation_tables.specs.Holders.{holder_cell}
 use Rattle.change_keys.proofs.EnteringLaws.{all-entered, entering-none, entering-next, entering-more, entering-done}
 use Rattle.nation_tables.proofs.slots.ChangeCellLaws.{entered-small, small-next, all-sorted, cell-made}
+use Rattle.nation_tables.proofs.holders.fill_holders.Goals.{In-Row}
 use Rattle.nation_tables.proofs.holders.fill_holders.Goals as goal
+
+-- The change that was told is the first of those left.
+more : (c : In-Row) → changes_left c.args.s.now c.loop-x.at ≡ change_of c.in-Row.x ∷ changes_left c.args.s.now c.in-Row.rest
+more c = told-row (change_told _) c.next_change.ensures c.in-Row.is refl
 
 pub loop-x-init : goal.loop-x-init
 loop-x-init c =
@@ -23,37 +28,32 @@ loop-x-init c =
 
 pub holder_row-row-requires : goal.holder_row-row-requires
 holder_row-row-requires c =
-    let more : changes_left c.args.s.now c.loop-x.at ≡ change_of c.in-Row.x ∷ changes_left c.args.s.now c.in-Row.rest = told-row (change_told _) c.next_change.ensures c.in-Row.is refl in
     let q = c.requires.settler in
     let ks = (campaign_of c.args.s.now).countries in
-    let small = (small-next more c.loop-x.invariant.2).0 in
+    let small = (small-next (more (goal.at.holder_row-row-requires c).In-Row) c.loop-x.invariant.2).0 in
     (all-sorted (settling_keys_from 0 ks) _ q.keys, small.to)
 
 pub bounds-cells-n : goal.bounds-cells-n
 bounds-cells-n c =
-    let more : changes_left c.args.s.now c.loop-x.at ≡ change_of c.in-Row.x ∷ changes_left c.args.s.now c.in-Row.rest = told-row (change_told _) c.next_change.ensures c.in-Row.is refl in
     let cell = holder_cell (campaign_of c.args.s.now).countries in
-    (entering-next (λ _. map cell) _ c.loop-x.n c.loop-x.cells c.loop-x.invariant.1 more).0
+    (entering-next (λ _. map cell) _ c.loop-x.n c.loop-x.cells c.loop-x.invariant.1 (more (goal.at.bounds-cells-n c).In-Row)).0
 
 pub overflow_add-n : goal.overflow_add-n
 overflow_add-n c =
-    let more : changes_left c.args.s.now c.loop-x.at ≡ change_of c.in-Row.x ∷ changes_left c.args.s.now c.in-Row.rest = told-row (change_told _) c.next_change.ensures c.in-Row.is refl in
     let cell = holder_cell (campaign_of c.args.s.now).countries in
-    omega (arith, (entering-next (λ _. map cell) _ c.loop-x.n c.loop-x.cells c.loop-x.invariant.1 more).1)
+    omega (arith, (entering-next (λ _. map cell) _ c.loop-x.n c.loop-x.cells c.loop-x.invariant.1 (more (goal.at.overflow_add-n c).In-Row)).1)
 
 pub loop-x-smaller : goal.loop-x-smaller
 loop-x-smaller c =
-    let more : changes_left c.args.s.now c.loop-x.at ≡ change_of c.in-Row.x ∷ changes_left c.args.s.now c.in-Row.rest = told-row (change_told _) c.next_change.ensures c.in-Row.is refl in
-    omega (arith, ap length more)
+    omega (arith, ap length (more (goal.at.loop-x-smaller c).In-Row))
 
 pub loop-x-preserved : goal.loop-x-preserved
 loop-x-preserved c =
-    let more : changes_left c.args.s.now c.loop-x.at ≡ change_of c.in-Row.x ∷ changes_left c.args.s.now c.in-Row.rest = told-row (change_told _) c.next_change.ensures c.in-Row.is refl in
     let cell = holder_cell (campaign_of c.args.s.now).countries in
-    let small = small-next more c.loop-x.invariant.2 in
+    let small = small-next (more (goal.at.loop-x-preserved c).In-Row) c.loop-x.invariant.2 in
     let made = cell-made _ _ _ c.requires.settler (change_of c.in-Row.x) small.0 c.holder_row-row.result c.holder_row-row.ensures _ refl in (
       simp length-set c.loop-x.invariant.0,
-      entering-more (λ _. map cell) _ c.loop-x.n c.loop-x.cells c.loop-x.invariant.1 more c.cell_of.result (rw (c.cell_of.ensures ∙ made)),
+      entering-more (λ _. map cell) _ c.loop-x.n c.loop-x.cells c.loop-x.invariant.1 (more (goal.at.loop-x-preserved c).In-Row) c.cell_of.result (rw (c.cell_of.ensures ∙ made)),
       small.1,
     )
 

@@ -4,7 +4,12 @@ use native.Mathlib.Omega.{arith}
 use lib.ListN.{length, length-take}
 use Rattle.change_keys.specs.ChangeSteps.{entered}
 use Rattle.nation_tables.proofs.slots.HoldersLaws.{held}
+use Rattle.nation_tables.proofs.holders.hold_slots.Goals.{After-sort_steps-n}
 use Rattle.nation_tables.proofs.holders.hold_slots.Goals as goal
+
+-- So many changes there are.
+count : (c : After-sort_steps-n) → c.sort_steps-n.result ≡ length (entered c.args.s.now)
+count c = c.sort_steps-n.ensures.counted
 
 pub start_slots-requires : goal.start_slots-requires
 start_slots-requires c =
@@ -17,24 +22,20 @@ sort_steps-n-requires c =
 
 pub slice_bounds-pass-end : goal.slice_bounds-pass-end
 slice_bounds-pass-end c =
-    let count : c.sort_steps-n.result ≡ length (entered c.args.s.now) = c.sort_steps-n.ensures.counted in
-    omega (arith, count, c.sort_steps-n.auto.keys, c.requires.holding_room.keys)
+    omega (arith, count (goal.at.slice_bounds-pass-end c).After-sort_steps-n, c.sort_steps-n.auto.keys, c.requires.holding_room.keys)
 
 pub slice_bounds-pass-end-2 : goal.slice_bounds-pass-end-2
 slice_bounds-pass-end-2 c =
-    let count : c.sort_steps-n.result ≡ length (entered c.args.s.now) = c.sort_steps-n.ensures.counted in
-    omega (arith, count, c.sort_steps-n.auto.cells, c.requires.holding_room.cells)
+    omega (arith, count (goal.at.slice_bounds-pass-end-2 c).After-sort_steps-n, c.sort_steps-n.auto.cells, c.requires.holding_room.cells)
 
 pub slice_bounds-pass-end-3 : goal.slice_bounds-pass-end-3
 slice_bounds-pass-end-3 c =
-    let count : c.sort_steps-n.result ≡ length (entered c.args.s.now) = c.sort_steps-n.ensures.counted in
-    omega (arith, count, c.requires.holding_room.turns)
+    omega (arith, count (goal.at.slice_bounds-pass-end-3 c).After-sort_steps-n, c.requires.holding_room.turns)
 
 pub pass-requires : goal.pass-requires
 pass-requires c =
-    let count : c.sort_steps-n.result ≡ length (entered c.args.s.now) = c.sort_steps-n.ensures.counted in
     let room = c.requires.holding_room in
-    simp length-take (omega (arith, count, c.sort_steps-n.auto.keys, room.keys, room.turns))
+    simp length-take (omega (arith, count (goal.at.pass-requires c).After-sort_steps-n, c.sort_steps-n.auto.keys, room.keys, room.turns))
 
 pub shape_of-keys : goal.shape_of-keys
 shape_of-keys c = c.sort_steps-n.auto.keys

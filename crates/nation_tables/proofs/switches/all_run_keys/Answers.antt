@@ -5,7 +5,12 @@ use Rattle.record.specs.Cursors.{country_of, countries_left, country_told}
 use Rattle.format.proofs.CampaignLaws.{told-row, told-length, told-end}
 use Rattle.nation_tables.specs.Switches.{runs_from}
 use Rattle.nation_tables.proofs.tables.PlacedLaws.{row-asked, keying-start, keying-here, keying-more, keying-done}
+use Rattle.nation_tables.proofs.switches.all_run_keys.Goals.{In-Row}
 use Rattle.nation_tables.proofs.switches.all_run_keys.Goals as goal
+
+-- what was left is the country of the row, and what the next cursor has left
+told : (c : In-Row) → countries_left c.args.s.now c.loop-country.left ≡ country_of c.args.s.now c.in-Row.country ∷ countries_left c.args.s.now c.in-Row.rest
+told c = told-row (country_told _) c.next.ensures c.in-Row.is refl
 
 pub loop-country-init : goal.loop-country-init
 loop-country-init c =
@@ -14,13 +19,11 @@ loop-country-init c =
 
 pub own_keys-k-requires : goal.own_keys-k-requires
 own_keys-k-requires c =
-    let told : countries_left c.args.s.now c.loop-country.left ≡ country_of c.args.s.now c.in-Row.country ∷ countries_left c.args.s.now c.in-Row.rest = told-row (country_told _) c.next.ensures c.in-Row.is refl in
-    keying-here _ _ _ _ _ _ _ c.loop-country.invariant _ _ told
+    keying-here _ _ _ _ _ _ _ c.loop-country.invariant _ _ (told (goal.at.own_keys-k-requires c).In-Row)
 
 pub overflow_add-row : goal.overflow_add-row
 overflow_add-row c =
-    let told : countries_left c.args.s.now c.loop-country.left ≡ country_of c.args.s.now c.in-Row.country ∷ countries_left c.args.s.now c.in-Row.rest = told-row (country_told _) c.next.ensures c.in-Row.is refl in
-    let l = keying-here _ _ _ _ _ _ _ c.loop-country.invariant _ _ told in
+    let l = keying-here _ _ _ _ _ _ _ c.loop-country.invariant _ _ (told (goal.at.overflow_add-row c).In-Row) in
     omega (arith, l.0)
 
 pub loop-country-smaller : goal.loop-country-smaller
@@ -29,8 +32,7 @@ loop-country-smaller c =
 
 pub loop-country-preserved : goal.loop-country-preserved
 loop-country-preserved c =
-    let told : countries_left c.args.s.now c.loop-country.left ≡ country_of c.args.s.now c.in-Row.country ∷ countries_left c.args.s.now c.in-Row.rest = told-row (country_told _) c.next.ensures c.in-Row.is refl in
-    keying-more _ _ _ _ _ _ _ c.loop-country.invariant _ _ told _ _ c.own_keys-k.ensures
+    keying-more _ _ _ _ _ _ _ c.loop-country.invariant _ _ (told (goal.at.loop-country-preserved c).In-Row) _ _ c.own_keys-k.ensures
 
 pub shape_of-cells-in-End : goal.shape_of-cells-in-End
 shape_of-cells-in-End c = c.loop-country.invariant.cells.long

@@ -6,7 +6,14 @@ use Rattle.nation_tables.specs.Layout.{most_countries}
 use Rattle.nation_tables.specs.Gathering.{Gathered, TableRoom}
 use Rattle.nations.proofs.answer.ArmLaws.{made, made-room, room-kept, tables-told, tables-refused}
 use Rattle.nations.proofs.answer.AnswerLaws.{changes-small, fronts-inside, rest-refused, placing-told, record-refused}
+use Rattle.nations.proofs.telling.tell_nations.Goals.{In-Tables}
 use Rattle.nations.proofs.telling.tell_nations.Goals as goal
+
+gathered : (c : In-Tables) → Gathered c.args.s.now c.in-Tables.sizes c.in-Tables.provinces c.gather_tables.new.tag_words c.gather_tables.new.initial_keys c.gather_tables.new.switch_keys c.gather_tables.new.keys c.gather_tables.new.cells c.gather_tables.new.slots c.gather_tables.new.started c.gather_tables.new.turns c.gather_tables.new.firsts
+gathered c = tables-told c.args.s.now c.gather_tables.new.tag_words c.gather_tables.new.initial_keys c.gather_tables.new.switch_keys c.gather_tables.new.keys c.gather_tables.new.cells c.gather_tables.new.slots c.gather_tables.new.started c.gather_tables.new.turns c.gather_tables.new.firsts c.gather_tables.result (c.gather_tables.ensures (made-room _ c.args.runs.now c.args.keys.now c.args.cells.now c.args.turns.now c.args.slots.now c.requires)) c.in-Tables.is
+
+roomy : (c : In-Tables) → TableRoom (length c.args.s.now) c.gather_tables.new.tag_words c.gather_tables.new.initial_keys c.gather_tables.new.switch_keys c.gather_tables.new.keys c.gather_tables.new.cells c.gather_tables.new.slots c.gather_tables.new.started c.gather_tables.new.turns c.gather_tables.new.firsts
+roomy c = room-kept c.gather_tables.new.tag_words c.gather_tables.new.initial_keys c.gather_tables.new.switch_keys c.gather_tables.new.keys c.gather_tables.new.cells c.gather_tables.new.slots c.gather_tables.new.started c.gather_tables.new.turns c.gather_tables.new.firsts (made-room _ c.args.runs.now c.args.keys.now c.args.cells.now c.args.turns.now c.args.slots.now c.requires) c.gather_tables.auto.tag_words c.gather_tables.auto.initial_keys c.gather_tables.auto.switch_keys c.gather_tables.auto.keys c.gather_tables.auto.cells c.gather_tables.auto.slots c.gather_tables.auto.started c.gather_tables.auto.turns c.gather_tables.auto.firsts
 
 pub slice_bounds-gather_tables-end : goal.slice_bounds-gather_tables-end
 slice_bounds-gather_tables-end c = sym (made most_countries)
@@ -22,9 +29,7 @@ slice_bounds-gather_tables-end-4 c = sym (made most_countries)
 
 pub rest_fits-requires : goal.rest_fits-requires
 rest_fits-requires c =
-    let gathered : Gathered c.args.s.now c.in-Tables.sizes c.in-Tables.provinces c.gather_tables.new.tag_words c.gather_tables.new.initial_keys c.gather_tables.new.switch_keys c.gather_tables.new.keys c.gather_tables.new.cells c.gather_tables.new.slots c.gather_tables.new.started c.gather_tables.new.turns c.gather_tables.new.firsts = tables-told c.args.s.now c.gather_tables.new.tag_words c.gather_tables.new.initial_keys c.gather_tables.new.switch_keys c.gather_tables.new.keys c.gather_tables.new.cells c.gather_tables.new.slots c.gather_tables.new.started c.gather_tables.new.turns c.gather_tables.new.firsts c.gather_tables.result (c.gather_tables.ensures (made-room _ c.args.runs.now c.args.keys.now c.args.cells.now c.args.turns.now c.args.slots.now c.requires)) c.in-Tables.is in
-    let roomy : TableRoom (length c.args.s.now) c.gather_tables.new.tag_words c.gather_tables.new.initial_keys c.gather_tables.new.switch_keys c.gather_tables.new.keys c.gather_tables.new.cells c.gather_tables.new.slots c.gather_tables.new.started c.gather_tables.new.turns c.gather_tables.new.firsts = room-kept c.gather_tables.new.tag_words c.gather_tables.new.initial_keys c.gather_tables.new.switch_keys c.gather_tables.new.keys c.gather_tables.new.cells c.gather_tables.new.slots c.gather_tables.new.started c.gather_tables.new.turns c.gather_tables.new.firsts (made-room _ c.args.runs.now c.args.keys.now c.args.cells.now c.args.turns.now c.args.slots.now c.requires) c.gather_tables.auto.tag_words c.gather_tables.auto.initial_keys c.gather_tables.auto.switch_keys c.gather_tables.auto.keys c.gather_tables.auto.cells c.gather_tables.auto.slots c.gather_tables.auto.started c.gather_tables.auto.turns c.gather_tables.auto.firsts in
-    changes-small _ _ _ _ _ _ _ _ _ _ _ _ gathered roomy
+    changes-small _ _ _ _ _ _ _ _ _ _ _ _ (gathered (goal.at.rest_fits-requires c).In-Tables) (roomy (goal.at.rest_fits-requires c).In-Tables)
 
 pub shape_of-runs-then-not-rest_fits : goal.shape_of-runs-then-not-rest_fits
 shape_of-runs-then-not-rest_fits c = c.gather_tables.auto.switch_keys
@@ -43,9 +48,7 @@ shape_of-slots-then-not-rest_fits c = c.gather_tables.auto.slots
 
 pub returns-then-not-rest_fits : goal.returns-then-not-rest_fits
 returns-then-not-rest_fits c =
-    let gathered : Gathered c.args.s.now c.in-Tables.sizes c.in-Tables.provinces c.gather_tables.new.tag_words c.gather_tables.new.initial_keys c.gather_tables.new.switch_keys c.gather_tables.new.keys c.gather_tables.new.cells c.gather_tables.new.slots c.gather_tables.new.started c.gather_tables.new.turns c.gather_tables.new.firsts = tables-told c.args.s.now c.gather_tables.new.tag_words c.gather_tables.new.initial_keys c.gather_tables.new.switch_keys c.gather_tables.new.keys c.gather_tables.new.cells c.gather_tables.new.slots c.gather_tables.new.started c.gather_tables.new.turns c.gather_tables.new.firsts c.gather_tables.result (c.gather_tables.ensures (made-room _ c.args.runs.now c.args.keys.now c.args.cells.now c.args.turns.now c.args.slots.now c.requires)) c.in-Tables.is in
-    let roomy : TableRoom (length c.args.s.now) c.gather_tables.new.tag_words c.gather_tables.new.initial_keys c.gather_tables.new.switch_keys c.gather_tables.new.keys c.gather_tables.new.cells c.gather_tables.new.slots c.gather_tables.new.started c.gather_tables.new.turns c.gather_tables.new.firsts = room-kept c.gather_tables.new.tag_words c.gather_tables.new.initial_keys c.gather_tables.new.switch_keys c.gather_tables.new.keys c.gather_tables.new.cells c.gather_tables.new.slots c.gather_tables.new.started c.gather_tables.new.turns c.gather_tables.new.firsts (made-room _ c.args.runs.now c.args.keys.now c.args.cells.now c.args.turns.now c.args.slots.now c.requires) c.gather_tables.auto.tag_words c.gather_tables.auto.initial_keys c.gather_tables.auto.switch_keys c.gather_tables.auto.keys c.gather_tables.auto.cells c.gather_tables.auto.slots c.gather_tables.auto.started c.gather_tables.auto.turns c.gather_tables.auto.firsts in
-    rest-refused _ _ _ _ _ _ _ _ _ _ _ _ gathered roomy _ _ _ _ c.rest_fits.ensures _ _ c.if-not-rest_fits.true-raw
+    rest-refused _ _ _ _ _ _ _ _ _ _ _ _ (gathered (goal.at.returns-then-not-rest_fits c).In-Tables) (roomy (goal.at.returns-then-not-rest_fits c).In-Tables) _ _ _ _ c.rest_fits.ensures _ _ c.if-not-rest_fits.true-raw
 
 pub slice_bounds-place_fronts-end : goal.slice_bounds-place_fronts-end
 slice_bounds-place_fronts-end c = sym (c.gather_tables.auto.tag_words ∙ made most_countries)
@@ -61,9 +64,7 @@ slice_bounds-place_fronts-end-in-Tables-3 c = sym (c.gather_tables.auto.started 
 
 pub place_fronts-placed-requires : goal.place_fronts-placed-requires
 place_fronts-placed-requires c =
-    let gathered : Gathered c.args.s.now c.in-Tables.sizes c.in-Tables.provinces c.gather_tables.new.tag_words c.gather_tables.new.initial_keys c.gather_tables.new.switch_keys c.gather_tables.new.keys c.gather_tables.new.cells c.gather_tables.new.slots c.gather_tables.new.started c.gather_tables.new.turns c.gather_tables.new.firsts = tables-told c.args.s.now c.gather_tables.new.tag_words c.gather_tables.new.initial_keys c.gather_tables.new.switch_keys c.gather_tables.new.keys c.gather_tables.new.cells c.gather_tables.new.slots c.gather_tables.new.started c.gather_tables.new.turns c.gather_tables.new.firsts c.gather_tables.result (c.gather_tables.ensures (made-room _ c.args.runs.now c.args.keys.now c.args.cells.now c.args.turns.now c.args.slots.now c.requires)) c.in-Tables.is in
-    let roomy : TableRoom (length c.args.s.now) c.gather_tables.new.tag_words c.gather_tables.new.initial_keys c.gather_tables.new.switch_keys c.gather_tables.new.keys c.gather_tables.new.cells c.gather_tables.new.slots c.gather_tables.new.started c.gather_tables.new.turns c.gather_tables.new.firsts = room-kept c.gather_tables.new.tag_words c.gather_tables.new.initial_keys c.gather_tables.new.switch_keys c.gather_tables.new.keys c.gather_tables.new.cells c.gather_tables.new.slots c.gather_tables.new.started c.gather_tables.new.turns c.gather_tables.new.firsts (made-room _ c.args.runs.now c.args.keys.now c.args.cells.now c.args.turns.now c.args.slots.now c.requires) c.gather_tables.auto.tag_words c.gather_tables.auto.initial_keys c.gather_tables.auto.switch_keys c.gather_tables.auto.keys c.gather_tables.auto.cells c.gather_tables.auto.slots c.gather_tables.auto.started c.gather_tables.auto.turns c.gather_tables.auto.firsts in
-    fronts-inside _ _ _ _ _ _ _ _ _ _ _ _ gathered roomy
+    fronts-inside _ _ _ _ _ _ _ _ _ _ _ _ (gathered (goal.at.place_fronts-placed-requires c).In-Tables) (roomy (goal.at.place_fronts-placed-requires c).In-Tables)
 
 pub shape_of-runs-else-not-rest_fits : goal.shape_of-runs-else-not-rest_fits
 shape_of-runs-else-not-rest_fits c = c.gather_tables.auto.switch_keys
@@ -88,9 +89,7 @@ shape_of-entries c = c.place_fronts-placed.auto.entries
 
 pub returns-else-not-rest_fits : goal.returns-else-not-rest_fits
 returns-else-not-rest_fits c =
-    let gathered : Gathered c.args.s.now c.in-Tables.sizes c.in-Tables.provinces c.gather_tables.new.tag_words c.gather_tables.new.initial_keys c.gather_tables.new.switch_keys c.gather_tables.new.keys c.gather_tables.new.cells c.gather_tables.new.slots c.gather_tables.new.started c.gather_tables.new.turns c.gather_tables.new.firsts = tables-told c.args.s.now c.gather_tables.new.tag_words c.gather_tables.new.initial_keys c.gather_tables.new.switch_keys c.gather_tables.new.keys c.gather_tables.new.cells c.gather_tables.new.slots c.gather_tables.new.started c.gather_tables.new.turns c.gather_tables.new.firsts c.gather_tables.result (c.gather_tables.ensures (made-room _ c.args.runs.now c.args.keys.now c.args.cells.now c.args.turns.now c.args.slots.now c.requires)) c.in-Tables.is in
-    let roomy : TableRoom (length c.args.s.now) c.gather_tables.new.tag_words c.gather_tables.new.initial_keys c.gather_tables.new.switch_keys c.gather_tables.new.keys c.gather_tables.new.cells c.gather_tables.new.slots c.gather_tables.new.started c.gather_tables.new.turns c.gather_tables.new.firsts = room-kept c.gather_tables.new.tag_words c.gather_tables.new.initial_keys c.gather_tables.new.switch_keys c.gather_tables.new.keys c.gather_tables.new.cells c.gather_tables.new.slots c.gather_tables.new.started c.gather_tables.new.turns c.gather_tables.new.firsts (made-room _ c.args.runs.now c.args.keys.now c.args.cells.now c.args.turns.now c.args.slots.now c.requires) c.gather_tables.auto.tag_words c.gather_tables.auto.initial_keys c.gather_tables.auto.switch_keys c.gather_tables.auto.keys c.gather_tables.auto.cells c.gather_tables.auto.slots c.gather_tables.auto.started c.gather_tables.auto.turns c.gather_tables.auto.firsts in
-    placing-told _ _ _ _ _ _ _ _ _ _ _ _ gathered roomy _ _ _ _ c.rest_fits.ensures _ _ _ _ c.if-not-rest_fits.false-raw c.place_fronts-placed.result c.place_fronts-placed.ensures _ c.told_by.ensures
+    placing-told _ _ _ _ _ _ _ _ _ _ _ _ (gathered (goal.at.returns-else-not-rest_fits c).In-Tables) (roomy (goal.at.returns-else-not-rest_fits c).In-Tables) _ _ _ _ c.rest_fits.ensures _ _ _ _ c.if-not-rest_fits.false-raw c.place_fronts-placed.result c.place_fronts-placed.ensures _ c.told_by.ensures
 
 pub shape_of-runs-in-Refused : goal.shape_of-runs-in-Refused
 shape_of-runs-in-Refused c = c.gather_tables.auto.switch_keys

@@ -7,18 +7,21 @@ use mir.Facts.{to_z_pos, to_z-of_z}
 use Rattle.bookings.specs.Cases.{bookings_answer, bookings_outcome}
 use Rattle.bookings.proofs.BookingOutcomeLaws.{bookings-few}
 use Rattle.page.proofs.HostLaws.{returns_of}
+use Rattle.page.proofs.booking.war_participants.Goals.{In-Rows}
 use Rattle.page.proofs.booking.war_participants.Goals as goal
+
+-- Not many rows were written.
+few : (c : In-Rows) → c.in-Rows.n ≤ 100000
+few c = bookings-few _ _ _ _ _ (sym (ap bookings_answer c.in-Rows.is) ∙ ap (λ o. o.answer) c.war_participants.ensures)
 
 pub overflow_cast-result : goal.overflow_cast-result
 overflow_cast-result c =
-    let few : c.in-Rows.n ≤ 100000 = bookings-few _ _ _ _ _ (sym (ap bookings_answer c.in-Rows.is) ∙ ap (λ o. o.answer) c.war_participants.ensures) in
-    omega (arith, few)
+    omega (arith, few (goal.at.overflow_cast-result c).In-Rows)
 
 pub returns-in-Rows : goal.returns-in-Rows
 returns-in-Rows c =
-    let few : c.in-Rows.n ≤ 100000 = bookings-few _ _ _ _ _ (sym (ap bookings_answer c.in-Rows.is) ∙ ap (λ o. o.answer) c.war_participants.ensures) in
     let told = sym (ap (λ r. bookings_outcome r c.war_participants.new.out) c.in-Rows.is) in
-    returns_of (told ∙ c.war_participants.ensures) (to_z_pos w64 (omega (arith, few)))
+    returns_of (told ∙ c.war_participants.ensures) (to_z_pos w64 (omega (arith, few (goal.at.returns-in-Rows c).In-Rows)))
 
 pub returns-in-Refused : goal.returns-in-Refused
 returns-in-Refused c =

@@ -9,7 +9,18 @@ use Rattle.rules.specs.Lent.{written}
 use Rattle.rules.specs.Page.{decimal}
 use Rattle.page_lines.proofs.DecimalLaws.{decimal-few}
 use Rattle.page_lines.proofs.TailLaws.{tail-room, long_after, then-written, then-cell}
+use Rattle.page_lines.proofs.heading.write_heading.Goals.{After-slice_known-3-1}
 use Rattle.page_lines.proofs.heading.write_heading.Goals as goal
+
+abbrev digits-done : (c : After-slice_known-3-1) → List ℕ
+digits-done c = ascii "selected " ++ decimal c.args.count
+
+abbrev digits-now : (c : After-slice_known-3-1) → List ℕ
+digits-now c = let now = c.put_selected.new.out in
+    take 9 now ++ (c.write_decimal-k.new.out ++ drop (length now - 9) (drop 9 now))
+
+digits-written : (c : After-slice_known-3-1) → (digits-now c) ≡ written (digits-done c) c.args.out.now
+digits-written c = then-written (ascii "selected ") c.args.out.now _ 9 refl c.put_selected.ensures (decimal c.args.count) _ c.write_decimal-k.ensures.1
 
 pub write_decimal-k-requires : goal.write_decimal-k-requires
 write_decimal-k-requires c =
@@ -21,11 +32,7 @@ overflow_add-k c =
 
 pub bounds-out-k : goal.bounds-out-k
 bounds-out-k c =
-    let digits-done : List ℕ = ascii "selected " ++ decimal c.args.count in
-    let digits-now : List ℕ = let now = c.put_selected.new.out in
-    take 9 now ++ (c.write_decimal-k.new.out ++ drop (length now - 9) (drop 9 now)) in
-    let digits-written : digits-now ≡ written digits-done c.args.out.now = then-written (ascii "selected ") c.args.out.now _ 9 refl c.put_selected.ensures (decimal c.args.count) _ c.write_decimal-k.ensures.1 in
-    let l = long_after digits-done c.args.out.now _ (length digits-done) refl digits-written (omega (arith, c.requires, length-append (decimal c.args.count) (10 ∷ []))) in
+    let l = long_after (digits-done (goal.at.bounds-out-k c).After-slice_known-3-1) c.args.out.now _ (length (digits-done (goal.at.bounds-out-k c).After-slice_known-3-1)) refl (digits-written (goal.at.bounds-out-k c).After-slice_known-3-1) (omega (arith, c.requires, length-append (decimal c.args.count) (10 ∷ []))) in
     omega (arith, l, c.requires, c.write_decimal-k.ensures.0, length-append (decimal c.args.count) (10 ∷ []))
 
 pub overflow_add-result : goal.overflow_add-result
@@ -34,20 +41,12 @@ overflow_add-result c =
 
 pub shape_of-out : goal.shape_of-out
 shape_of-out c =
-    let digits-done : List ℕ = ascii "selected " ++ decimal c.args.count in
-    let digits-now : List ℕ = let now = c.put_selected.new.out in
-    take 9 now ++ (c.write_decimal-k.new.out ++ drop (length now - 9) (drop 9 now)) in
-    let digits-written : digits-now ≡ written digits-done c.args.out.now = then-written (ascii "selected ") c.args.out.now _ 9 refl c.put_selected.ensures (decimal c.args.count) _ c.write_decimal-k.ensures.1 in
-    length-set digits-now (9 + c.write_decimal-k.result) 10 ∙ long_after digits-done c.args.out.now _ (length digits-done) refl digits-written (omega (arith, c.requires, length-append (decimal c.args.count) (10 ∷ [])))
+    length-set (digits-now (goal.at.shape_of-out c).After-slice_known-3-1) (9 + c.write_decimal-k.result) 10 ∙ long_after (digits-done (goal.at.shape_of-out c).After-slice_known-3-1) c.args.out.now _ (length (digits-done (goal.at.shape_of-out c).After-slice_known-3-1)) refl (digits-written (goal.at.shape_of-out c).After-slice_known-3-1) (omega (arith, c.requires, length-append (decimal c.args.count) (10 ∷ [])))
 
 pub returns : goal.returns
 returns c =
-    let digits-done : List ℕ = ascii "selected " ++ decimal c.args.count in
-    let digits-now : List ℕ = let now = c.put_selected.new.out in
-    take 9 now ++ (c.write_decimal-k.new.out ++ drop (length now - 9) (drop 9 now)) in
-    let digits-written : digits-now ≡ written digits-done c.args.out.now = then-written (ascii "selected ") c.args.out.now _ 9 refl c.put_selected.ensures (decimal c.args.count) _ c.write_decimal-k.ensures.1 in
     let more = length-append (decimal c.args.count) (10 ∷ []) in
     let k = c.write_decimal-k.ensures.0 in (
       omega (arith, k, more),
-      then-cell digits-done c.args.out.now _ _ (omega (arith, k)) digits-written 10 (omega (arith, k, more, c.requires)),
+      then-cell (digits-done (goal.at.returns c).After-slice_known-3-1) c.args.out.now _ _ (omega (arith, k)) (digits-written (goal.at.returns c).After-slice_known-3-1) 10 (omega (arith, k, more, c.requires)),
     )

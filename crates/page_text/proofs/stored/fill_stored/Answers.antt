@@ -7,7 +7,14 @@ use Rattle.search.specs.Places.{tag_keys_from}
 use Rattle.chronicle_rows.specs.RowAt.{stored_tags}
 use Rattle.page_text.proofs.StoredLaws.{keys-start, keys-next, keys_none, stored-key}
 use borrow.Author.Rules.{rules}
+use Rattle.page_text.proofs.stored.fill_stored.Goals.{After-tag_key}
 use Rattle.page_text.proofs.stored.fill_stored.Goals as goal
+
+inside : (c : After-tag_key) → c.loop-i.i < c.nation_count-n.result
+inside c = search rules
+
+few : (c : After-tag_key) → c.loop-i.i < 2000
+few c = omega (arith, c.loop-i-test.true, c.nation_count-n.ensures, c.requires.0, c.requires.1)
 
 pub loop-i-init : goal.loop-i-init
 loop-i-init c =
@@ -15,30 +22,24 @@ loop-i-init c =
 
 pub offset_bounds-keys-i : goal.offset_bounds-keys-i
 offset_bounds-keys-i c =
-    let few : c.loop-i.i < 2000 = omega (arith, c.loop-i-test.true, c.nation_count-n.ensures, c.requires.0, c.requires.1) in
-    omega (arith, few)
+    omega (arith, few (goal.at.offset_bounds-keys-i c).After-tag_key)
 
 pub bounds-keys-i : goal.bounds-keys-i
 bounds-keys-i c =
-    let inside : c.loop-i.i < c.nation_count-n.result = search rules in
-    filling-room _ _ _ _ _ c.loop-i.invariant _ _ (keys-next _ _ _ inside)
+    filling-room _ _ _ _ _ c.loop-i.invariant _ _ (keys-next _ _ _ (inside (goal.at.bounds-keys-i c).After-tag_key))
 
 pub overflow_add-i : goal.overflow_add-i
 overflow_add-i c =
-    let few : c.loop-i.i < 2000 = omega (arith, c.loop-i-test.true, c.nation_count-n.ensures, c.requires.0, c.requires.1) in
-    omega (arith, few)
+    omega (arith, few (goal.at.overflow_add-i c).After-tag_key)
 
 pub loop-i-smaller : goal.loop-i-smaller
 loop-i-smaller c =
-    let inside : c.loop-i.i < c.nation_count-n.result = search rules in
-    let h = inside in omega (arith, h)
+    let h = (inside (goal.at.loop-i-smaller c).After-tag_key) in omega (arith, h)
 
 pub loop-i-preserved : goal.loop-i-preserved
 loop-i-preserved c =
-    let few : c.loop-i.i < 2000 = omega (arith, c.loop-i-test.true, c.nation_count-n.ensures, c.requires.0, c.requires.1) in
-    let inside : c.loop-i.i < c.nation_count-n.result = search rules in
-    filling-put _ _ _ _ _ c.loop-i.invariant _ _ (keys-next _ _ _ inside) _
-    (stored-key _ _ _ _ (omega (arith, few)) c.tag_key.ensures (ap (λ r. r.stored) c.nation_at-row.ensures))
+    filling-put _ _ _ _ _ c.loop-i.invariant _ _ (keys-next _ _ _ (inside (goal.at.loop-i-preserved c).After-tag_key)) _
+    (stored-key _ _ _ _ (omega (arith, few (goal.at.loop-i-preserved c).After-tag_key)) c.tag_key.ensures (ap (λ r. r.stored) c.nation_at-row.ensures))
 
 pub returns : goal.returns
 returns c =

@@ -2,7 +2,8 @@
 use mathlib.Core.Path.{◌≡◌, sym, ap, ◌∙◌}
 use Prim.Native.Nat.{ℕ, ◌*◌, ◌≤◌}
 use native.Mathlib.Omega.{arith}
-use lib.ListN.{replicate, length-replicate}
+use mathlib.Core.List.{List}
+use lib.ListN.{length, replicate, length-replicate}
 use Rattle.nations.specs.declared.nations.NationEvents as Events
 use Rattle.rules.specs.NationRows.{nation_width}
 use Rattle.rules.specs.Outcomes.{NationCells, call_nation_events}
@@ -10,7 +11,31 @@ use Rattle.chronicle_rows.specs.Cases.{counts_in}
 use Rattle.nations.specs.Cases.{nations_answer, nation_cells}
 use Rattle.pages.proofs.RoomLaws.{LentFor, over, nations-inside, entries-inside, limits-kept, nation-front, entry-front, counts-short}
 use Rattle.pages.proofs.TextLaws.{rows_few, cells-listed, listed-front}
+use Rattle.pages.proofs.listing.list_nations.Goals.{After-nation_events}
 use Rattle.pages.proofs.listing.list_nations.Goals as goal
+
+-- The cells that nations were lent, and what stands in them behind the call.
+abbrev lent : List ℕ → NationCells
+lent nations = nation_cells nations (replicate 15000 0) (replicate 8001 0) (replicate 2000 0) (replicate 16000 0)
+
+abbrev left : After-nation_events → NationCells
+left c = let m = c.nation_events.new in
+    nation_cells m.nations m.entries m.holders m.held m.changes
+
+new : (nations : List ℕ) → length nations ≡ 10000 → LentFor (lent nations)
+new nations e =
+    record {
+      nations = e;
+      entries = length-replicate {A = ℕ} 15000 0;
+      holders = length-replicate {A = ℕ} 8001 0;
+      held = length-replicate {A = ℕ} 2000 0;
+      changes = length-replicate {A = ℕ} 16000 0;
+    }
+
+-- What nations answered, once it is matched.
+told : (x : Events.NationEvents) (c : After-nation_events) → c.nation_events.result ≡ x
+    → record { answer = nations_answer x; memory = left c } ≡ call_nation_events c.args.s.now (lent c.args.nations.now)
+told x c e = sym (ap (λ (y : Events.NationEvents). record { answer = nations_answer y; memory = left c }) e) ∙ c.nation_events.ensures
 
 fits-within : {a b : ℕ} → a ≤ 2000 → b ≡ 2000 → a ≤ b
 fits-within h e = omega (arith, h, e)
@@ -29,116 +54,33 @@ slice_bounds-nation_events-end-4 c = sym (length-replicate {A = ℕ} 16000 0)
 
 pub overflow_mul-n : goal.overflow_mul-n
 overflow_mul-n c =
-    let lent : NationCells = nation_cells c.args.nations.now (replicate 15000 0) (replicate 8001 0) (replicate 2000 0) (replicate 16000 0) in
-    let new : LentFor lent = record {
-      nations = c.requires.1;
-      entries = length-replicate {A = ℕ} 15000 0;
-      holders = length-replicate {A = ℕ} 8001 0;
-      held = length-replicate {A = ℕ} 2000 0;
-      changes = length-replicate {A = ℕ} 16000 0;
-    } in
-    let left : NationCells = let m = c.nation_events.new in
-    nation_cells m.nations m.entries m.holders m.held m.changes in
-    let rows_told : record { answer = nations_answer (Events.TheVariants.Rows c.in-Rows.counts); memory = left } ≡ call_nation_events c.args.s.now lent =
-    sym (ap (λ (x : Events.NationEvents). record { answer = nations_answer x; memory = left }) c.in-Rows.is) ∙ c.nation_events.ensures in
-    omega (arith, (counts-short lent new _ c.requires.0 rows_told).0)
+    omega (arith, (counts-short _ (new _ c.requires.1) _ c.requires.0 (told _ (goal.at.overflow_mul-n c).After-nation_events c.in-Rows.is)).0)
 
 pub overflow_mul-m : goal.overflow_mul-m
 overflow_mul-m c =
-    let lent : NationCells = nation_cells c.args.nations.now (replicate 15000 0) (replicate 8001 0) (replicate 2000 0) (replicate 16000 0) in
-    let new : LentFor lent = record {
-      nations = c.requires.1;
-      entries = length-replicate {A = ℕ} 15000 0;
-      holders = length-replicate {A = ℕ} 8001 0;
-      held = length-replicate {A = ℕ} 2000 0;
-      changes = length-replicate {A = ℕ} 16000 0;
-    } in
-    let left : NationCells = let m = c.nation_events.new in
-    nation_cells m.nations m.entries m.holders m.held m.changes in
-    let rows_told : record { answer = nations_answer (Events.TheVariants.Rows c.in-Rows.counts); memory = left } ≡ call_nation_events c.args.s.now lent =
-    sym (ap (λ (x : Events.NationEvents). record { answer = nations_answer x; memory = left }) c.in-Rows.is) ∙ c.nation_events.ensures in
-    omega (arith, (counts-short lent new _ c.requires.0 rows_told).1)
+    omega (arith, (counts-short _ (new _ c.requires.1) _ c.requires.0 (told _ (goal.at.overflow_mul-m c).After-nation_events c.in-Rows.is)).1)
 
 pub slice_bounds-fill_living-end : goal.slice_bounds-fill_living-end
 slice_bounds-fill_living-end c =
-    let lent : NationCells = nation_cells c.args.nations.now (replicate 15000 0) (replicate 8001 0) (replicate 2000 0) (replicate 16000 0) in
-    let new : LentFor lent = record {
-      nations = c.requires.1;
-      entries = length-replicate {A = ℕ} 15000 0;
-      holders = length-replicate {A = ℕ} 8001 0;
-      held = length-replicate {A = ℕ} 2000 0;
-      changes = length-replicate {A = ℕ} 16000 0;
-    } in
-    let left : NationCells = let m = c.nation_events.new in
-    nation_cells m.nations m.entries m.holders m.held m.changes in
-    let rows_told : record { answer = nations_answer (Events.TheVariants.Rows c.in-Rows.counts); memory = left } ≡ call_nation_events c.args.s.now lent =
-    sym (ap (λ (x : Events.NationEvents). record { answer = nations_answer x; memory = left }) c.in-Rows.is) ∙ c.nation_events.ensures in
-    nations-inside lent new _ c.requires.0 rows_told
+    nations-inside _ (new _ c.requires.1) _ c.requires.0 (told _ (goal.at.slice_bounds-fill_living-end c).After-nation_events c.in-Rows.is)
 
 pub slice_bounds-fill_living-end-in-Rows : goal.slice_bounds-fill_living-end-in-Rows
 slice_bounds-fill_living-end-in-Rows c =
-    let lent : NationCells = nation_cells c.args.nations.now (replicate 15000 0) (replicate 8001 0) (replicate 2000 0) (replicate 16000 0) in
-    let new : LentFor lent = record {
-      nations = c.requires.1;
-      entries = length-replicate {A = ℕ} 15000 0;
-      holders = length-replicate {A = ℕ} 8001 0;
-      held = length-replicate {A = ℕ} 2000 0;
-      changes = length-replicate {A = ℕ} 16000 0;
-    } in
-    let left : NationCells = let m = c.nation_events.new in
-    nation_cells m.nations m.entries m.holders m.held m.changes in
-    let rows_told : record { answer = nations_answer (Events.TheVariants.Rows c.in-Rows.counts); memory = left } ≡ call_nation_events c.args.s.now lent =
-    sym (ap (λ (x : Events.NationEvents). record { answer = nations_answer x; memory = left }) c.in-Rows.is) ∙ c.nation_events.ensures in
-    entries-inside lent new _ c.requires.0 rows_told
+    entries-inside _ (new _ c.requires.1) _ c.requires.0 (told _ (goal.at.slice_bounds-fill_living-end-in-Rows c).After-nation_events c.in-Rows.is)
 
 pub fill_living-requires : goal.fill_living-requires
 fill_living-requires c =
-    let lent : NationCells = nation_cells c.args.nations.now (replicate 15000 0) (replicate 8001 0) (replicate 2000 0) (replicate 16000 0) in
-    let new : LentFor lent = record {
-      nations = c.requires.1;
-      entries = length-replicate {A = ℕ} 15000 0;
-      holders = length-replicate {A = ℕ} 8001 0;
-      held = length-replicate {A = ℕ} 2000 0;
-      changes = length-replicate {A = ℕ} 16000 0;
-    } in
-    let left : NationCells = let m = c.nation_events.new in
-    nation_cells m.nations m.entries m.holders m.held m.changes in
-    let rows_told : record { answer = nations_answer (Events.TheVariants.Rows c.in-Rows.counts); memory = left } ≡ call_nation_events c.args.s.now lent =
-    sym (ap (λ (x : Events.NationEvents). record { answer = nations_answer x; memory = left }) c.in-Rows.is) ∙ c.nation_events.ensures in
     let z = c.requires.0 in
-    fits-within (rows_few _ z (nation-front lent new _ z rows_told)) c.requires.2
+    fits-within (rows_few _ z (nation-front _ (new _ c.requires.1) _ z (told _ (goal.at.fill_living-requires c).After-nation_events c.in-Rows.is))) c.requires.2
 
 pub returns-in-Rows : goal.returns-in-Rows
 returns-in-Rows c =
-    let left : NationCells = let m = c.nation_events.new in
-    nation_cells m.nations m.entries m.holders m.held m.changes in
-    let lent : NationCells = nation_cells c.args.nations.now (replicate 15000 0) (replicate 8001 0) (replicate 2000 0) (replicate 16000 0) in
-    let new : LentFor lent = record {
-      nations = c.requires.1;
-      entries = length-replicate {A = ℕ} 15000 0;
-      holders = length-replicate {A = ℕ} 8001 0;
-      held = length-replicate {A = ℕ} 2000 0;
-      changes = length-replicate {A = ℕ} 16000 0;
-    } in
-    let rows_told : record { answer = nations_answer (Events.TheVariants.Rows c.in-Rows.counts); memory = left } ≡ call_nation_events c.args.s.now lent =
-    sym (ap (λ (x : Events.NationEvents). record { answer = nations_answer x; memory = left }) c.in-Rows.is) ∙ c.nation_events.ensures in
     let z = c.requires.0 in
-    let nations = nation-front lent new _ z rows_told in
-    let entries = entry-front lent new _ z rows_told in (
-      nations-inside lent new _ z rows_told,
-      listed-front (nation_width * (counts_in c.in-Rows.counts).nations) left.nations (cells-listed _ z nations entries (limits-kept lent new _ z rows_told) _ _ c.fill_living.ensures),
+    let n = new _ c.requires.1 in
+    let rows = told _ (goal.at.returns-in-Rows c).After-nation_events c.in-Rows.is in (
+      nations-inside _ n _ z rows,
+      listed-front (nation_width * (counts_in c.in-Rows.counts).nations) c.nation_events.new.nations (cells-listed _ z (nation-front _ n _ z rows) (entry-front _ n _ z rows) (limits-kept _ n _ z rows) _ _ c.fill_living.ensures),
     )
 
 pub returns-in-Refused : goal.returns-in-Refused
-returns-in-Refused c =
-    let lent : NationCells = nation_cells c.args.nations.now (replicate 15000 0) (replicate 8001 0) (replicate 2000 0) (replicate 16000 0) in
-    let new : LentFor lent = record {
-      nations = c.requires.1;
-      entries = length-replicate {A = ℕ} 15000 0;
-      holders = length-replicate {A = ℕ} 8001 0;
-      held = length-replicate {A = ℕ} 2000 0;
-      changes = length-replicate {A = ℕ} 16000 0;
-    } in
-    let left : NationCells = let m = c.nation_events.new in
-    nation_cells m.nations m.entries m.holders m.held m.changes in
-    over lent new _ c.requires.0 (sym (ap (λ (x : Events.NationEvents). record { answer = nations_answer x; memory = left }) c.in-Refused.is) ∙ c.nation_events.ensures)
+returns-in-Refused c = over _ (new _ c.requires.1) _ c.requires.0 (told _ (goal.at.returns-in-Refused c).After-nation_events c.in-Refused.is)

@@ -11,7 +11,12 @@ use Rattle.format.specs.Laid.{Laid}
 use Rattle.format.specs.Dates.{earlier}
 use Rattle.format.proofs.SizeLaws.{laid}
 use Rattle.record_check.proofs.RepeatLaws.{fields-countries}
+use Rattle.record_check.proofs.refusal.check.Goals.{Else-not-sizes_agree}
 use Rattle.record_check.proofs.refusal.check.Goals as goal
+
+-- what agreeing sizes show: where the sections lie, and what the fields' number is
+agreed : (c : Else-not-sizes_agree) → sizes_agree c.args.s.now ≡ true
+agreed c = sym c.sizes_agree.ensures ∙ not-false _ c.if-not-sizes_agree.false-raw
 
 abbrev versioned : Head → Bool
 versioned h = eqb h.version 1
@@ -43,8 +48,7 @@ returns-then-not-sizes_agree c =
 pub returns-then-field-ne0 : goal.returns-then-field-ne0
 unfolding refusal first_of
 returns-then-field-ne0 c =
-    let agreed : sizes_agree c.args.s.now ≡ true = sym c.sizes_agree.ensures ∙ not-false _ c.if-not-sizes_agree.false-raw in
-    let fields_told : c.fields_number-field.result ≡ fields_number c.args.s.now = c.fields_number-field.ensures agreed in
+    let fields_told : c.fields_number-field.result ≡ fields_number c.args.s.now = c.fields_number-field.ensures (agreed (goal.at.returns-then-field-ne0 c).Else-not-sizes_agree) in
     let xs = c.args.s.now in
     simp (
       sym c.opens_record.ensures ∙ not-false _ c.if-not-opens_record.false-raw,
@@ -56,9 +60,8 @@ returns-then-field-ne0 c =
 
 pub repeated-requires : goal.repeated-requires
 repeated-requires c =
-    let agreed : sizes_agree c.args.s.now ≡ true = sym c.sizes_agree.ensures ∙ not-false _ c.if-not-sizes_agree.false-raw in
-    let fields_told : c.fields_number-field.result ≡ fields_number c.args.s.now = c.fields_number-field.ensures agreed in
-    let laid_out : Laid c.args.s.now c.read_head-h.result = laid _ _ c.read_head-h.ensures agreed in (
+    let fields_told : c.fields_number-field.result ≡ fields_number c.args.s.now = c.fields_number-field.ensures (agreed (goal.at.repeated-requires c).Else-not-sizes_agree) in
+    let laid_out : Laid c.args.s.now c.read_head-h.result = laid _ _ c.read_head-h.ensures (agreed (goal.at.repeated-requires c).Else-not-sizes_agree) in (
       laid_out,
       fields-countries c.args.s.now (sym fields_told ∙ c.if-field-ne0.false),
     )
@@ -66,8 +69,7 @@ repeated-requires c =
 pub returns-then-repeated : goal.returns-then-repeated
 unfolding refusal first_of
 returns-then-repeated c =
-    let agreed : sizes_agree c.args.s.now ≡ true = sym c.sizes_agree.ensures ∙ not-false _ c.if-not-sizes_agree.false-raw in
-    let fields_told : c.fields_number-field.result ≡ fields_number c.args.s.now = c.fields_number-field.ensures agreed in
+    let fields_told : c.fields_number-field.result ≡ fields_number c.args.s.now = c.fields_number-field.ensures (agreed (goal.at.returns-then-repeated c).Else-not-sizes_agree) in
     simp (
       sym c.opens_record.ensures ∙ not-false _ c.if-not-opens_record.false-raw,
       sym (ap versioned c.read_head-h.ensures) ∙ sym c.version_known.ensures ∙ not-false _ c.if-not-version_known.false-raw,
@@ -79,8 +81,7 @@ returns-then-repeated c =
 pub returns-then-ends_early : goal.returns-then-ends_early
 unfolding refusal first_of
 returns-then-ends_early c =
-    let agreed : sizes_agree c.args.s.now ≡ true = sym c.sizes_agree.ensures ∙ not-false _ c.if-not-sizes_agree.false-raw in
-    let fields_told : c.fields_number-field.result ≡ fields_number c.args.s.now = c.fields_number-field.ensures agreed in
+    let fields_told : c.fields_number-field.result ≡ fields_number c.args.s.now = c.fields_number-field.ensures (agreed (goal.at.returns-then-ends_early c).Else-not-sizes_agree) in
     simp (
       sym c.opens_record.ensures ∙ not-false _ c.if-not-opens_record.false-raw,
       sym (ap versioned c.read_head-h.ensures) ∙ sym c.version_known.ensures ∙ not-false _ c.if-not-version_known.false-raw,
@@ -93,8 +94,7 @@ returns-then-ends_early c =
 pub returns-else-ends_early : goal.returns-else-ends_early
 unfolding refusal first_of
 returns-else-ends_early c =
-    let agreed : sizes_agree c.args.s.now ≡ true = sym c.sizes_agree.ensures ∙ not-false _ c.if-not-sizes_agree.false-raw in
-    let fields_told : c.fields_number-field.result ≡ fields_number c.args.s.now = c.fields_number-field.ensures agreed in
+    let fields_told : c.fields_number-field.result ≡ fields_number c.args.s.now = c.fields_number-field.ensures (agreed (goal.at.returns-else-ends_early c).Else-not-sizes_agree) in
     simp (
       sym c.opens_record.ensures ∙ not-false _ c.if-not-opens_record.false-raw,
       sym (ap versioned c.read_head-h.ensures) ∙ sym c.version_known.ensures ∙ not-false _ c.if-not-version_known.false-raw,

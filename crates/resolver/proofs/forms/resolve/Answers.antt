@@ -6,16 +6,19 @@ use Rattle.rules.specs.Outcomes.{call_resolve}
 use mathlib.Core.Path.{◌≡◌, ◌∙◌}
 use Rattle.resolver.proofs.ResolverAnswerLaws.{numbered, number-refused, resolve-gives}
 use borrow.Author.Rules.{rules}
+use Rattle.resolver.proofs.forms.resolve.Goals.{After-first_number-number}
 use Rattle.resolver.proofs.forms.resolve.Goals as goal
+
+-- The first number that refuses.
+number : (c : After-first_number-number) → c.first_number-number.result ≡ first_of (chronicle_number c.args.nations.now c.args.entries.now ∷ asked_tag_number c.args.tag.0 ∷ asked_date_number c.args.date.0 ∷ [])
+number c = numbered _ _ _ _ _ _ _ c.asked_tag_number.ensures c.asked_date_number.ensures c.first_number-asked.ensures c.chronicle_number.ensures c.first_number-number.ensures
 
 pub returns-then-number-ne0 : goal.returns-then-number-ne0
 unfolding call_resolve
 returns-then-number-ne0 c =
-    let number : c.first_number-number.result ≡ first_of (chronicle_number c.args.nations.now c.args.entries.now ∷ asked_tag_number c.args.tag.0 ∷ asked_date_number c.args.date.0 ∷ []) = numbered _ _ _ _ _ _ _ c.asked_tag_number.ensures c.asked_date_number.ensures c.first_number-asked.ensures c.chronicle_number.ensures c.first_number-number.ensures in
-    number-refused _ _ _ number (search rules)
+    number-refused _ _ _ (number (goal.at.returns-then-number-ne0 c).After-first_number-number) (search rules)
 
 pub returns : goal.returns
 returns c =
-    let number : c.first_number-number.result ≡ first_of (chronicle_number c.args.nations.now c.args.entries.now ∷ asked_tag_number c.args.tag.0 ∷ asked_date_number c.args.date.0 ∷ []) = numbered _ _ _ _ _ _ _ c.asked_tag_number.ensures c.asked_date_number.ensures c.first_number-asked.ensures c.chronicle_number.ensures c.first_number-number.ensures in
     c.plain_answer.ensures
-    ∙ resolve-gives c.args.nations.now c.args.entries.now _ _ (search rules) c.args.tag c.args.date c.best_claim.ensures number
+    ∙ resolve-gives c.args.nations.now c.args.entries.now _ _ (search rules) c.args.tag c.args.date c.best_claim.ensures (number (goal.at.returns c).After-first_number-number)

@@ -6,7 +6,12 @@ use Rattle.format.specs.Bytes.{le16}
 use Rattle.format.specs.Campaign.{group_wars}
 use Rattle.record.proofs.RunLaws.{WholeRow, whole, run_end}
 use Rattle.record.proofs.StepLaws.{war-step}
+use Rattle.record.proofs.cursors.Wars.next.Goals.{Else-not-has}
 use Rattle.record.proofs.cursors.Wars.next.Goals as goal
+
+-- the row that the test found
+row-whole : (c : Else-not-has) → WholeRow (length c.args.s.now) 2 c.args.self.rows
+row-whole c = whole _ _ _ c.has.ensures c.if-not-has.false-raw
 
 pub returns-then-not-has : goal.returns-then-not-has
 unfolding group_wars
@@ -14,13 +19,11 @@ returns-then-not-has c = rw (run_end (le16 _) _ _ _ c.has.ensures c.if-not-has.t
 
 pub u16_at-n-requires : goal.u16_at-n-requires
 u16_at-n-requires c =
-    let row-whole : WholeRow (length c.args.s.now) 2 c.args.self.rows = whole _ _ _ c.has.ensures c.if-not-has.false-raw in
-    omega (arith, row-whole)
+    omega (arith, row-whole (goal.at.u16_at-n-requires c).Else-not-has)
 
 pub past-requires : goal.past-requires
 past-requires c =
-    let row-whole : WholeRow (length c.args.s.now) 2 c.args.self.rows = whole _ _ _ c.has.ensures c.if-not-has.false-raw in
-    omega (arith, row-whole)
+    omega (arith, row-whole (goal.at.past-requires c).Else-not-has)
 
 pub returns : goal.returns
 returns c =

@@ -6,7 +6,12 @@ use Rattle.format.specs.Rows.{ledger_at}
 use Rattle.format.specs.Campaign.{group_ledgers}
 use Rattle.record.proofs.RunLaws.{WholeRow, whole, run_end}
 use Rattle.record.proofs.StepLaws.{ledger-step}
+use Rattle.record.proofs.ledger.Ledgers.next.Goals.{Else-not-has}
 use Rattle.record.proofs.ledger.Ledgers.next.Goals as goal
+
+-- the row that the test found
+row-whole : (c : Else-not-has) → WholeRow (length c.args.s.now) 5 c.args.self.rows
+row-whole c = whole _ _ _ c.has.ensures c.if-not-has.false-raw
 
 pub returns-then-not-has : goal.returns-then-not-has
 unfolding group_ledgers
@@ -14,23 +19,19 @@ returns-then-not-has c = rw (run_end (ledger_at _) _ _ _ c.has.ensures c.if-not-
 
 pub overflow_add-at : goal.overflow_add-at
 overflow_add-at c =
-    let row-whole : WholeRow (length c.args.s.now) 5 c.args.self.rows = whole _ _ _ c.has.ensures c.if-not-has.false-raw in
-    omega (arith, row-whole)
+    omega (arith, row-whole (goal.at.overflow_add-at c).Else-not-has)
 
 pub u16_at-n-requires : goal.u16_at-n-requires
 u16_at-n-requires c =
-    let row-whole : WholeRow (length c.args.s.now) 5 c.args.self.rows = whole _ _ _ c.has.ensures c.if-not-has.false-raw in
-    omega (arith, row-whole)
+    omega (arith, row-whole (goal.at.u16_at-n-requires c).Else-not-has)
 
 pub tag_at-requires : goal.tag_at-requires
 tag_at-requires c =
-    let row-whole : WholeRow (length c.args.s.now) 5 c.args.self.rows = whole _ _ _ c.has.ensures c.if-not-has.false-raw in
-    omega (arith, row-whole)
+    omega (arith, row-whole (goal.at.tag_at-requires c).Else-not-has)
 
 pub past-requires : goal.past-requires
 past-requires c =
-    let row-whole : WholeRow (length c.args.s.now) 5 c.args.self.rows = whole _ _ _ c.has.ensures c.if-not-has.false-raw in
-    omega (arith, row-whole)
+    omega (arith, row-whole (goal.at.past-requires c).Else-not-has)
 
 pub returns : goal.returns
 returns c =

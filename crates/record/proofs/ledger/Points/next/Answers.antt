@@ -4,30 +4,31 @@ use native.Mathlib.Omega.{arith}
 use lib.ListN.{length}
 use Rattle.format.specs.Rows.{point_at}
 use Rattle.record.proofs.RunLaws.{WholeRow, whole, run_end, run_more}
+use Rattle.record.proofs.ledger.Points.next.Goals.{Else-not-has}
 use Rattle.record.proofs.ledger.Points.next.Goals as goal
+
+-- the row that the test found
+row-whole : (c : Else-not-has) → WholeRow (length c.args.s.now) 6 c.args.self.0
+row-whole c = whole _ _ _ c.has.ensures c.if-not-has.false-raw
 
 pub returns-then-not-has : goal.returns-then-not-has
 returns-then-not-has c = run_end (point_at _) _ _ _ c.has.ensures c.if-not-has.true-raw
 
 pub u16_at-requires : goal.u16_at-requires
 u16_at-requires c =
-    let row-whole : WholeRow (length c.args.s.now) 6 c.args.self.0 = whole _ _ _ c.has.ensures c.if-not-has.false-raw in
-    omega (arith, row-whole)
+    omega (arith, row-whole (goal.at.u16_at-requires c).Else-not-has)
 
 pub overflow_add-at : goal.overflow_add-at
 overflow_add-at c =
-    let row-whole : WholeRow (length c.args.s.now) 6 c.args.self.0 = whole _ _ _ c.has.ensures c.if-not-has.false-raw in
-    omega (arith, row-whole)
+    omega (arith, row-whole (goal.at.overflow_add-at c).Else-not-has)
 
 pub u32_at-requires : goal.u32_at-requires
 u32_at-requires c =
-    let row-whole : WholeRow (length c.args.s.now) 6 c.args.self.0 = whole _ _ _ c.has.ensures c.if-not-has.false-raw in
-    omega (arith, row-whole)
+    omega (arith, row-whole (goal.at.u32_at-requires c).Else-not-has)
 
 pub past-requires : goal.past-requires
 past-requires c =
-    let row-whole : WholeRow (length c.args.s.now) 6 c.args.self.0 = whole _ _ _ c.has.ensures c.if-not-has.false-raw in
-    omega (arith, row-whole)
+    omega (arith, row-whole (goal.at.past-requires c).Else-not-has)
 
 pub returns : goal.returns
 unfolding point_at

@@ -6,16 +6,19 @@ use Rattle.rules.specs.Refusals.{chronicle_number, asked_tag_number, asked_date_
 use Rattle.rules.specs.Outcomes.{call_initial_on}
 use Rattle.resolver.proofs.ResolverAnswerLaws.{numbered, number-refused, initial-on-gives}
 use borrow.Author.Rules.{rules}
+use Rattle.resolver.proofs.forms.TagResolverDated.initial_at.Goals.{After-first_number-number}
 use Rattle.resolver.proofs.forms.TagResolverDated.initial_at.Goals as goal
+
+-- The first number that refuses.
+number : (c : After-first_number-number) → c.first_number-number.result ≡ first_of (chronicle_number c.args.nations.now c.args.entries.now ∷ asked_date_number c.args.self.day.0 ∷ asked_tag_number c.args.tag.0 ∷ [])
+number c = numbered _ _ _ _ _ _ _ c.asked_date_number.ensures c.asked_tag_number.ensures c.first_number-question.ensures c.chronicle_number.ensures c.first_number-number.ensures
 
 pub returns-then-number-ne0 : goal.returns-then-number-ne0
 unfolding call_initial_on
 returns-then-number-ne0 c =
-    let number : c.first_number-number.result ≡ first_of (chronicle_number c.args.nations.now c.args.entries.now ∷ asked_date_number c.args.self.day.0 ∷ asked_tag_number c.args.tag.0 ∷ []) = numbered _ _ _ _ _ _ _ c.asked_date_number.ensures c.asked_tag_number.ensures c.first_number-question.ensures c.chronicle_number.ensures c.first_number-number.ensures in
-    number-refused _ _ _ number (search rules)
+    number-refused _ _ _ (number (goal.at.returns-then-number-ne0 c).After-first_number-number) (search rules)
 
 pub returns : goal.returns
 returns c =
-    let number : c.first_number-number.result ≡ first_of (chronicle_number c.args.nations.now c.args.entries.now ∷ asked_date_number c.args.self.day.0 ∷ asked_tag_number c.args.tag.0 ∷ []) = numbered _ _ _ _ _ _ _ c.asked_date_number.ensures c.asked_tag_number.ensures c.first_number-question.ensures c.chronicle_number.ensures c.first_number-number.ensures in
     c.switched_answer.ensures
-    ∙ initial-on-gives c.args.nations.now c.args.entries.now _ _ (search rules) c.args.tag c.best_initial.ensures c.args.self.day number
+    ∙ initial-on-gives c.args.nations.now c.args.entries.now _ _ (search rules) c.args.tag c.best_initial.ensures c.args.self.day (number (goal.at.returns c).After-first_number-number)

@@ -6,18 +6,20 @@ use Rattle.rules.specs.Refusals.{chronicle_number, asked_tag_number, asked_date_
 use Rattle.rules.specs.Outcomes.{call_resolve_on}
 use Rattle.resolver.proofs.ResolverAnswerLaws.{numbered-three, number-refused, resolve-on-gives}
 use borrow.Author.Rules.{rules}
+use Rattle.resolver.proofs.forms.TagResolverDated.resolve_at.Goals.{After-first_number-number}
 use Rattle.resolver.proofs.forms.TagResolverDated.resolve_at.Goals as goal
+
+-- The first number that refuses.
+number : (c : After-first_number-number) → c.first_number-number.result ≡ first_of (chronicle_number c.args.nations.now c.args.entries.now ∷ asked_date_number c.args.self.day.0 ∷ asked_tag_number c.args.tag.0 ∷ asked_date_number c.args.date.0 ∷ [])
+number c = numbered-three _ _ _ _ _ _ _ _ _ _ c.asked_tag_number.ensures c.asked_date_number.ensures c.first_number-asked.ensures
+    c.chronicle_number.ensures c.asked_date_number-2.ensures c.first_number.ensures c.first_number-number.ensures
 
 pub returns-then-number-ne0 : goal.returns-then-number-ne0
 unfolding call_resolve_on
 returns-then-number-ne0 c =
-    let number : c.first_number-number.result ≡ first_of (chronicle_number c.args.nations.now c.args.entries.now ∷ asked_date_number c.args.self.day.0 ∷ asked_tag_number c.args.tag.0 ∷ asked_date_number c.args.date.0 ∷ []) = numbered-three _ _ _ _ _ _ _ _ _ _ c.asked_tag_number.ensures c.asked_date_number.ensures c.first_number-asked.ensures
-    c.chronicle_number.ensures c.asked_date_number-2.ensures c.first_number.ensures c.first_number-number.ensures in
-    number-refused _ _ _ number (search rules)
+    number-refused _ _ _ (number (goal.at.returns-then-number-ne0 c).After-first_number-number) (search rules)
 
 pub returns : goal.returns
 returns c =
-    let number : c.first_number-number.result ≡ first_of (chronicle_number c.args.nations.now c.args.entries.now ∷ asked_date_number c.args.self.day.0 ∷ asked_tag_number c.args.tag.0 ∷ asked_date_number c.args.date.0 ∷ []) = numbered-three _ _ _ _ _ _ _ _ _ _ c.asked_tag_number.ensures c.asked_date_number.ensures c.first_number-asked.ensures
-    c.chronicle_number.ensures c.asked_date_number-2.ensures c.first_number.ensures c.first_number-number.ensures in
     c.day_answer.ensures
-    ∙ resolve-on-gives c.args.nations.now c.args.entries.now _ _ (search rules) c.args.tag c.args.date c.best_claim.ensures c.args.self.day number
+    ∙ resolve-on-gives c.args.nations.now c.args.entries.now _ _ (search rules) c.args.tag c.args.date c.best_claim.ensures c.args.self.day (number (goal.at.returns c).After-first_number-number)

@@ -4,7 +4,12 @@ use native.Mathlib.Omega.{arith}
 use Rattle.spans.specs.SpanSteps.{running_in, spans_left}
 use Rattle.spans.proofs.SpanLaws.{spans_on, walk-ended, walk-on, spans-gone, spans-last, span-closed, span-runs}
 use borrow.Author.Rules.{rules}
+use Rattle.spans.proofs.walk.SpanWalk.next.Goals.{At-loop-entry}
 use Rattle.spans.proofs.walk.SpanWalk.next.Goals as goal
+
+-- What the walk has left, once it was seen not to have ended.
+on : (c : At-loop-entry) → spans_left c.args.entries.now c.args.current c.args.self ≡ spans_on c.args.entries.now c.args.current c.args.self.end (running_in c.loop-entry.running) c.loop-entry.entry
+on c = walk-on c.args.entries.now c.args.current c.args.self c.if-self.false ∙ c.loop-entry.invariant
 
 pub returns-then-self : goal.returns-then-self
 returns-then-self c =
@@ -19,8 +24,7 @@ overflow_add-entry c =
 
 pub returns-then-closes_one : goal.returns-then-closes_one
 returns-then-closes_one c =
-    let on : spans_left c.args.entries.now c.args.current c.args.self ≡ spans_on c.args.entries.now c.args.current c.args.self.end (running_in c.loop-entry.running) c.loop-entry.entry = walk-on c.args.entries.now c.args.current c.args.self c.if-self.false ∙ c.loop-entry.invariant in
-    on
+    (on (goal.at.returns-then-closes_one c).At-loop-entry)
     ∙ span-closed _ _ _ _ _ _ _ _ (search rules) c.entry_at-e.ensures c.behind-running.ensures (sym c.closes_one.ensures ∙ c.if-closes_one.true) _ c.closed-span.ensures
 
 pub loop-entry-preserved : goal.loop-entry-preserved
@@ -30,12 +34,10 @@ loop-entry-preserved c =
 
 pub returns-then-running : goal.returns-then-running
 returns-then-running c =
-    let on : spans_left c.args.entries.now c.args.current c.args.self ≡ spans_on c.args.entries.now c.args.current c.args.self.end (running_in c.loop-entry.running) c.loop-entry.entry = walk-on c.args.entries.now c.args.current c.args.self c.if-self.false ∙ c.loop-entry.invariant in
     let past : c.args.self.end ≤ c.loop-entry.entry = search rules in
-    on ∙ spans-gone _ _ _ _ _ past c.if-running.true
+    (on (goal.at.returns-then-running c).At-loop-entry) ∙ spans-gone _ _ _ _ _ past c.if-running.true
 
 pub returns : goal.returns
 returns c =
-    let on : spans_left c.args.entries.now c.args.current c.args.self ≡ spans_on c.args.entries.now c.args.current c.args.self.end (running_in c.loop-entry.running) c.loop-entry.entry = walk-on c.args.entries.now c.args.current c.args.self c.if-self.false ∙ c.loop-entry.invariant in
     let past : c.args.self.end ≤ c.loop-entry.entry = search rules in
-    on ∙ spans-last _ _ _ _ _ past c.if-running.false _ c.closed.ensures
+    (on (goal.at.returns c).At-loop-entry) ∙ spans-last _ _ _ _ _ past c.if-running.false _ c.closed.ensures
