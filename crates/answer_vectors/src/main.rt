@@ -4,7 +4,6 @@
 // 1 numbers each. Held to the record are its changes, days and nations.
 #![tactic(auto)]
 
-mod input;
 mod stored;
 
 ghost use Rattle.std.specs.Prelude.{◌≤◌, length};
@@ -13,6 +12,7 @@ use chronicle::{EventsOn, NationCounts, NationEvents, Owners};
 use record::Eu4Date;
 use std::fs::File;
 use std::io;
+use stored_input::read_full;
 
 // Whether the list goes on, how many days were asked for, and how many answers are wrong.
 #[derive(Clone, Copy)]
@@ -131,7 +131,7 @@ fn replay_day(file: &mut File, s: &[u8]) -> u64
     ensures { result ≤ 1 }
 {
     let mut day = [0u8; 12];
-    let got = input::read_full(file, &mut day);
+    let got = read_full(file, &mut day);
     if got != 12 {
         return 1;
     }
@@ -198,7 +198,7 @@ fn replay(file: &mut File, s: &mut [u8], bytes: &mut [u8]) -> Replayed
     ensures { (result.days ≤ 1000) × (result.wrong ≤ 1002) }
 {
     let mut head = [0u8; 28];
-    let got = input::read_full(file, &mut head);
+    let got = read_full(file, &mut head);
     if got == 0 {
         return Replayed {
             more: false,

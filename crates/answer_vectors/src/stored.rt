@@ -1,8 +1,8 @@
 // The stored list: numbers of 32 bits each, low byte first.
 ghost use Rattle.std.specs.Prelude.{◌<◌, ◌≤◌, length};
 
-use crate::input;
 use std::fs::File;
+use stored_input::read_full;
 
 // A byte as a number.
 fn wide(b: u8) -> u32
@@ -70,7 +70,7 @@ pub(crate) fn rest_of(head: &[u8]) -> usize
 pub(crate) fn read_exactly(file: &mut File, buf: &mut [u8], n: usize) -> bool
     requires { n ≤ length buf.old }
 {
-    let got = input::read_full(file, &mut buf[0..n]);
+    let got = read_full(file, &mut buf[0..n]);
     got == n
 }
 

@@ -16,7 +16,6 @@
 
 mod asking;
 mod booking;
-mod input;
 mod ledgers;
 mod playing;
 mod stored;
@@ -25,6 +24,7 @@ ghost use Rattle.std.specs.Prelude.{◌≤◌, ◌*◌, length};
 
 use std::fs::File;
 use std::io;
+use stored_input::read_full;
 
 // How many numbers a head has.
 const HEAD: usize = 10;
@@ -176,7 +176,7 @@ fn replay_record(file: &mut File, bytes: &mut [u8], words: &[u32]) -> Replayed
     ensures { (result.questions ≤ 4096) × (result.wrong ≤ 4097) × (result.noticed ≤ 4097) }
 {
     let n = stored::number(words, 9);
-    let got = input::read_full(file, &mut bytes[0..n]);
+    let got = read_full(file, &mut bytes[0..n]);
     if got != n {
         return broken();
     }

@@ -1,8 +1,8 @@
 // The stored list: numbers of 32 bits each, low byte first.
 ghost use Rattle.std.specs.Prelude.{◌≡◌, ◌+◌, ◌*◌, ◌<◌, ◌≤◌, length};
 
-use crate::input;
 use std::fs::File;
+use stored_input::read_full;
 
 // The most numbers that a vector has.
 const MOST: usize = 4096;
@@ -44,7 +44,7 @@ pub(crate) fn read_words(file: &mut File, bytes: &mut [u8], words: &mut [u32], n
     ensures words_len_unchanged { length words.new ≡ length words.old }
     ensures bytes_len_unchanged { length bytes.new ≡ length bytes.old }
 {
-    let got = input::read_full(file, &mut bytes[0..4 * n]);
+    let got = read_full(file, &mut bytes[0..4 * n]);
     if got != 4 * n {
         return false;
     }

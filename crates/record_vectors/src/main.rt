@@ -1,12 +1,11 @@
 // Replays the stored records of vectors.bin, each a length in 32 bits, its expected number and its bytes, and counts the wrong answers.
 #![tactic(auto)]
 
-mod input;
-
 ghost use Rattle.std.specs.Prelude.{◌<◌, ◌≤◌, length};
 
 use std::fs::File;
 use std::io;
+use stored_input::read_full;
 
 // Whether the list had another record, and 1 for a wrong answer.
 #[derive(Clone, Copy)]
@@ -37,7 +36,7 @@ fn replay(file: &mut File, buf: &mut [u8]) -> Replayed
     ensures { result.wrong ≤ 1 }
 {
     let mut head = [0u8; 5];
-    let got = input::read_full(file, &mut head);
+    let got = read_full(file, &mut head);
     if got == 0 {
         return Replayed {
             more: false,
@@ -45,7 +44,7 @@ fn replay(file: &mut File, buf: &mut [u8]) -> Replayed
         };
     }
     let len = length_of(&head);
-    let read = input::read_full(file, &mut buf[0..len]);
+    let read = read_full(file, &mut buf[0..len]);
     if read != len {
         return Replayed {
             more: true,

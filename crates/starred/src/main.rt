@@ -2,7 +2,6 @@
 // worked.atl is the worked record, one_slot.atl that of GBR's only slot.
 #![tactic(auto)]
 
-mod input;
 mod lines;
 
 ghost use Rattle.std.specs.Prelude.{◌≤◌, length};
@@ -11,6 +10,7 @@ use chronicle::NationEvents;
 use record::{CountryTag, Eu4Date};
 use std::fs::File;
 use std::io;
+use stored_input::read_full;
 
 // The tags of the cases.
 const ENG: u32 = 4542023;
@@ -22,7 +22,7 @@ fn read_record(rt: &HostRuntime, name: &str, s: &mut [u8]) -> usize
     ensures { result ≤ length s.new }
 {
     match File::open(rt, name) {
-        Ok(mut file) => input::read_full(&mut file, s),
+        Ok(mut file) => read_full(&mut file, s),
         Err(_) => 0,
     }
 }

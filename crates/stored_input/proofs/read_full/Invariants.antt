@@ -1,6 +1,6 @@
 -- What is filled lies within the buffer, of which each turn fills more.
 use Rattle.std.proofs.Common.{◌-◌, ◌≤◌, length}
-use Rattle.lent_vectors.proofs.input.read_full.Given as goal
+use Rattle.stored_input.proofs.read_full.Given as goal
 
 abbrev pub invariant-loop-done : goal.invariant-loop-done
 invariant-loop-done l = l.done ≤ length l.buf
