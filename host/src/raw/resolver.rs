@@ -9,7 +9,7 @@ use crate::Refusal;
 pub struct Chronicle<'a> {
     /// Initial, latest, stored, first entry, entry count.
     pub nations: &'a [u32],
-    /// Date, kind (0 switch, 1 Appeared, 2 Annexed), target or 0.
+    /// The day, what befell (a switch is 0, Appeared 1, Annexed 2), and a switch's target, else 0.
     pub entries: &'a [u32],
 }
 
