@@ -5,9 +5,7 @@
  *
  *     cc -Iinclude main.c -Ltarget/staticlib -lpage
  *
- * with gcc or clang, -lpage behind what calls it; c++ likewise. Beside memset and memcpy of the C library the archive needs __udivti3, the 128-bit
- * division of the compiler's run-time library. Both drivers link that by themselves; a link without it (-nodefaultlibs, or ld alone)
- * takes -lgcc behind -lpage, or clang's builtins archive.
+ * with gcc or clang, -lpage behind what calls it; c++ likewise. Of others the archive needs memset, memcpy and memmove of the C library alone.
  *
  * A slice is a pointer and then a length in elements; with length 0 the pointer is not followed and may be NULL. Any bytes and words may
  * be given, as long as the slices of one call do not overlap. No call keeps, allocates or frees anything.
@@ -167,9 +165,9 @@ enum chronicle_history {
  * data (a few KiB) in it. A thread that keeps more of its own adds that.
  */
 enum chronicle_stack {
-    CHRONICLE_STACK_CHECK = 72 * 1024,
+    CHRONICLE_STACK_CHECK = 96 * 1024,
     CHRONICLE_STACK_OWNERS = 1024 * 1024,   /* province_owners, events_on */
-    CHRONICLE_STACK_NATIONS = 1536 * 1024,  /* nation_events */
+    CHRONICLE_STACK_NATIONS = 1600 * 1024,  /* nation_events */
     CHRONICLE_STACK_RESOLVER = 32 * 1024,   /* its four forms */
     CHRONICLE_STACK_EACH = 1024 * 1024,     /* resolver_resolve_each */
     CHRONICLE_STACK_BOOKINGS = 1024 * 1024, /* war_participants */

@@ -1,15 +1,19 @@
 -- Drafts arranged: the words of all histories, and the outcome by case.
 use mathlib.Core.Path.{◌≡◌, refl, sym, ap, subst, ◌∙◌}
-use mathlib.Core.Bool.{Bool, true, false, cond, ◌&&◌, ◌||◌, not}
-use mathlib.Core.List.{List, [], ◌∷◌, ◌++◌, append-nil}
-use Prim.Native.Nat.{ℕ, ◌+◌, ◌-◌, ◌*◌, ◌<◌, ◌≤◌}
+use mathlib.Core.Bool.{Bool, true, false, ◌&&◌, ◌||◌, not}
+use mathlib.Core.List.{List, [], ◌∷◌, ◌++◌, map, append-nil}
+use Prim.Native.Nat.{ℕ, zero, suc, ◌+◌, ◌-◌, ◌*◌, ◌<◌, ◌≤◌}
 use native.Mathlib.Omega.{arith}
-use borrow.Author.Tests.{le-leb, lt-ltb, le-ltb, leb-true, leb-false, ltb-true, ltb-false, eqb-true, not-true, not-false}
+use borrow.Author.Tests.{le-leb, lt-ltb, le-ltb, leb-true, leb-false, ltb-false, eqb-true, not-true, not-false}
 use lib.Dec.{leb, ltb, eqb}
-use lib.ListN.{length, take, drop, set, length-append, length-take, length-drop, length-set}
-use lib.Seq.{take-length}
+use lib.ListN.{length, take, drop, set, length-append, length-take, length-set}
+use Rattle.std.specs.Prelude as code
+use Rattle.std.specs.Prelude.{None, is_some}
+use Rattle.std.specs.Int.{from_bool}
+use Rattle.std.specs.List.{last_or as code-last}
+use Rattle.std.specs.List.{list_any}
 use Rattle.lists.specs.Lists.{All, all_of, keep, last_or, sum_of, join_of}
-use Rattle.lists.proofs.BoolLaws.{cases, and_left, and_right}
+use Rattle.lists.proofs.BoolLaws.{cases, and_left, and_right, neither}
 use Rattle.lists.proofs.EachLaws.{all_of-all}
 use Rattle.lists.proofs.ListLaws.{all_map}
 use Rattle.lists.proofs.FillLaws.{Filling, filling-new, filling-more, filling-behind, filling-written}
@@ -19,12 +23,16 @@ use Rattle.rules.specs.PlayerOutcomes.{HistoryCells, both_fit, both_written}
 use Rattle.rules.specs.HistoryRows.{HistoryRow, history_row_of, history_row_words}
 use Rattle.rules.proofs.LentLaws.{outcome-refused, outcome-gives}
 use Rattle.history_rows.proofs.PutLaws.{length-rows}
-use Rattle.arranging.specs.Arranging.{leads_within, is_ready, arranged_outcome, has_names, is_popped, histories_from, names_at, kept_words, kept_of, draft_words, ArrangeReady, drafted_cells, drafted_counts, drafted_outcome}
+use Rattle.history_rows.specs.declared.rows.History.{History}
+use Rattle.history_rows.specs.Cases.{history_told}
+use Rattle.arranging.specs.Arranging.{leads_within, is_ready, arranged_outcome, is_popped, histories_from, names_at, kept_words, kept_of, draft_words, Vanishes, HistoriesReady, ArrangeReady, drafted_cells, drafted_counts, drafted_outcome}
+use Rattle.arranging.specs.Drafts.{is_played, is_leftover}
+use Rattle.arranging.proofs.DraftLaws.{any-sole, last-held}
 use Rattle.arranging.proofs.ArrangeStepLaws.{length-finished, length-all-names, sum-few}
 
 -- ## Two parts, one behind the other
 
-pub both-parts : (a b before first ys : List ℕ) (k : ℕ) → k ≡ length a → length a + length b ≤ length before → first ≡ written a before
+both-parts : (a b before first ys : List ℕ) (k : ℕ) → k ≡ length a → length a + length b ≤ length before → first ≡ written a before
     → ys ≡ written b (take (length first - k) (drop k first))
     → take k first ++ (ys ++ drop (length first - k) (drop k first)) ≡ written (a ++ b) before
 both-parts a b before first ys k e room f w =
@@ -36,15 +44,9 @@ both-parts a b before first ys k e room f w =
     let two = filling-behind _ _ _ _ _ one b [] _ (sym (append-nil b)) (behind first b ys k inside w) in
     filling-written _ _ _ _ _ two refl
 
-pub set-written : (cells before : List ℕ) (v : ℕ) → 0 < length cells → set (written cells before) 0 v ≡ written (set cells 0 v) before
+set-written : (cells before : List ℕ) (v : ℕ) → 0 < length cells → set (written cells before) 0 v ≡ written (set cells 0 v) before
 set-written [] before v h = absurd (omega arith)
 set-written (x ∷ cells) before v h = refl
-
-pub take_all : {A : Type 0} (n : ℕ) (xs : List A) → n ≡ length xs → take n xs ≡ xs
-take_all n xs e = rw e (take-length xs)
-
-pub length-written : (cells before : List ℕ) → length cells ≤ length before → length (written cells before) ≡ length before
-length-written cells before h = omega (arith, length-append cells (drop (length cells) before), length-drop (length cells) before)
 
 -- ## Names of each kind
 
@@ -52,69 +54,73 @@ pub sum-part : (p : HistoryRow → Bool) (ds : List HistoryRow) → sum_of (λ d
 sum-part p [] = omega arith
 sum-part p (d ∷ ds) = cases (p d) (λ h. simp h (omega (arith, sum-part p ds))) (λ h. simp h (omega (arith, sum-part p ds)))
 
-pub sum-idle : (ds : List HistoryRow) → sum_of (λ d. d.count) (keep (has_names false) ds) ≡ 0
-unfolding has_names
+pub sum-idle : (ds : List HistoryRow) → sum_of (λ d. d.count) (keep is_leftover ds) ≡ 0
 sum-idle [] = refl
 sum-idle (d ∷ ds) =
     cases (ltb 0 d.count)
     (λ h. simp h (sum-idle ds))
     (λ h. simp h (omega (arith, ltb-false 0 d.count h, sum-idle ds)))
 
+pub sum-taken : (n : ℕ) (ds : List HistoryRow) → sum_of (λ d. d.count) (take n ds) ≤ sum_of (λ d. d.count) ds
+sum-taken zero ds = omega arith
+sum-taken (suc n) [] = omega arith
+sum-taken (suc n) (d ∷ ds) = omega (arith, sum-taken n ds)
+
 -- ## The words of all histories
 
-length-kept : (ds : List HistoryRow) (kept : ℕ) → kept ≤ length (keep (has_names false) ds)
-    → length (kept_words ds kept) ≡ 7 * (length (keep (has_names true) ds) + kept)
+length-kept : (ds : List HistoryRow) (kept : ℕ) → kept ≤ length (keep is_leftover ds)
+    → length (kept_words ds kept) ≡ 7 * (length (keep is_played ds) + kept)
 length-kept ds kept h =
-    let ps : List HistoryRow = histories_from 0 (keep (has_names true) ds) in
-    let ls : List HistoryRow = take kept (keep (has_names false) ds) in
+    let ps : List HistoryRow = histories_from 0 (keep is_played ds) in
+    let ls : List HistoryRow = take kept (keep is_leftover ds) in
     let total : ℕ = sum_of (λ d. d.count) ds in
     omega (
       arith,
       length-append (join_of history_row_words ps) (join_of history_row_words (histories_from total ls)),
       length-rows ps,
-      length-finished 0 (keep (has_names true) ds),
+      length-finished 0 (keep is_played ds),
       length-rows (histories_from total ls),
       length-finished total ls,
-      length-take kept (keep (has_names false) ds),
+      length-take kept (keep is_leftover ds),
     )
 
-pub length-drafted : (popped : Bool) (ds : List HistoryRow) → length (draft_words popped ds) ≡ 7 * (length (keep (has_names true) ds) + kept_of popped ds)
+pub length-drafted : (popped : Bool) (ds : List HistoryRow) → length (draft_words popped ds) ≡ 7 * (length (keep is_played ds) + kept_of popped ds)
 length-drafted true ds = length-set (kept_words ds (kept_of true ds)) 0 _ ∙ length-kept ds (kept_of true ds) (omega arith)
 length-drafted false ds = length-kept ds (kept_of false ds) (omega arith)
 
-module _ (ds : List HistoryRow) (popped : Bool) (played kept : ℕ) (p : played ≡ length (keep (has_names true) ds)) (k : kept ≡ kept_of popped ds) where
+-- The first pass has written so many words.
+abbrev pub Fronted : List HistoryRow → List ℕ → ℕ → List ℕ → Type 0
+Fronted ds before at now = (at ≡ 7 * length (keep is_played ds)) × (now ≡ written (join_of history_row_words (histories_from 0 (keep is_played ds))) before)
+
+module _ (ds : List HistoryRow) (popped : Bool) (kept : ℕ) (k : kept ≡ kept_of popped ds) where
   abbrev front : List ℕ
-  front = join_of history_row_words (histories_from 0 (keep (has_names true) ds))
+  front = join_of history_row_words (histories_from 0 (keep is_played ds))
 
   abbrev back : List ℕ
-  back = join_of history_row_words (histories_from (sum_of (λ d. d.count) ds) (take kept (keep (has_names false) ds)))
+  back = join_of history_row_words (histories_from (sum_of (λ d. d.count) ds) (take kept (keep is_leftover ds)))
 
-  front-wide : 7 * played ≡ length front
-  front-wide = omega (arith, length-rows (histories_from 0 (keep (has_names true) ds)), length-finished 0 (keep (has_names true) ds))
+  front-wide : length front ≡ 7 * length (keep is_played ds)
+  front-wide = omega (arith, length-rows (histories_from 0 (keep is_played ds)), length-finished 0 (keep is_played ds))
 
   back-wide : length back ≤ 7 * kept
   back-wide =
-      let ls : List HistoryRow = take kept (keep (has_names false) ds) in
-      omega (arith, length-rows (histories_from (sum_of (λ d. d.count) ds) ls), length-finished (sum_of (λ d. d.count) ds) ls, length-take kept (keep (has_names false) ds))
+      let ls : List HistoryRow = take kept (keep is_leftover ds) in
+      omega (arith, length-rows (histories_from (sum_of (λ d. d.count) ds) ls), length-finished (sum_of (λ d. d.count) ds) ls, length-take kept (keep is_leftover ds))
 
   -- Both passes have written.
-  pub kept-written : (names : ℕ) (before first ys : List ℕ) → names ≡ sum_of (λ d. d.count) ds → 7 * (played + kept) ≤ length before
-      → first ≡ written (join_of history_row_words (histories_from 0 (take played (keep (has_names true) ds)))) before
-      → ys ≡ written (join_of history_row_words (histories_from names (take kept (keep (has_names false) ds)))) (take (length first - 7 * played) (drop (7 * played) first))
-      → take (7 * played) first ++ (ys ++ drop (length first - 7 * played) (drop (7 * played) first)) ≡ written (kept_words ds kept) before
-  kept-written names before first ys q room f w =
-      let whole : take played (keep (has_names true) ds) ≡ keep (has_names true) ds = take_all played (keep (has_names true) ds) p in
-      both-parts front back before first ys (7 * played) front-wide (omega (arith, front-wide, back-wide)) (rw whole at f) (rw q at w)
-
-  pub kept-long : 0 < played → (before : List ℕ) → 0 < length (written (kept_words ds kept) before)
-  kept-long some before = omega (arith, length-append (kept_words ds kept) (drop (length (kept_words ds kept)) before), length-append front back, front-wide)
+  pub kept-written : (names at : ℕ) (before first ys : List ℕ) → names ≡ sum_of (λ d. d.count) ds → 7 * (length (keep is_played ds) + kept) ≤ length before
+      → Fronted ds before at first
+      → ys ≡ written (join_of history_row_words (histories_from names (take kept (keep is_leftover ds)))) (take (length first - at) (drop at first))
+      → take at first ++ (ys ++ drop (length first - at) (drop at first)) ≡ written (kept_words ds kept) before
+  kept-written names at before first ys q room f w =
+      both-parts front back before first ys at (f.0 ∙ sym front-wide) (omega (arith, front-wide, back-wide)) f.1 (rw q at w)
 
   pub drafted-plain : popped ≡ false → (before out : List ℕ) → out ≡ written (kept_words ds kept) before → out ≡ written (draft_words popped ds) before
   drafted-plain e before out f =
-      let q : kept ≡ length (keep (has_names false) ds) = k ∙ ap (λ (b : Bool). kept_of b ds) e in
+      let q : kept ≡ length (keep is_leftover ds) = k ∙ ap (λ (b : Bool). kept_of b ds) e in
       rw e (f ∙ ap (λ (n : ℕ). written (kept_words ds n) before) q)
 
-  pub drafted-popped : popped ≡ true → 0 < played → (before out : List ℕ) (v : ℕ) → v ≡ (last_or (history_row_of []) (keep (has_names false) ds)).initial.0
+  pub drafted-popped : popped ≡ true → 0 < length (keep is_played ds) → (before out : List ℕ) (v : ℕ) → v ≡ (last_or (history_row_of []) (keep is_leftover ds)).initial.0
       → out ≡ written (kept_words ds kept) before → set out 0 v ≡ written (draft_words popped ds) before
   drafted-popped e some before out v w f =
       let q : kept ≡ kept_of true ds = k ∙ ap (λ (b : Bool). kept_of b ds) e in
@@ -125,6 +131,34 @@ module _ (ds : List HistoryRow) (popped : Bool) (played kept : ℕ) (p : played 
       ∙ ap (λ (n : ℕ). written (set (kept_words ds n) 0 v) before) q
       ∙ ap (λ (x : ℕ). written (set (kept_words ds (kept_of true ds)) 0 x) before) w)
 
+-- ## The leftover that vanishes
+
+module _ (ironman : Bool) (ds : List HistoryRow) (played : ℕ) (released : Bool) (p : played ≡ length (keep is_played ds))
+    (r : released ≡ list_any (λ d. ltb 1 d.human) (keep is_played ds)) where
+  popped-tested : is_popped ironman ds ≡ (ironman && eqb played 1 && released && ltb 0 (length (keep is_leftover ds)))
+  popped-tested =
+      let some : Bool = ltb 0 (length (keep is_leftover ds)) in
+      rw (p, r)
+      (sym (any-sole (λ (d : HistoryRow). ltb 1 d.human) ironman some (history_row_of []) (keep is_played ds))
+      ∙ go (ironman && eqb (length (keep is_played ds)) 1) some (list_any (λ d. ltb 1 d.human) (keep is_played ds)))
+    where
+      go : (a b c : Bool) → (a && b && c) ≡ (a && c && b)
+      go false b c = refl
+      go true true true = refl
+      go true true false = refl
+      go true false true = refl
+      go true false false = refl
+
+  pub vanishes-none : (ironman && eqb played 1 && released) ≡ false → Vanishes ironman ds None
+  vanishes-none h = record { popped = sym (popped-tested ∙ rw h refl); last = tt }
+
+  pub vanishes-last : (ironman && eqb played 1 && released) ≡ true → (xs : List History) → map history_told xs ≡ keep is_leftover ds
+      → (v : code.Option History) → v ≡ code-last None xs → Vanishes ironman ds v
+  vanishes-last h xs m v e =
+      let held = last-held xs in
+      let told = rw m at held in
+      rw e (record { popped = told.0 ∙ sym (popped-tested ∙ rw h refl); last = told.1 })
+
 -- ## The outcome
 
 pub total-few : (keys : List ℕ) (ds : List HistoryRow) → ArrangeReady ds keys → sum_of (λ d. d.count) ds ≤ 2000000
@@ -132,27 +166,40 @@ total-few keys ds a =
     let each = all_map {Q = λ d. d.first + d.count ≤ 1000} (λ d h. omega (arith, a.short)) ds a.inside in
     omega (arith, sum-few 1000 ds each, a.few)
 
-pub kept_less : (popped : Bool) (idle kept : ℕ) → kept ≡ cond popped (idle - 1) idle → kept ≤ idle
-kept_less true idle kept e = omega arith
-kept_less false idle kept e = omega arith
-
-pub popped-some : (ironman : Bool) (ds : List HistoryRow) → is_popped ironman ds ≡ true
-    → (0 < length (keep (has_names true) ds)) × (0 < length (keep (has_names false) ds))
+popped-some : (ironman : Bool) (ds : List HistoryRow) → is_popped ironman ds ≡ true → 0 < length (keep is_played ds)
 popped-some ironman ds h =
-    let a = and_left (ironman && eqb (length (keep (has_names true) ds)) 1 && ltb 0 (length (keep (has_names false) ds))) _ h in
-    let b = and_left (ironman && eqb (length (keep (has_names true) ds)) 1) _ a in
-    let one : length (keep (has_names true) ds) ≡ 1 = eqb-true (length (keep (has_names true) ds)) 1 (and_right ironman _ b) in
-    (omega arith, ltb-true 0 (length (keep (has_names false) ds)) (and_right (ironman && eqb (length (keep (has_names true) ds)) 1) _ a))
+    let a = and_left (ironman && eqb (length (keep is_played ds)) 1 && ltb 0 (length (keep is_leftover ds))) _ h in
+    let b = and_left (ironman && eqb (length (keep is_played ds)) 1) _ a in
+    let one : length (keep is_played ds) ≡ 1 = eqb-true (length (keep is_played ds)) 1 (and_right ironman _ b) in
+    omega arith
 
-module _ (ironman : Bool) (ds : List HistoryRow) (keys : List ℕ) (inside : All (λ d. d.first + d.count ≤ length keys) ds) (before : HistoryCells)
-    (popped : Bool) (played idle kept n total : ℕ) (e : popped ≡ is_popped ironman ds) (p : played ≡ length (keep (has_names true) ds))
-    (i : idle ≡ length (keep (has_names false) ds)) (k : kept ≡ cond popped (idle - 1) idle) (m : n ≡ played + kept)
-    (t : total ≡ sum_of (λ d. d.count) ds) where
-  pub kept-told : kept ≡ kept_of popped ds
-  kept-told = k ∙ rw i
+-- One leftover less stays where one vanishes.
+kept-of : (popped : Bool) (ds : List HistoryRow) → length (keep is_leftover ds) - from_bool popped ≡ kept_of popped ds
+kept-of true ds = refl
+kept-of false ds = omega arith
 
-  pub counted-told : n ≡ length (keep (has_names true) ds) + kept_of popped ds
-  counted-told = omega (arith, kept-told)
+-- What the code counts before it writes.
+pub record Counted (ironman : Bool) (ds : List HistoryRow) (v : code.Option History) (played kept total : ℕ) : Type 0 where
+  pub vanishes : Vanishes ironman ds v
+  pub named : played ≡ length (keep is_played ds)
+  pub left : kept ≡ kept_of (is_some v) ds
+  pub names : total ≡ sum_of (λ d. d.count) ds
+
+module _ (ironman : Bool) (ds : List HistoryRow) (v : code.Option History) (played leftovers fewer kept total : ℕ) where
+  pub counted : Vanishes ironman ds v → played ≡ length (keep is_played ds) → leftovers ≡ length (keep is_leftover ds) → fewer ≡ from_bool (is_some v)
+      → kept ≡ leftovers - fewer → total ≡ sum_of (λ d. d.count) ds → Counted ironman ds v played kept total
+  counted w p l f k t = record { vanishes = w; named = p; left = k ∙ rw (l, f) (kept-of (is_some v) ds); names = t }
+
+module _ (ironman : Bool) (ds : List HistoryRow) (keys : List ℕ) (ready : ArrangeReady ds keys) (before : HistoryCells)
+    (v : code.Option History) (played kept total : ℕ) (c : Counted ironman ds v played kept total) where
+  abbrev popped : Bool
+  popped = is_some v
+
+  abbrev n : ℕ
+  n = played + kept
+
+  counted-told : n ≡ length (keep is_played ds) + kept_of popped ds
+  counted-told = omega (arith, c.named, c.left)
 
   cells : HistoryCells
   cells = drafted_cells popped ds keys
@@ -161,7 +208,7 @@ module _ (ironman : Bool) (ds : List HistoryRow) (keys : List ℕ) (inside : All
   rows-wide = length-drafted popped ds ∙ ap (λ (x : ℕ). 7 * x) (sym counted-told)
 
   names-wide : length (join_of (names_at keys) ds) ≡ total
-  names-wide = length-all-names keys ds inside ∙ sym t
+  names-wide = length-all-names keys ds ready.inside ∙ sym c.names
 
   -- The test of the room, as the code makes it.
   room-told : (ltb (length before.rows) (7 * n) || ltb (length before.names) total) ≡ not (both_fit cells before)
@@ -176,12 +223,25 @@ module _ (ironman : Bool) (ds : List HistoryRow) (keys : List ℕ) (inside : All
           (λ g. simp (h, g, le-ltb b a (leb-true a b h), lt-ltb d c (leb-false c d g))))
           (λ h. simp (h, lt-ltb b a (leb-false a b h)))
 
+  pub histories-ready : (ltb (length before.rows) (7 * n) || ltb (length before.names) total) ≡ false → HistoriesReady ds v kept total before.rows
+  histories-ready h =
+      let room = ltb-false (length before.rows) (7 * n) (neither (ltb (length before.rows) (7 * n)) (ltb (length before.names) total) h).0 in
+      record {
+        left = c.left;
+        last = c.vanishes.last;
+        named = c.names;
+        few = omega (arith, total-few keys ds ready, c.names);
+        many = ready.few;
+        sole = λ e. popped-some ironman ds (sym c.vanishes.popped ∙ e);
+        room = omega (arith, room, c.named);
+      }
+
   pub arranged-short : (ltb (length before.rows) (7 * n) || ltb (length before.names) total) ≡ true
       → record { answer = refused 10; memory = before } ≡ drafted_outcome ironman ds keys before
   unfolding cells
   arranged-short h =
       let short : both_fit cells before ≡ false = not-true (both_fit cells before) (sym room-told ∙ h) in
-      sym (rw (← e, short) (outcome-refused 10 (drafted_counts popped ds) (both_written cells before) before (omega arith)))
+      sym (rw (← c.vanishes.popped, short) (outcome-refused 10 (drafted_counts popped ds) (both_written cells before) before (omega arith)))
 
   pub arranged-rows : (ltb (length before.rows) (7 * n) || ltb (length before.names) total) ≡ false → (rows names : List ℕ)
       → rows ≡ written (draft_words popped ds) before.rows → names ≡ written (join_of (names_at keys) ds) before.names
@@ -189,13 +249,13 @@ module _ (ironman : Bool) (ds : List HistoryRow) (keys : List ℕ) (inside : All
   unfolding cells
   arranged-rows h rows names f g =
       let room : both_fit cells before ≡ true = not-false (both_fit cells before) (sym room-told ∙ h) in
-      sym (rw (← e, room) (rw (counted-told, t, f, g) (outcome-gives 0 (drafted_counts popped ds) (both_written cells before) before refl)))
+      sym (rw (← c.vanishes.popped, room) (rw (counted-told, c.names, f, g) (outcome-gives 0 (drafted_counts popped ds) (both_written cells before) before refl)))
 
 -- ## Any drafts
 
 module _ (ds : List HistoryRow) (keys : List ℕ) where
-  pub ready-tested : is_ready ds keys ≡ true → ArrangeReady ds keys
-  ready-tested h =
+  pub ready_tested : is_ready ds keys ≡ true → ArrangeReady ds keys
+  ready_tested h =
       let sized = and_left (leb (length ds) 2000 && leb (length keys) 1000) (all_of (leads_within (length keys)) ds) h in
       let each = all_of-all (leads_within (length keys)) ds (and_right (leb (length ds) 2000 && leb (length keys) 1000) (all_of (leads_within (length keys)) ds) h) in
       record {
@@ -211,12 +271,5 @@ module _ (ds : List HistoryRow) (keys : List ℕ) where
       go [] b = refl
       go (x ∷ xs) b = rw (le-leb (x.first + x.count) (length keys) b.0) (go xs b.1)
 
-  module _ (ironman : Bool) (before : HistoryCells) where
-    pub arranged-refused : is_ready ds keys ≡ false → record { answer = refused 11; memory = before } ≡ arranged_outcome ironman ds keys before
-    arranged-refused h = rw h
-
-    pub arranged-tested : is_ready ds keys ≡ true → drafted_outcome ironman ds keys before ≡ arranged_outcome ironman ds keys before
-    arranged-tested h = rw h
-
-    pub arranged-ready : ArrangeReady ds keys → arranged_outcome ironman ds keys before ≡ drafted_outcome ironman ds keys before
-    arranged-ready a = rw (tested-ready a)
+  pub arranged-ready : (ironman : Bool) (before : HistoryCells) → ArrangeReady ds keys → arranged_outcome ironman ds keys before ≡ drafted_outcome ironman ds keys before
+  arranged-ready ironman before a = rw (tested-ready a)

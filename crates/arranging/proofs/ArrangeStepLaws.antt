@@ -1,33 +1,18 @@
 -- Drafts of one kind and names, one by one.
-use mathlib.Core.Path.{◌≡◌, refl, ap, subst, ◌∙◌}
-use mathlib.Core.Bool.{Bool, true, false, ◌&&◌, not}
-use mathlib.Core.List.{List, [], ◌∷◌, ◌++◌, map}
+use mathlib.Core.Path.{◌≡◌, refl, sym, ap, subst, ◌∙◌}
+use mathlib.Core.List.{List, [], ◌∷◌, ◌++◌, map, append-nil}
 use Prim.Native.Nat.{ℕ, zero, suc, ◌+◌, ◌-◌, ◌*◌, ◌<◌, ◌≤◌}
 use native.Mathlib.Omega.{arith}
-use lib.Dec.{ltb, eqb}
-use lib.ListN.{length, take, drop, length-append, length-take, length-drop, length-map}
-use Rattle.lists.specs.Lists.{All, keep, last_or, sum_of, join_of}
-use Rattle.lists.proofs.ListLaws.{all_take}
-use Rattle.lists.proofs.FillLaws.{Filling, filling-new, filling-behind}
+use lib.ListN.{length, take, drop, get_or, length-append, length-take, length-drop, length-map}
+use Rattle.lists.specs.Lists.{All, sum_of, join_of}
+use Rattle.lists.proofs.FillLaws.{Filling, filling-new, filling-behind, filling-written}
 use Rattle.lists.proofs.WriteLaws.{behind}
 use Rattle.rules.specs.Lent.{written}
-use Rattle.rules.specs.HistoryRows.{HistoryRow, history_row_of, history_row_words}
-use Rattle.history_rows.proofs.PutLaws.{length-rows}
-use Rattle.arranging.specs.Arranging.{has_names, is_popped, history_from, histories_from, name_in, names_at}
-
-module _ (named : Bool) (d : HistoryRow) where
-  pub named-true : named ≡ true → ltb 0 d.count ≡ has_names named d
-  unfolding has_names
-  named-true e = rw e
-
-  pub named-false : named ≡ false → not (ltb 0 d.count) ≡ has_names named d
-  unfolding has_names
-  named-false e = rw e
-
-pub popped-told : (ironman : Bool) (ds : List HistoryRow) (played idle : ℕ) (sole : HistoryRow) → played ≡ length (keep (has_names true) ds) → idle ≡ length (keep (has_names false) ds)
-    → sole ≡ last_or (history_row_of []) (keep (has_names true) ds)
-    → (ironman && eqb played 1 && ltb 0 idle && ltb 1 sole.human) ≡ is_popped ironman ds
-popped-told ironman ds played idle sole p q r = rw (p, q, r)
+use Rattle.rules.specs.HistoryRows.{HistoryRow, history_row_words}
+use Rattle.history_rows.specs.HistoryAt.{history_put}
+use Rattle.history_rows.proofs.PutLaws.{row_more}
+use Rattle.arranging.proofs.DraftLaws.{Placed}
+use Rattle.arranging.specs.Arranging.{history_from, histories_from, name_in, names_at, WriteReady}
 
 -- ## Histories of drafts
 
@@ -36,38 +21,63 @@ unfolding histories_from
 length-finished first [] = refl
 length-finished first (d ∷ ds) = ap suc (length-finished (first + d.count) ds)
 
--- The words of so many of the drafts left, of n in all.
-abbrev pub words_to_come : ℕ → ℕ → ℕ → List HistoryRow → List ℕ
-words_to_come first n k left = join_of history_row_words (histories_from first (take (n - k) left))
+pub sum-front : (all : List HistoryRow) (n : ℕ) (d : HistoryRow) → n < length all → d ≡ get_or all n d
+    → sum_of (λ x. x.count) (take n all) + d.count ≤ sum_of (λ x. x.count) all
+sum-front [] n d h e = absurd (omega arith)
+sum-front (x ∷ xs) zero d h e = omega (arith, ap (λ (r : HistoryRow). r.count) e)
+sum-front (x ∷ xs) (suc n) d h e = omega (arith, sum-front xs n d (omega arith) e)
 
-pub length-words : (first n : ℕ) (left : List HistoryRow) → length (join_of history_row_words (histories_from first (take n left))) ≤ 7 * n
-length-words first n left =
-    omega (arith, length-rows (histories_from first (take n left)), length-finished first (take n left), length-take n left)
+-- The histories of these drafts stand at the front: so many words, and so many names are before the next.
+pub record Wrote (ds : List HistoryRow) (names : ℕ) (before : List ℕ) (first at : ℕ) (now : List ℕ) : Type 0 where
+  pub passed : at ≡ 7 * length ds
+  pub named : first ≡ names + sum_of (λ d. d.count) ds
+  pub cells : Filling (join_of history_row_words (histories_from names ds)) [] before (7 * length ds) now
 
-pub words-new : (first n : ℕ) (out : List ℕ) (ds : List HistoryRow) → 7 * n ≤ length out
-    → Filling (join_of history_row_words (histories_from first (take n ds))) (words_to_come first n 0 ds) out (7 * 0) out
-words-new first n out ds h =
-    let z : n - 0 ≡ n = omega arith in
-    rw z (filling-new (join_of history_row_words (histories_from first (take n ds))) out (omega (arith, length-words first n ds)))
-
-pub words-next : (first n k : ℕ) {left : List HistoryRow} (d : HistoryRow) (rest : List HistoryRow) → k < n → left ≡ d ∷ rest
-    → words_to_come first n k left ≡ history_row_words (history_from d first) ++ words_to_come (first + d.count) n (k + 1) rest
+pub wrote-none : (names : ℕ) (before : List ℕ) → Wrote [] names before names 0 before
 unfolding histories_from
-words-next first n k d rest h e =
-    let z : n - k ≡ suc (n - (k + 1)) = omega arith in
-    rw (e, z) refl
+wrote-none names before = record { passed = refl; named = omega arith; cells = filling-new [] before (omega arith) }
 
-pub words-none : (first n k : ℕ) {left : List HistoryRow} → left ≡ [] → words_to_come first n k left ≡ []
+rows-behind : (ds : List HistoryRow) (names : ℕ) (d : HistoryRow)
+    → join_of history_row_words (histories_from names (ds ++ (d ∷ [])))
+    ≡ join_of history_row_words (histories_from names ds) ++ history_row_words (history_from d (names + sum_of (λ x. x.count) ds))
 unfolding histories_from
-words-none first n k e = rw e (go (n - k))
-  where
-    go : (m : ℕ) → join_of history_row_words (histories_from first (take m [])) ≡ []
-    go zero = refl
-    go (suc m) = refl
+rows-behind [] names d = let z : names + 0 ≡ names = omega arith in rw z refl
+rows-behind (x ∷ ds) names d =
+    let z : names + x.count + sum_of (λ y. y.count) ds ≡ names + (x.count + sum_of (λ y. y.count) ds) = omega arith in
+    rw (rows-behind ds (names + x.count) d, z) refl
 
-pub words-done : (first n k : ℕ) (left : List HistoryRow) → n ≤ k → words_to_come first n k left ≡ []
-unfolding histories_from
-words-done first n k left h = let z : n - k ≡ 0 = omega arith in rw z refl
+sum-behind : (ds : List HistoryRow) (d : HistoryRow) → sum_of (λ x. x.count) (ds ++ (d ∷ [])) ≡ sum_of (λ x. x.count) ds + d.count
+sum-behind [] d = omega arith
+sum-behind (x ∷ ds) d = omega (arith, sum-behind ds d)
+
+filling-grown : (all row before now : List ℕ) (k : ℕ) → Filling all [] before k now → k + length row ≤ length before → Filling (all ++ row) row before k now
+filling-grown all row before now k f h =
+    record { front = ap (λ (l : List ℕ). l ++ row) (sym (append-nil (take k now)) ∙ f.front); back = f.back; long = f.long; fits = h }
+
+module _ (all ds : List HistoryRow) (names : ℕ) (before now : List ℕ) (first at : ℕ) (w : Wrote ds names before first at now) (d : HistoryRow)
+    (ready : WriteReady all names before) (p : Placed all ds d) where
+  pub next_named : first + d.count ≤ 4294967295
+  next_named = omega (arith, w.named, ready.few, ap (sum_of (λ (x : HistoryRow). x.count)) p.front, sum-front all (length ds) d p.inside p.here)
+
+  -- One draft further.
+  pub next-wrote : (x : HistoryRow) (ys : List ℕ) → x ≡ history_from d first → ys ≡ history_put x (take (length now - at) (drop at now))
+      → Wrote (ds ++ (d ∷ [])) names before (first + d.count) (at + 7) (take at now ++ (ys ++ drop (length now - at) (drop at now)))
+  next-wrote x ys q put =
+      let words : List ℕ = join_of history_row_words (histories_from names ds) in
+      let row : HistoryRow = history_from d (names + sum_of (λ y. y.count) ds) in
+      let grown = filling-grown words (history_row_words row) before now (7 * length ds) w.cells (omega (arith, ready.room, p.inside)) in
+      let more = row_more _ _ [] before now ys (length ds) row grown (sym (append-nil (history_row_words row))) x (q ∙ ap (history_from d) w.named) (rw w.passed at put) in
+      let size : length (ds ++ (d ∷ [])) ≡ length ds + 1 = length-append ds (d ∷ []) in
+      record {
+        passed = omega (arith, w.passed, size);
+        named = omega (arith, w.named, sum-behind ds d);
+        cells = rw (rows-behind ds names d, size, w.passed) more;
+      }
+
+-- All drafts were passed.
+pub wrote-all : (ds all : List HistoryRow) (names : ℕ) (before now : List ℕ) (first at : ℕ) → Wrote ds names before first at now → ds ≡ all
+    → (at ≡ 7 * length all) × (now ≡ written (join_of history_row_words (histories_from names all)) before)
+wrote-all ds all names before now first at w e = rw (← e) (w.passed, filling-written _ _ _ _ _ w.cells refl)
 
 -- ## Names
 
@@ -102,9 +112,3 @@ module _ (all before now ys keys : List ℕ) (k : ℕ) (left : List HistoryRow) 
       let room : k + length (names_at keys d) ≤ length now = omega (arith, names-room, long) in
       subst (λ (m : ℕ). Filling all (join_of (names_at keys) rest) before (k + m) (take k now ++ (ys ++ drop (length now - k) (drop k now)))) long
       (filling-behind all _ before k now f (names_at keys d) _ _ names-next (behind now (names_at keys d) ys k room (rw z at w)))
-
--- Each draft from a place on is inside.
-pub inside-here : (keys : List ℕ) (ds : List HistoryRow) (i : ℕ) (d : HistoryRow) (rest : List HistoryRow) → All (λ x. x.first + x.count ≤ length keys) ds
-    → drop i ds ≡ d ∷ rest → d.first + d.count ≤ length keys
-inside-here keys ds i d rest a e =
-    (subst (λ (l : List HistoryRow). All (λ x. x.first + x.count ≤ length keys) l) e (all_take (λ x. x.first + x.count ≤ length keys) i ds a).1).0

@@ -1,3 +1,3 @@
-pub mod KeptLaws
+pub mod DraftLaws
 pub mod ArrangeStepLaws
 pub mod ArrangeLaws

@@ -1,21 +1,13 @@
 -- How drafts become histories: inner steps, which no promise of a call of 01 cites.
-use Rattle.std.specs.Prelude.{◌≡◌, Bool, true, false, cond, ◌&&◌, not, List, [], ◌∷◌, ◌++◌, map, ℕ, ◌+◌, ◌-◌, ◌*◌, ◌%◌, ◌≤◌, ◌<◌, leb, ltb, eqb, length, take, drop, set}
+use Rattle.std.specs.Prelude as code
+use Rattle.std.specs.Prelude.{◌≡◌, is_some, IfSome, Bool, true, false, cond, ◌&&◌, List, [], ◌∷◌, ◌++◌, map, ℕ, ◌+◌, ◌-◌, ◌*◌, ◌%◌, ◌≤◌, ◌<◌, leb, ltb, eqb, length, take, drop, set}
 use Rattle.lists.specs.Lists.{All, all_of, keep, last_or, sum_of, join_of}
 use Rattle.rules.specs.Lent.{refused, Outcome, room_number, outcome}
 use Rattle.rules.specs.PlayerOutcomes.{HistoryCounts, HistoryCells, both_fit, both_written}
-use Rattle.rules.specs.HistoryRows.{HistoryRow, history_row_of, history_row_words, history_rows_in}
+use Rattle.rules.specs.HistoryRows.{HistoryRow, history_row_of, history_row_words}
+use Rattle.history_rows.specs.declared.rows.History.{History}
 use Rattle.history_rows.specs.Cases.{history_told}
-use Rattle.arranging.specs.declared.walk.NextDraft as NextDraft
-
--- A draft has players, or has none.
-unfoldable pub has_names : Bool → HistoryRow → Bool
-has_names true d = ltb 0 d.count
-has_names false d = not (ltb 0 d.count)
-
--- What a step over such drafts tells, beside all drafts.
-abbrev pub draft_told : List HistoryRow → Bool → NextDraft.NextDraft → List HistoryRow
-draft_told ds named (NextDraft.TheVariants.Row x i) = history_told x ∷ keep (has_names named) (drop i ds)
-draft_told ds named NextDraft.TheVariants.End = []
+use Rattle.arranging.specs.Drafts.{is_played, is_leftover}
 
 -- The history of a draft, with the number of names before its own.
 abbrev pub history_from : HistoryRow → ℕ → HistoryRow
@@ -42,52 +34,57 @@ abbrev pub names_at : List ℕ → HistoryRow → List ℕ
 names_at keys d = map name_in (take d.count (drop d.first keys))
 
 -- Each draft leads to keys, and there is room for all names.
-pub record NamesFit (rows keys out : List ℕ) : Type 0 where
-  pub few : length (history_rows_in rows) ≤ 2000
+pub record NamesFit (ds : List HistoryRow) (keys out : List ℕ) : Type 0 where
+  pub few : length ds ≤ 2000
   pub short : length keys ≤ 1000
-  pub inside : All (λ d. d.first + d.count ≤ length keys) (history_rows_in rows)
-  pub room : sum_of (λ d. d.count) (history_rows_in rows) ≤ length out
+  pub inside : All (λ d. d.first + d.count ≤ length keys) ds
+  pub room : sum_of (λ d. d.count) ds ≤ length out
 
 -- The last leftover vanishes.
 abbrev pub is_popped : Bool → List HistoryRow → Bool
 is_popped ironman ds =
     ironman
-    && eqb (length (keep (has_names true) ds)) 1
-    && ltb 0 (length (keep (has_names false) ds))
-    && ltb 1 (last_or (history_row_of []) (keep (has_names true) ds)).human
+    && eqb (length (keep is_played ds)) 1
+    && ltb 0 (length (keep is_leftover ds))
+    && ltb 1 (last_or (history_row_of []) (keep is_played ds)).human
 
--- There are so many drafts, room for their histories, and numbers of names are small.
-pub record WriteReady (ds : List HistoryRow) (named : Bool) (n names : ℕ) (out : List ℕ) : Type 0 where
-  pub many : n ≤ 2000
-  pub room : 7 * n ≤ length out
-  pub few : names + sum_of (λ d. d.count) (keep (has_names named) ds) ≤ 4294967295
+-- There is room for the histories of few drafts, and numbers of names are small.
+pub record WriteReady (ds : List HistoryRow) (names : ℕ) (out : List ℕ) : Type 0 where
+  pub many : length ds ≤ 2000
+  pub room : 7 * length ds ≤ length out
+  pub few : names + sum_of (λ d. d.count) ds ≤ 4294967295
 
 -- The words of all histories with players and of so many leftovers.
 abbrev pub kept_words : List HistoryRow → ℕ → List ℕ
 kept_words ds kept =
-    join_of history_row_words (histories_from 0 (keep (has_names true) ds))
-    ++ join_of history_row_words (histories_from (sum_of (λ d. d.count) ds) (take kept (keep (has_names false) ds)))
+    join_of history_row_words (histories_from 0 (keep is_played ds))
+    ++ join_of history_row_words (histories_from (sum_of (λ d. d.count) ds) (take kept (keep is_leftover ds)))
 
 -- How many leftovers stay.
 abbrev pub kept_of : Bool → List HistoryRow → ℕ
-kept_of popped ds = cond popped (length (keep (has_names false) ds) - 1) (length (keep (has_names false) ds))
+kept_of popped ds = cond popped (length (keep is_leftover ds) - 1) (length (keep is_leftover ds))
 
 -- The words of all histories. The first takes the initial of a leftover that vanishes.
 abbrev pub draft_words : Bool → List HistoryRow → List ℕ
 draft_words popped ds =
     cond popped
-    (set (kept_words ds (kept_of true ds)) 0 (last_or (history_row_of []) (keep (has_names false) ds)).initial.0)
+    (set (kept_words ds (kept_of true ds)) 0 (last_or (history_row_of []) (keep is_leftover ds)).initial.0)
     (kept_words ds (kept_of false ds))
 
+-- The leftover that vanishes, if one does.
+pub record Vanishes (ironman : Bool) (ds : List HistoryRow) (v : code.Option History) : Type 0 where
+  pub popped : is_some v ≡ is_popped ironman ds
+  pub last : IfSome v (λ h. history_told h ≡ last_or (history_row_of []) (keep is_leftover ds))
+
 -- There is room for as many leftovers as stay.
-pub record HistoriesReady (ds : List HistoryRow) (popped : Bool) (played kept names : ℕ) (out : List ℕ) : Type 0 where
-  pub counted : played ≡ length (keep (has_names true) ds)
-  pub left : kept ≡ kept_of popped ds
+pub record HistoriesReady (ds : List HistoryRow) (v : code.Option History) (kept names : ℕ) (out : List ℕ) : Type 0 where
+  pub left : kept ≡ kept_of (is_some v) ds
+  pub last : IfSome v (λ h. history_told h ≡ last_or (history_row_of []) (keep is_leftover ds))
   pub named : names ≡ sum_of (λ d. d.count) ds
   pub few : names ≤ 4294967295
-  pub many : (played ≤ 2000) × (kept ≤ 2000)
-  pub sole : popped ≡ true → 0 < played
-  pub room : 7 * (played + kept) ≤ length out
+  pub many : length ds ≤ 2000
+  pub sole : is_some v ≡ true → 0 < length (keep is_played ds)
+  pub room : 7 * (length (keep is_played ds) + kept) ≤ length out
 
 -- Few drafts, and each leads to keys, of which there are few.
 pub record ArrangeReady (ds : List HistoryRow) (keys : List ℕ) : Type 0 where
@@ -101,7 +98,7 @@ drafted_cells popped ds keys = record { rows = draft_words popped ds; names = jo
 
 abbrev pub drafted_counts : Bool → List HistoryRow → HistoryCounts
 drafted_counts popped ds =
-    record { histories = length (keep (has_names true) ds) + kept_of popped ds; names = sum_of (λ d. d.count) ds }
+    record { histories = length (keep is_played ds) + kept_of popped ds; names = sum_of (λ d. d.count) ds }
 
 -- Refused by 10 alone.
 abbrev pub drafted_outcome : Bool → List HistoryRow → List ℕ → HistoryCells → Outcome HistoryCounts HistoryCells

@@ -1,2 +1,3 @@
 pub mod Cases
+pub mod Drafts
 pub mod Arranging

@@ -3,8 +3,8 @@
 #![tactic(auto)]
 
 mod answers;
+mod drafts;
 mod names;
 mod rows;
-mod walk;
 
-pub use answers::{HistoryCounts, PlayerHistories, arrange_drafts};
+pub use answers::{HistoryCounts, arrange_drafts};

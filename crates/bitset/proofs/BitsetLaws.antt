@@ -95,7 +95,7 @@ unfolding marking
 length-marking ws k = simp length-set
 
 -- a number past the words is not marked
-pub past_words : (ws : List ℕ) (k : ℕ) → length ws ≤ k / 64 → is_marked ws k ≡ false
+past_words : (ws : List ℕ) (k : ℕ) → length ws ≤ k / 64 → is_marked ws k ≡ false
 unfolding is_marked
 past_words ws k h = simp (get_or-eq_default ws 0 {n = k / 64} h) (no-bit (k % 64))
 

@@ -8,10 +8,9 @@ ghost use Rattle.bitset.specs.Bitset.{is_marked, marking};
 pub fn marked(words: &[u64], k: usize) -> bool
     ensures { result ≡ is_marked words.now k }
 {
-    if words.len() <= k / 64 {
-        return false;
-    }
-    (words[k / 64] >> (k % 64)) % 2 == 1
+    words
+        .get(k / 64)
+        .is_some_and(|word| (*word >> (k % 64)) % 2 == 1)
 }
 
 // Marks number k. Past the words it does nothing.
@@ -19,8 +18,8 @@ pub fn mark(words: &mut [u64], k: usize)
     ensures { words.new ≡ marking words.old k }
 {
     let at = k / 64;
-    if words.len() <= at {
-        return;
+    // Not by `get_mut`: nothing can be proved of a cell that is written through it.
+    if at < words.len() {
+        words[at] |= 1 << (k % 64);
     }
-    words[at] = words[at] | (1 << (k % 64));
 }

@@ -1,27 +1,31 @@
--- Bookings between two blocks of claims, and in the end.
-use mathlib.Core.Path.{◌≡◌, refl, sym, ap, ◌∙◌}
+-- Bookings held against the blocks of claims, and in the end.
+use mathlib.Core.Path.{◌≡◌, refl, sym, ap, ap₂, ◌∙◌}
 use mathlib.Core.Bool.{true}
-use mathlib.Core.List.{List, [], ◌∷◌, ◌++◌}
+use mathlib.Core.List.{List, [], ◌∷◌, ◌++◌, map}
 use mathlib.Core.Option.{Option, none, some}
-use Prim.Native.Nat.{ℕ, ◌+◌, ◌-◌, ◌*◌, ◌<◌}
+use Prim.Native.Nat.{ℕ, ◌+◌, ◌*◌, ◌<◌, ◌≤◌}
 use native.Mathlib.Nat.{mod-eq_of_lt}
 use native.Mathlib.Numerals.{add-one}
 use native.Mathlib.Omega.{arith}
-use lib.ListN.{length, take, drop, get_or, replicate}
+use lib.Dec.{leb}
+use lib.ListN.{length, take, drop, get_or, replicate, length-append, length-drop, length-replicate}
+use lib.Seq.{length-take-le}
+use Rattle.sorting.specs.Sort.{sort_by}
 use Rattle.lists.specs.Lists.{All, keep}
 use Rattle.lists.proofs.ListLaws.{all_map, all_keep}
 use Rattle.lists.proofs.EachLaws.{all-each}
 use Rattle.rules.specs.NationRows.{nation_rows_in, well_shaped}
 use Rattle.rules.specs.Bookings.{Joining}
 use Rattle.claims.specs.declared.claims.Claim.{Claim}
-use Rattle.claims.specs.declared.claims.Walk.{Walk}
-use Rattle.claims.specs.Claims.{claims_in, claims_left, walk_start, best_of, is_asked, claim_day}
+use Rattle.claims.specs.Claims.{claims_in, best_of, is_asked, claim_day}
 use Rattle.questions.specs.Layout.{row_owners}
-use Rattle.questions.specs.Keys.{SortsBlock, block_room}
+use Rattle.questions.specs.Keys.{keys_from}
+use Rattle.questions.specs.Holding.{HoldsBlock, HoldsAll}
 use Rattle.questions.specs.Passes.{claim_words}
 use Rattle.questions.proofs.AnsweredLaws.{Has, greatest-has}
 use Rattle.questions.proofs.GoodLaws.{SoundClaim, claims-sound}
-use Rattle.questions.proofs.BetweenLaws.{Between, block-first, block-next, sorted-best}
+use Rattle.questions.proofs.HoldingLaws.{block-good}
+use Rattle.questions.proofs.RowsLaws.{block-updated}
 use Rattle.bookings.specs.Passes.{rows_by, best_booking_row, held_row, owner_stored, final_row, claim_stored, claimed_row, GoodJoining}
 use Rattle.bookings.proofs.RowsByLaws.{rows-twice, rows_same, rows_join, rows-blank, best-wide}
 
@@ -29,46 +33,22 @@ use Rattle.bookings.proofs.RowsByLaws.{rows-twice, rows_same, rows_join, rows-bl
 abbrev pub best_bookings : List Joining → List ℕ → List Claim → List ℕ
 best_bookings js before cs = rows_by (λ j _. best_booking_row cs j) js before
 
--- ## The first block
-
 -- Words that are all 0 are rows without a claim.
-cleared-rows : (js : List Joining) (n : ℕ) (before out : List ℕ) → n ≡ length js → out ≡ replicate (3 * n) 0 ++ drop (3 * n) before → out ≡ rows_by (λ j _. best_booking_row [] j) js before
+cleared-rows : (js : List Joining) (n : ℕ) (before out : List ℕ) → n ≡ length js → out ≡ replicate (3 * n) 0 ++ drop (3 * n) before → out ≡ best_bookings js before []
 cleared-rows js n before out m e =
     sym (rows_join (best_booking_row []) js before
     ∙ (ap (λ (l : List ℕ). l ++ drop (3 * length js) before) (rows-blank js)
     ∙ (ap (λ (k : ℕ). replicate (3 * k) 0 ++ drop (3 * k) before) (sym m) ∙ sym e)))
 
--- Rows over those that were cleared.
-pub rows-over : (f : Joining → List ℕ) (js : List Joining) (n : ℕ) (before out : List ℕ) → n ≡ length js → out ≡ replicate (3 * n) 0 ++ drop (3 * n) before
-    → rows_by (λ j _. f j) js out ≡ rows_by (λ j _. f j) js before
-rows-over f js n before out m e = ap (rows_by (λ j _. f j) js) (cleared-rows js n before out m e) ∙ rows-twice (λ j _. f j) (λ j _. best_booking_row [] j) (λ j r. refl) js before
-
-pub blocks_start : (ws es : List ℕ) (js : List Joining) (n : ℕ) (before out : List ℕ) (walk : Walk) (keys owners scratch : List ℕ) → n ≡ length js → out ≡ replicate (3 * n) 0 ++ drop (3 * n) before
-    → walk ≡ walk_start → length keys ≡ 24576 → length owners ≡ 24576 → length scratch ≡ 24576 → Between ws es (best_bookings js out) out walk out keys owners scratch
-blocks_start ws es js n before out walk keys owners scratch m e =
-    block-first ws es (best_bookings js out) out walk keys owners scratch (cleared-rows js n before out m e ∙ sym (rows-over (best_booking_row []) js n before out m e))
-
--- ## A block
-
-pub blocks-next : (ws es : List ℕ) (js : List Joining) (before : List ℕ) (walk : Walk) (out keys owners scratch : List ℕ) (t : Between ws es (best_bookings js before) before walk out keys owners scratch)
-    (rest : Walk) (count : ℕ) (keys₁ owners₁ scratch₁ new : List ℕ) → well_shaped ws es ≡ true → All GoodJoining js
-    → SortsBlock (claims_left ws es walk) (claims_left ws es rest) (block_room keys owners) count keys keys₁ owners owners₁ scratch scratch₁
-    → new ≡ rows_by (held_row (take (count - 0) keys₁) owners₁) js out
-    → length new ≡ length out → length keys₁ ≡ length keys → length owners₁ ≡ length owners → length scratch₁ ≡ length scratch
-    → Between ws es (best_bookings js before) before rest new keys₁ owners₁ scratch₁
-blocks-next ws es js before walk out keys owners scratch t rest count keys₁ owners₁ scratch₁ new shaped good b w =
-    let left = claims_left ws es walk in
-    let room = block_room keys owners in
-    let ys : List Claim = take room left in
-    let held : Joining → List ℕ → List ℕ = held_row (take (count - 0) keys₁) owners₁ in
-    let step : All (λ j. (r : List ℕ) → held j (best_booking_row t.passed j) ≡ best_booking_row (t.passed ++ ys) j) js =
-    all_map (λ j g r. ap (λ (l : List ℕ). 0 ∷ l)
-    (sorted-best ws es shaped t.passed left t.whole (claims_left ws es rest) room count keys keys₁ owners owners₁ scratch scratch₁ b (omega arith) j.tag j.date g.tag g.date)) js good in
-    block-next ws es (best_bookings js before) before walk out keys owners scratch t rest count keys₁ owners₁ scratch₁ new b
-    (w
-    ∙ (ap (rows_by held js) t.cells
-    ∙ (rows-twice held (λ j _. best_booking_row t.passed j) (λ j r. best-wide t.passed j) js before
-    ∙ rows_same (λ j _. held j (best_booking_row t.passed j)) (λ j _. best_booking_row (t.passed ++ ys) j) js before step)))
+-- A block behind the claims passed moves every row on.
+joinings-hold : (ws es : List ℕ) (js : List Joining) (before : List ℕ) → well_shaped ws es ≡ true → All GoodJoining js
+    → HoldsBlock (λ keys owners out. rows_by (held_row keys owners) js out) (claims_in ws es) (best_bookings js before)
+joinings-hold ws es js before shaped good passed ys left behind e few =
+    let held : Joining → List ℕ → List ℕ = held_row (sort_by leb (keys_from 0 ys)) (map (λ (c : Claim). c.nation) ys ++ behind) in
+    let step : All (λ j. (r : List ℕ) → held j (best_booking_row passed j) ≡ best_booking_row (passed ++ ys) j) js =
+    all_map (λ j g r. ap (λ (l : List ℕ). 0 ∷ l) (block-updated j.tag j.date g.tag g.date passed ys behind (block-good ws es shaped passed ys left e) few)) js good in
+    rows-twice held (λ j _. best_booking_row passed j) (λ j r. best-wide passed j) js before
+    ∙ rows_same (λ j _. held j (best_booking_row passed j)) (λ j _. best_booking_row (passed ++ ys) j) js before step
 
 -- ## In the end
 
@@ -90,3 +70,15 @@ module _ (ws es : List ℕ) (shaped : well_shaped ws es ≡ true) (few : length 
       (turn j (best_of j.tag j.date all)
       (greatest-has claim_day claim_day (SoundClaim (length (nation_rows_in ws))) (keep (is_asked j.tag j.date) all)
       (all_keep (SoundClaim (length (nation_rows_in ws))) (is_asked j.tag j.date) all (claims-sound ws es shaped))))) js)))
+
+  -- The words of all rows, cleared, held against the blocks and turned.
+  pub booked-rows : (js : List Joining) (n : ℕ) (before first second third : List ℕ) → n ≡ length js → All GoodJoining js → 3 * n ≤ length before → first ≡ replicate (length (take (3 * n) before)) 0
+      → HoldsAll (3 * length js) (λ keys owners out. rows_by (held_row keys owners) js out) (claims_in ws es) (first ++ drop (3 * n) before) second
+      → third ≡ rows_by (final_row ws) js second → third ≡ rows_by (λ j _. claimed_row ws es j) js before
+  booked-rows js n before first second third e good room z h f =
+      let whole : List ℕ = first ++ drop (3 * n) before in
+      let zeros : first ≡ replicate (3 * n) 0 = z ∙ ap (λ (m : ℕ). replicate m 0) (length-take-le (3 * n) before room) in
+      let blank : whole ≡ best_bookings js before [] = cleared-rows js n before whole e (ap (λ (l : List ℕ). l ++ drop (3 * n) before) zeros) in
+      let long : length whole ≡ length before =
+      length-append first (drop (3 * n) before) ∙ (ap₂ ◌+◌ (ap length zeros ∙ length-replicate (3 * n) 0) (length-drop (3 * n) before) ∙ omega arith) in
+      final-rows js before second third (h (best_bookings js before) blank (omega arith) (joinings-hold ws es js before shaped good)) f

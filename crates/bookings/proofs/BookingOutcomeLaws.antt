@@ -24,6 +24,11 @@ use Rattle.rules.proofs.RowLaws.{length-booking_rows}
 use Rattle.claims.specs.declared.claims.Claim.{Claim}
 use Rattle.claims.specs.Claims.{claims_in, best_of}
 use Rattle.claims.proofs.ResolvedLaws.{claim_nation, claim-resolved}
+use Rattle.std.specs.Prelude.{Err}
+use Rattle.format.specs.declared.refused.Refusal.{Refusal}
+use Rattle.format.specs.Refused.{refusal_number}
+use Rattle.record.proofs.ToldLaws.{refusal_above}
+use Rattle.bookings.specs.Cases.{bookings_outcome}
 use Rattle.bookings.specs.Passes.{rows_by, claim_stored, claimed_row}
 use Rattle.bookings.proofs.JoiningLaws.{few-joinings}
 use Rattle.bookings.proofs.RowsByLaws.{rows_join}
@@ -66,11 +71,12 @@ module _ (xs ws es before : List ℕ) where
   unfolding bookings bookings_of
   joinings-counted = length-map (joinings_of (campaign_of xs)) (booking_of (nations_in ws es))
 
-  pub bookings-refused : (n : ℕ) → 0 < n → n ≡ refusal xs → record { answer = refused n; memory = before } ≡ call_war_participants xs ws es before
+  pub bookings-refused : (e : Refusal) → refusal_number e ≡ refusal xs → bookings_outcome (Err e) before ≡ call_war_participants xs ws es before
   unfolding call_war_participants number rows bookings
-  bookings-refused n p e =
-      let first : number ≡ n = first-stop (refusal xs) _ (λ z. omega arith) ∙ sym e in
-      sym (rw first (outcome-refused n (length bookings) (written rows before) before p))
+  bookings-refused e t =
+      let above = refusal_above e in
+      let first : number ≡ refusal_number e = first-stop (refusal xs) _ (λ z. omega arith) ∙ sym t in
+      sym (rw first (outcome-refused (refusal_number e) (length bookings) (written rows before) before above))
 
   -- The code has opened the record, and tested the shape, s.
   module _ (z : refusal xs ≡ 0) (s : Bool) (e : s ≡ well_shaped ws es) where

@@ -1,5 +1,5 @@
 -- The walk over the joinings, event by event, and how many an accepted record has.
-use mathlib.Core.Path.{◌≡◌, refl, sym, ap, subst, ◌∙◌}
+use mathlib.Core.Path.{◌≡◌, refl, sym, ap, ◌∙◌}
 use mathlib.Core.List.{List, [], ◌∷◌}
 use Prim.Native.Nat.{ℕ, suc, ◌+◌, ◌≤◌, ◌<◌}
 use native.Mathlib.Omega.{arith}
@@ -10,83 +10,70 @@ use Rattle.lists.specs.Lists.{All, keep, join_of, sum_of}
 use Rattle.lists.proofs.ListLaws.{all_keep, all_append, all_of_map}
 use Rattle.lists.proofs.ElementLaws.{keep-short}
 use Rattle.format.specs.declared.rows.WarEvent.{WarEvent}
-use Rattle.record.specs.declared.cursors.WarEvents.{WarEvents}
-use Rattle.record.specs.declared.cursors.NextWarEvent as NextWarEvent
-use Rattle.record.specs.declared.cursors.Wars.{Wars}
-use Rattle.record.specs.declared.cursors.NextWar as NextWar
 use Rattle.format.specs.Campaign.{campaign_of}
-use Rattle.record.specs.Cursors.{war_events_left, war_event_told, wars_left, war_told}
 use Rattle.format.specs.Refusal.{refusal}
 use Rattle.format.specs.Sound.{GoodWarEvent}
 use Rattle.format.proofs.BoundLaws.{date-small}
-use Rattle.format.proofs.CampaignLaws.{told-row, told-end}
 use Rattle.format.proofs.SoundLaws.{sound}
+use Rattle.std.specs.Prelude as code
+use Rattle.std.specs.Prelude.{Some, None, Ok}
+use Rattle.record.specs.declared.opened.Record.{Record}
+use Rattle.record.specs.Opened.{RightlyOpened}
+use Rattle.std.specs.Iterator.{YieldsFirstBy}
+use Rattle.record.specs.declared.rows.Rows.{Rows}
+use Rattle.record.specs.declared.cursors.Wars.{Wars}
+use Rattle.record.specs.Cursors.{war_events_left, wars_left}
+use Rattle.bookings.specs.AtHand.{wars_told}
+use Rattle.bookings.specs.declared.joinings.Joining as CodeJoining
+use Rattle.bookings.specs.declared.joinings.Joinings.{Joinings}
+use Rattle.bookings.specs.Walking.{joining_of, joinings_left}
 use Rattle.rules.specs.Bookings.{Joining, war_joinings, joinings_from, joinings_of}
-use Rattle.bookings.specs.declared.joinings.JoiningWalk.{JoiningWalk}
-use Rattle.bookings.specs.declared.joinings.NextJoining as NextJoining
-use Rattle.bookings.specs.Walking.{joining_of, joinings_left, joining_told, FewWars, FewTold, JoiningStep, FewJoinings, AtFirstWar}
 use Rattle.bookings.specs.Passes.{GoodJoining}
 
--- ## One step of the walk
+-- ## One step
 
--- A walk at a war takes a step for each event that it has left, and one more; so it does for each war behind it.
+-- A step for each event that the wars have, and one more for each war.
 abbrev pub war_steps : List (List WarEvent) → ℕ
 war_steps ws = sum_of (λ es. length es + 1) ws
 
-module _ (xs : List ℕ) (war : ℕ) (events : WarEvents) (wars : Wars) {at : NextWar.NextWar} (here : at ≡ NextWar.TheVariants.Row events wars)
-    {r : NextWarEvent.NextWarEvent} (told : war_events_left xs events ≡ war_event_told xs r) where
-  -- The war has no event left.
-  module _ (end : r ≡ NextWarEvent.TheVariants.End) where
-    none : war_events_left xs events ≡ []
-    none = told-end (war_event_told xs) told end refl
+module _ (war : ℕ) (es : List WarEvent) (ws : List (List WarEvent)) where
+  -- The war at hand has no event left.
+  pub step-on : joinings_from war ([] ∷ ws) ≡ joinings_from (war + 1) ws
+  unfolding joinings_from
+  step-on = let e : war + 1 ≡ suc war = omega arith in rw e refl
 
-    pub walk-on : joinings_from war (war_told xs at) ≡ joinings_from (war + 1) (wars_left xs wars)
-    unfolding joinings_from
-    walk-on = let e : war + 1 ≡ suc war = omega arith in rw (here, none, e)
+  -- It has one that adds nobody, or one that adds a tag.
+  pub step-past : (e : WarEvent) → 1 < e.kind → joinings_from war ((e ∷ es) ∷ ws) ≡ joinings_from war (es ∷ ws)
+  unfolding joinings_from
+  step-past e h = simp (lt-leb e.kind 1 h)
 
-    pub walk-on-less : war_steps (wars_left xs wars) < war_steps (war_told xs at)
-    walk-on-less = rw here (omega arith)
+  pub step-joining : (e : WarEvent) → e.kind ≤ 1 → joinings_from war ((e ∷ es) ∷ ws) ≡ record { war = war; date = e.date; tag = e.tag } ∷ joinings_from war (es ∷ ws)
+  unfolding joinings_from
+  step-joining e h = simp (le-leb e.kind 1 h)
 
-    pub walk-on-few : war + length (war_told xs at) ≤ 4294967295 → war + 1 + length (wars_left xs wars) ≤ 4294967295
-    walk-on-few h = let l : length (war_told xs at) ≡ suc (length (wars_left xs wars)) = rw here in omega arith
-
-  -- It has one, and is behind it.
-  module _ (e : WarEvent) (left : WarEvents) (row : r ≡ NextWarEvent.TheVariants.Row e left) where
-    abbrev pub passed : NextWar.NextWar
-    passed = NextWar.TheVariants.Row left wars
-
-    first : war_events_left xs events ≡ e ∷ war_events_left xs left
-    first = told-row (war_event_told xs) told row refl
-
-    pub walk-past : 1 < e.kind → joinings_from war (war_told xs at) ≡ joinings_from war (war_told xs passed)
-    unfolding joinings_from
-    walk-past h = rw (here, first) (simp (lt-leb e.kind 1 h))
-
-    pub walk-joining : e.kind ≤ 1 → joinings_from war (war_told xs at) ≡ record { war = war; date = e.date; tag = e.tag } ∷ joinings_from war (war_told xs passed)
-    unfolding joinings_from
-    walk-joining h = rw (here, first) (simp (le-leb e.kind 1 h))
-
-    pub walk-less : war_steps (war_told xs passed) < war_steps (war_told xs at)
-    walk-less = rw here (omega (arith, ap length first))
-
-    pub walk-few : war + length (war_told xs at) ≤ 4294967295 → war + length (war_told xs passed) ≤ 4294967295
-    walk-few h = let l : length (war_told xs at) ≡ length (war_told xs passed) = rw here in omega arith
-
-pub walk_end : (xs : List ℕ) (war : ℕ) {at : NextWar.NextWar} → at ≡ NextWar.TheVariants.End → joinings_from war (war_told xs at) ≡ []
+-- No war is at hand.
+pub walk_none : (war : ℕ) (at : code.Option (Rows WarEvent 8)) (wars : Wars) → ((events : Rows WarEvent 8) → at ≡ Some events → ⊥) → joinings_from war (wars_told at wars) ≡ []
 unfolding joinings_from
-walk_end xs war e = rw e
+walk_none war None wars h = refl
+walk_none war (Some events) wars h = absurd (h events refl)
 
--- ## What a caller knows of a step
+pub nowhere : (war : ℕ) → joinings_from war [] ≡ []
+unfolding joinings_from
+nowhere war = refl
 
-module _ {xs : List ℕ} {w : JoiningWalk} {r : NextJoining.NextJoining} (s : JoiningStep xs w r) where
-  pub joining-row : {x : _} {rest : JoiningWalk} → r ≡ NextJoining.TheVariants.Row x rest → joinings_left xs w ≡ joining_of x ∷ joinings_left xs rest
-  joining-row e = s.told ∙ ap (joining_told xs) e
+-- The next war comes to hand.
+pub wars-next : (old : Wars) (r : code.Option (Rows WarEvent 8)) (new : Wars) → YieldsFirstBy war_events_left wars_left old r new → wars_left old ≡ wars_told r new
+wars-next old (Some events) new h = h
+wars-next old None new h = h.0
 
-  pub joining-few : {x : _} {rest : JoiningWalk} → r ≡ NextJoining.TheVariants.Row x rest → FewWars xs rest
-  joining-few e = subst (FewTold xs) e s.few
+-- A step over an event leaves one less to take.
+pub walk-less : (e : WarEvent) (events left : Rows WarEvent 8) (wars : Wars) → war_events_left events ≡ e ∷ war_events_left left
+    → war_steps (wars_told (Some left) wars) < war_steps (wars_told (Some events) wars)
+walk-less e events left wars first = omega (arith, ap length first)
 
-  pub joining-end : r ≡ NextJoining.TheVariants.End → joinings_left xs w ≡ []
-  joining-end e = s.told ∙ ap (joining_told xs) e
+-- A step that gave a joining leaves one less.
+pub joining-less : (s : Joinings) (x : CodeJoining.Joining) (t : Joinings) → YieldsFirstBy joining_of joinings_left s (Some x) t → length (joinings_left s) ≡ length (joinings_left t) + 1
+joining-less s x t told = omega (arith, ap length told)
 
 -- ## The joinings of an accepted record
 
@@ -114,27 +101,33 @@ joinings-good war (es ∷ rest) q =
     (all_keep GoodWarEvent (λ e. leb e.kind 1) es q.0))
     (joinings-good (suc war) rest q.1)
 
--- The walk from the first war on.
-module _ (xs : List ℕ) (c : Wars) (a : AtFirstWar xs c) (at : NextWar.NextWar) (told : wars_left xs c ≡ war_told xs at) where
-  abbrev pub walk : JoiningWalk
-  walk = record { war = 0; at = at }
+-- The joinings of the wars that the record tells.
+module _ (xs : List ℕ) (accepted : refusal xs ≡ 0) (ws : List (List WarEvent)) (told : ws ≡ (campaign_of xs).wars) where
+  pub wars-few : length ws ≤ 4294967295
+  wars-few = let s = sound xs accepted in omega (arith, ap length told, s.few_wars)
 
-  wars-told : war_told xs at ≡ (campaign_of xs).wars
-  wars-told = sym told ∙ a.rows
-
-  pub all-joinings : joinings_left xs walk ≡ joinings_of (campaign_of xs)
-  all-joinings = ap (joinings_from 0) wars-told
-
-  pub start-few : FewJoinings xs walk
-  start-few =
-      let s = sound xs a.accepted in
-      record {
-        wars = omega (arith, ap length wars-told, s.few_wars);
-        joinings = omega (arith, ap length all-joinings, joinings-few 0 (campaign_of xs).wars, s.few_war_events);
-      }
-
-  pub start-good : All GoodJoining (joinings_left xs walk)
-  start-good = rw all-joinings (joinings-good 0 (campaign_of xs).wars (sound xs a.accepted).wars)
+  pub all-good : All GoodJoining (joinings_from 0 ws)
+  all-good = rw told (joinings-good 0 (campaign_of xs).wars (sound xs accepted).wars)
 
 pub few-joinings : (xs : List ℕ) → refusal xs ≡ 0 → length (joinings_of (campaign_of xs)) ≤ 100000
 few-joinings xs h = let s = sound xs h in omega (arith, joinings-few 0 (campaign_of xs).wars, s.few_war_events)
+
+-- What the code knows of the joinings, once it has opened the record.
+pub record JoiningsTold (xs : List ℕ) (left : List Joining) : Type 0 where
+  pub accepted : refusal xs ≡ 0
+  pub all : left ≡ joinings_of (campaign_of xs)
+  pub few : length left ≤ 100000
+  pub good : All GoodJoining left
+
+pub wars-fit : (xs : List ℕ) (r : Record) → RightlyOpened xs (Ok r) → length (wars_left r.wars) ≤ 4294967295
+wars-fit xs r o = wars-few xs (sym o.number) (wars_left r.wars) o.rows.wars
+
+pub joinings-told : (xs : List ℕ) (r : Record) (left : List Joining) → RightlyOpened xs (Ok r) → left ≡ joinings_from 0 (wars_left r.wars) → JoiningsTold xs left
+joinings-told xs r left o e =
+    let all : left ≡ joinings_of (campaign_of xs) = e ∙ ap (joinings_from 0) o.rows.wars in
+    record {
+      accepted = sym o.number;
+      all = all;
+      few = omega (arith, ap length all, few-joinings xs (sym o.number));
+      good = rw e (all-good xs (sym o.number) (wars_left r.wars) o.rows.wars);
+    }

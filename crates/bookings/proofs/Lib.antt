@@ -1,6 +1,5 @@
 pub mod JoiningLaws
 pub mod RowsByLaws
-pub mod BookingRowLaws
 pub mod BookingPassLaws
 pub mod BookingBlockLaws
 pub mod BookingOutcomeLaws

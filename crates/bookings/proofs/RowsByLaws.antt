@@ -1,32 +1,21 @@
 -- Rows by a function of a joining and of the row that stood there: pass over pass, and what is left in the end.
 use mathlib.Core.Path.{◌≡◌, refl, sym, ap, ap₂, ◌∙◌}
-use mathlib.Core.Bool.{◌||◌}
 use mathlib.Core.List.{List, [], ◌∷◌, ◌++◌, append_assoc}
 use mathlib.Core.Option.{Option, none, some}
 use Prim.Native.Nat.{ℕ, suc, ◌+◌, ◌*◌}
 use native.Mathlib.Omega.{arith}
-use lib.Dec.{leb, eqb}
-use lib.ListN.{length, take, drop, get_or, replicate}
+use lib.ListN.{length, take, drop, replicate}
 use lib.Seq.{take_at, drop_at, drop-drop}
 use Rattle.lists.specs.Lists.{All, join_of}
-use Rattle.lists.proofs.BoolLaws.{cases}
 use Rattle.rules.specs.Bookings.{Joining}
 use Rattle.claims.specs.declared.claims.Claim.{Claim}
 use Rattle.claims.specs.Claims.{best_of}
-use Rattle.questions.specs.Keys.{last_asked, key_day}
-use Rattle.questions.specs.Passes.{claim_words, updated}
-use Rattle.bookings.specs.Passes.{rows_by, best_booking_row, held_row}
+use Rattle.questions.specs.Passes.{claim_words}
+use Rattle.bookings.specs.Passes.{rows_by, best_booking_row}
 
 -- Each row has three words.
 abbrev pub Wide : (Joining → List ℕ → List ℕ) → Type 0
 Wide row = (j : Joining) (r : List ℕ) → length (row j r) ≡ 3
-
-pub held-wide : (keys owners : List ℕ) → Wide (held_row keys owners)
-held-wide keys owners j r = go (last_asked j.tag j.date keys)
-  where
-    go : (looked : Option ℕ) → length (0 ∷ updated owners looked (get_or r 1 0) (get_or r 2 0)) ≡ 3
-    go none = refl
-    go (some k) = cases (eqb (get_or r 2 0) 0 || leb (get_or r 1 0) (key_day k)) (λ h. simp h) (λ h. simp h)
 
 pub best-wide : (cs : List Claim) (j : Joining) → length (best_booking_row cs j) ≡ 3
 best-wide cs j = go (best_of j.tag j.date cs)

@@ -1,3 +1,4 @@
 pub mod Cases
+pub mod AtHand
 pub mod Walking
 pub mod Passes

@@ -13,8 +13,8 @@ use Rattle.claims.specs.Claims.{claims_in, best_of}
 use Rattle.questions.specs.Layout.{claim_dates}
 use Rattle.questions.specs.Keys.{last_asked}
 use Rattle.questions.specs.Passes.{claim_words, updated}
-use Rattle.bookings.specs.declared.joinings.JoiningWalk.{JoiningWalk}
-use Rattle.bookings.specs.Walking.{joinings_left, FewWars, FewJoinings}
+use Rattle.bookings.specs.declared.joinings.Joinings.{Joinings}
+use Rattle.bookings.specs.Walking.{joinings_left}
 
 -- ## Rows of three words
 
@@ -65,20 +65,14 @@ claimed_row ws es j = row_with j (claim_stored ws j.tag (best_of j.tag j.date (c
 
 -- ## What the passes start from
 
--- A walk whose numbers are small, and room for its rows.
-pub record Room (xs : List ℕ) (w : JoiningWalk) (out : List ℕ) : Type 0 where
-  pub few : FewWars xs w
-  pub room : 3 * length (joinings_left xs w) ≤ length out
-
 -- A joining that a key can be asked for.
 pub record GoodJoining (j : Joining) : Type 0 where
   pub tag : is_tag j.tag ≡ true
   pub date : j.date.0 < claim_dates
 
 -- n good joinings, a well-shaped chronicle, and room.
-pub record BookingReady (xs : List ℕ) (w : JoiningWalk) (n : ℕ) (ws es out : List ℕ) : Type 0 where
-  pub few : FewJoinings xs w
-  pub counted : n ≡ length (joinings_left xs w)
-  pub good : All GoodJoining (joinings_left xs w)
+pub record BookingReady (w : Joinings) (n : ℕ) (ws es out : List ℕ) : Type 0 where
+  pub counted : n ≡ length (joinings_left w)
+  pub good : All GoodJoining (joinings_left w)
   pub shaped : well_shaped ws es ≡ true
   pub room : 3 * n ≤ length out

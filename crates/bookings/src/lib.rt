@@ -7,4 +7,4 @@ mod joinings;
 mod passes;
 mod rows;
 
-pub use answers::{Bookings, war_participants};
+pub use answers::war_participants;

@@ -1,93 +1,95 @@
 // One row of three words. Until the last pass its second and third word hold the date and the nation number plus 1 of its best claim
 // so far.
-ghost use Rattle.std.specs.Prelude.{◌≡◌, [], ◌∷◌, ◌+◌, ◌≤◌, leb, length};
-ghost use Rattle.sorting.specs.Sort.{sort_by};
-ghost use Rattle.claims.specs.Claims.{best_told};
+ghost use Rattle.std.specs.Prelude.{◌≡◌, List, ℕ};
+ghost use Rattle.lists.specs.Options.{option_of};
+ghost use Rattle.rules.specs.Bookings.{Joining as RulesJoining};
 ghost use Rattle.bookings.specs.Walking.{joining_of};
-ghost use Rattle.bookings.specs.Passes.{row_put, row_here, held_row, owner_stored, final_row, claim_stored, claimed_row};
+ghost use Rattle.bookings.specs.Passes.{held_row, owner_stored, final_row, claim_stored, claimed_row};
 
 use crate::joinings::Joining;
 use chronicle_rows::nation_at;
-use claims::{BestClaim, best_claim};
-use questions::{look_up_near, updated_row};
-use record::CountryTag;
+use claims::{Claim, best_claim};
+use format::CountryTag;
+use questions::ClaimBlock;
 
 // How many words a row has.
 pub(crate) const BOOKING_WIDTH: usize = 3;
 
-// Writes the three words of the row that begins at k.
-fn put_words(out: &mut [u32], k: usize, a: u32, b: u32, c: u32)
-    requires { k + 3 ≤ length out.old }
-    ensures { out.new ≡ row_put k (a ∷ b ∷ c ∷ []) out.old }
-{
-    out[k] = a;
-    out[k + 1] = b;
-    out[k + 2] = c;
+// A pass over the rows: what it makes of a joining's row.
+pub(crate) trait Pass {
+    ghost row_of: { Self → RulesJoining → List ℕ → List ℕ };
+
+    fn row(&self, joining: Joining, before: [u32; BOOKING_WIDTH]) -> [u32; BOOKING_WIDTH]
+        ensures { result ≡ row_of self.now (joining_of joining) before };
 }
 
 // Holds a row's best claim so far against that of a block.
-pub(crate) fn hold_row(
-    x: Joining,
-    keys: &[u64],
-    starts: &[u64],
-    owners: &[u64],
-    k: usize,
-    out: &mut [u32],
-)
-    requires { (k + 3 ≤ length out.old) × (sort_by leb keys.now ≡ keys.now) }
-    ensures { out.new ≡ row_put k (held_row keys.now owners.now (joining_of x) (row_here k out.old)) out.old }
-{
-    let tag = x.tag;
-    let date = x.date;
-    let best = out[k + 1];
-    let owner = out[k + 2];
-    let row = updated_row(owners, look_up_near(keys, starts, tag, date), best, owner);
-    put_words(out, k, 0, row.first, row.second);
+#[derive(Clone, Copy)]
+pub(crate) struct HoldBlock<'a> {
+    pub(crate) block: ClaimBlock<'a>,
+}
+
+impl Pass for HoldBlock<'_> {
+    ghost row_of = { λ pass. held_row pass.block.keys.now pass.block.owners.now };
+
+    fn row(&self, joining: Joining, before: [u32; BOOKING_WIDTH]) -> [u32; BOOKING_WIDTH] {
+        let [_, best, owner] = before;
+        let [date, number] = self
+            .block
+            .updated_row(joining.tag, joining.date, best, owner);
+        [0, date, number]
+    }
 }
 
 // The stored tag of the nation whose number plus 1 a row holds; for none the tag itself.
 fn owner_stored(nations: &[u32], owner: u32, tag: CountryTag) -> CountryTag
     ensures { result ≡ owner_stored nations.now tag owner }
 {
-    if owner == 0 {
-        return tag;
+    match owner.checked_sub(1) {
+        Some(number) => nation_at(nations, number as usize).stored,
+        None => tag,
     }
-    let row = nation_at(nations, (owner - 1) as usize);
-    row.stored
 }
 
 // Turns a row from its best claim into the booking.
-pub(crate) fn finish_row(x: Joining, nations: &[u32], k: usize, out: &mut [u32])
-    requires { k + 3 ≤ length out.old }
-    ensures { out.new ≡ row_put k (final_row nations.now (joining_of x) (row_here k out.old)) out.old }
-{
-    let tag = x.tag;
-    let owner = out[k + 2];
-    let stored = owner_stored(nations, owner, tag);
-    put_words(out, k, x.war, tag.word(), stored.word());
+#[derive(Clone, Copy)]
+pub(crate) struct Finish<'a> {
+    pub(crate) nations: &'a [u32],
 }
 
-// The stored tag of a claim's nation; for none the tag itself.
-fn claim_stored(nations: &[u32], best: BestClaim, tag: CountryTag) -> CountryTag
-    ensures { result ≡ claim_stored nations.now tag (best_told best) }
-{
-    match best {
-        BestClaim::Best(claim) => {
-            let row = nation_at(nations, claim.nation);
-            row.stored
-        }
-        BestClaim::Nothing => tag,
+impl Pass for Finish<'_> {
+    ghost row_of = { λ pass. final_row pass.nations.now };
+
+    fn row(&self, joining: Joining, before: [u32; BOOKING_WIDTH]) -> [u32; BOOKING_WIDTH] {
+        let [_, _, owner] = before;
+        let stored = owner_stored(self.nations, owner, joining.tag);
+        [joining.war, joining.tag.into(), stored.into()]
     }
 }
 
-// Writes a booking by a pass over the whole chronicle.
-pub(crate) fn claim_row(x: Joining, nations: &[u32], entries: &[u32], k: usize, out: &mut [u32])
-    requires { k + 3 ≤ length out.old }
-    ensures { out.new ≡ row_put k (claimed_row nations.now entries.now (joining_of x)) out.old }
+// The stored tag of a claim's nation; for none the tag itself.
+fn claim_stored(nations: &[u32], best: Option<Claim>, tag: CountryTag) -> CountryTag
+    ensures { result ≡ claim_stored nations.now tag (option_of best) }
 {
-    let tag = x.tag;
-    let date = x.date;
-    let best = best_claim(nations, entries, tag, date);
-    let stored = claim_stored(nations, best, tag);
-    put_words(out, k, x.war, tag.word(), stored.word());
+    match best {
+        Some(claim) => nation_at(nations, claim.nation).stored,
+        None => tag,
+    }
+}
+
+// Books a joining by a pass over the whole chronicle.
+#[derive(Clone, Copy)]
+pub(crate) struct BookEach<'a> {
+    pub(crate) nations: &'a [u32],
+    pub(crate) entries: &'a [u32],
+}
+
+impl Pass for BookEach<'_> {
+    ghost row_of = { λ pass j _. claimed_row pass.nations.now pass.entries.now j };
+
+    fn row(&self, joining: Joining, _before: [u32; BOOKING_WIDTH]) -> [u32; BOOKING_WIDTH] {
+        let best = best_claim(self.nations, self.entries, joining.tag, joining.date);
+        let stored = claim_stored(self.nations, best, joining.tag);
+        [joining.war, joining.tag.into(), stored.into()]
+    }
 }

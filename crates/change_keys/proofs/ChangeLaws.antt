@@ -1,5 +1,8 @@
 -- The walk over owner changes in entry order, event by event, and how many they can be.
-use mathlib.Core.Path.{◌≡◌, refl, ap}
+use Rattle.std.specs.Prelude as code
+use Rattle.std.specs.Prelude.{Some, None}
+use Rattle.std.specs.Iterator.{YieldsFirstBy}
+use mathlib.Core.Path.{◌≡◌, sym, ap}
 use mathlib.Core.Bool.{true, false}
 use mathlib.Core.List.{List, [], ◌∷◌}
 use Prim.Native.Nat.{ℕ, ◌+◌, ◌*◌, ◌≤◌, ◌<◌}
@@ -13,20 +16,19 @@ use Rattle.sorting.proofs.SortLaws.{length-sort}
 use Rattle.format.specs.declared.tag.CountryTag.{CountryTag}
 use Rattle.format.specs.declared.rows.ProvinceId.{ProvinceId}
 use Rattle.format.specs.declared.rows.OwnerEvent.{OwnerEvent}
-use Rattle.record.specs.declared.cursors.ProvinceRow.{ProvinceRow}
-use Rattle.record.specs.declared.cursors.Provinces.{Provinces}
-use Rattle.record.specs.declared.cursors.NextProvince as NextProvince
-use Rattle.record.specs.declared.cursors.OwnerEvents.{OwnerEvents}
-use Rattle.record.specs.declared.cursors.NextOwnerEvent as NextOwnerEvent
+use Rattle.record.specs.declared.provinces.ProvinceRow.{ProvinceRow}
+use Rattle.record.specs.declared.provinces.Provinces.{Provinces}
 use Rattle.format.specs.Tags.{same_tag}
 use Rattle.format.specs.Campaign.{Province, campaign_of}
-use Rattle.record.specs.Cursors.{owner_events_left, owner_event_told, provinces_left, province_told, all_owner_events}
+use Rattle.record.specs.declared.rows.Rows.{Rows}
+use Rattle.record.specs.Cursors.{owner_events_left, province_of, provinces_left, all_owner_events}
 use Rattle.record.proofs.SharedLaws.{events-shared}
 use Rattle.format.specs.Refusal.{refusal}
-use Rattle.format.proofs.CampaignLaws.{told-row, told-end}
 use Rattle.format.proofs.BoundLaws.{small-provinces, few-events, events-bytes}
 use Rattle.rules.specs.Changes.{changes_from, province_changes, by_date_and_id, changes_of}
-use Rattle.change_keys.specs.ChangeSteps.{changes_left, changes_ahead, entered, most_changes}
+use Rattle.change_keys.specs.declared.changes.OwnerChange.{OwnerChange}
+use Rattle.change_keys.specs.declared.changes.Changes.{Changes}
+use Rattle.change_keys.specs.ChangeSteps.{change_of, slots_left, changes_left, changes_ahead, entered, most_changes}
 pub use Rattle.change_keys.specs.ChangeSteps.{Narrow}
 use Rattle.rules.proofs.CampaignLaws.{all-changes}
 
@@ -36,39 +38,43 @@ use Rattle.rules.proofs.CampaignLaws.{all-changes}
 abbrev pub steps : List Province → ℕ
 steps ps = sum_of (λ p. length p.events + 1) ps
 
-module _ (xs : List ℕ) (p : ProvinceRow) (rest : Provinces) {at : NextProvince.NextProvince} (here : at ≡ NextProvince.TheVariants.Row p rest)
-    {r : NextOwnerEvent.NextOwnerEvent} (told : owner_events_left xs p.events ≡ owner_event_told xs r) where
+-- What `next` gives for a slot is the first of the provinces left.
+pub slots-next : (s : Provinces) (r : code.Option ProvinceRow) (t : Provinces) → YieldsFirstBy province_of provinces_left s r t → slots_left r t ≡ provinces_left s
+slots-next s (Some p) t told = sym told
+slots-next s None t told = sym told.0
+
+-- A province at hand whose events left are `es`, with those behind it.
+module _ (id : ProvinceId) (owner : CountryTag) (ps : List Province) where
+  abbrev pub at_hand : List OwnerEvent → List Province
+  at_hand es = record { id = id; owner = owner; events = es } ∷ ps
+
   -- The province has no event left.
-  module _ (end : r ≡ NextOwnerEvent.TheVariants.End) where
-    none : owner_events_left xs p.events ≡ []
-    none = told-end (owner_event_told xs) told end refl
-
-    pub walk-on : changes_left xs at ≡ join_of province_changes (provinces_left xs rest)
-    unfolding changes_from
-    walk-on = rw (here, none)
-
-    pub walk-on-less : steps (provinces_left xs rest) < steps (province_told xs at)
-    walk-on-less = rw here (omega arith)
+  pub walk-on : (es : List OwnerEvent) → es ≡ [] → join_of province_changes (at_hand es) ≡ join_of province_changes ps
+  unfolding changes_from
+  walk-on es e = rw e
 
   -- It has one: its slot then has the event's tag.
-  module _ (e : OwnerEvent) (events : OwnerEvents) (row : r ≡ NextOwnerEvent.TheVariants.Row e events) where
-    abbrev pub passed : NextProvince.NextProvince
-    passed = NextProvince.TheVariants.Row (record { id = p.id; owner = e.tag; events = events }) rest
+  module _ {es rest : List OwnerEvent} {e : OwnerEvent} (more : es ≡ e ∷ rest) where
+    abbrev pub passed : List Province
+    passed = record { id = id; owner = e.tag; events = rest } ∷ ps
 
-    first : owner_events_left xs p.events ≡ e ∷ owner_events_left xs events
-    first = told-row (owner_event_told xs) told row refl
-
-    pub walk_same : same_tag p.owner e.tag ≡ true → changes_left xs at ≡ changes_left xs passed
+    pub walk_same : same_tag owner e.tag ≡ true → join_of province_changes (at_hand es) ≡ join_of province_changes passed
     unfolding changes_from
-    walk_same t = rw (here, first) (simp t)
+    walk_same t = rw more (simp t)
 
-    pub walk-change : same_tag p.owner e.tag ≡ false
-        → changes_left xs at ≡ record { date = e.date; id = p.id; from = p.owner; to = e.tag } ∷ changes_left xs passed
+    pub walk-change : same_tag owner e.tag ≡ false
+        → join_of province_changes (at_hand es) ≡ record { date = e.date; id = id; from = owner; to = e.tag } ∷ join_of province_changes passed
     unfolding changes_from
-    walk-change t = rw (here, first) (simp t)
+    walk-change t = rw more (simp t)
 
-    pub walk-less : steps (province_told xs passed) < steps (province_told xs at)
-    walk-less = rw here (omega (arith, ap length first))
+-- A step over an event leaves one less to take.
+pub walk-less : (p : ProvinceRow) (rest : Provinces) (e : OwnerEvent) (events : Rows OwnerEvent 7) → owner_events_left p.events ≡ e ∷ owner_events_left events
+    → steps (slots_left (Some (record { id = p.id; owner = e.tag; events = events })) rest) < steps (slots_left (Some p) rest)
+walk-less p rest e events first = omega (arith, ap length first)
+
+-- A step that gave a change leaves one less.
+pub change-less : (s : Changes) (x : OwnerChange) (t : Changes) → YieldsFirstBy change_of changes_left s (Some x) t → length (changes_left s) ≡ length (changes_left t) + 1
+change-less s x t told = omega (arith, ap length told)
 
 -- ## How many changes
 
@@ -86,10 +92,10 @@ all-few (p ∷ ps) =
     omega (arith, length-append (province_changes p) (join_of province_changes ps), slot-few p.id p.owner p.events, all-few ps)
 
 -- No more changes are ahead than the provinces left share owner events.
-pub ahead_within : (xs : List ℕ) (c : Provinces) → length (changes_ahead xs c) ≤ length (all_owner_events xs c)
-ahead_within xs c =
-    let left = provinces_left xs c in
-    omega (arith, all-few left, length-joined (λ (p : Province). p.events) left, events-shared xs c)
+pub ahead_within : (c : Provinces) → length (changes_ahead c) ≤ length (all_owner_events c)
+ahead_within c =
+    let left = provinces_left c in
+    omega (arith, all-few left, length-joined (λ (p : Province). p.events) left, events-shared c)
 
 pub entered-few : (xs : List ℕ) → refusal xs ≡ 0 → length (entered xs) ≤ most_changes
 entered-few xs h = omega (arith, all-few (campaign_of xs).provinces, few-events xs h)

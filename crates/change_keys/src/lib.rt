@@ -4,8 +4,8 @@
 mod changes;
 mod keys;
 
-pub use changes::{NextChange, OwnerChange, next_change};
+pub use changes::{Changes, OwnerChange};
 pub use keys::{
-    CHANGE_WIDTH, MOST_CHANGES, PER_DATE, PER_ID, cell, change_in, change_key, fill_keys,
-    fill_tags, tags_of,
+    CHANGE_WIDTH, MOST_CHANGES, PER_DATE, PER_ID, fill_keys, fill_row_keys, fill_row_tags,
+    fill_tags,
 };

@@ -6,6 +6,5 @@ mod ordering;
 mod rows;
 mod writing;
 
-pub use entering::Walked;
-pub use ordering::{OrderedRows, write_ordered};
+pub use ordering::write_ordered;
 pub use writing::write_sorted;

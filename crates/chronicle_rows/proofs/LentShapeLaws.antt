@@ -1,51 +1,33 @@
 -- The tests of shape, word by word and row by row.
-use mathlib.Core.Path.{◌≡◌, refl, sym, ap, ◌∙◌}
-use mathlib.Core.Bool.{Bool, true, false, cond, not, ◌&&◌}
-use mathlib.Core.List.{List, [], ◌∷◌}
-use mathlib.Core.Option.{Option, none, some}
-use Prim.Native.Nat.{ℕ, zero, suc, ◌+◌, ◌-◌, ◌<◌, ◌≤◌}
+use mathlib.Core.Path.{◌≡◌, refl, sym, ◌∙◌}
+use mathlib.Core.Bool.{Bool, true, false, not, ◌&&◌}
+use mathlib.Core.List.{List, [], ◌∷◌, map}
+use Prim.Native.Nat.{ℕ, zero, suc, ◌+◌, ◌-◌, ◌/◌, ◌%◌, ◌<◌, ◌≤◌}
+use native.Mathlib.Numerals.{add-one}
 use native.Mathlib.Omega.{arith}
 use borrow.Author.Tests.{leb-true, leb-false, ne_eqb, not-true, not-false}
 use lib.Dec.{leb, eqb}
-use lib.ListN.{length, drop}
-use lib.Seq.{drop-length}
-use Rattle.lists.specs.Lists.{all_of, is_whole}
+use lib.ListN.{length, get_or, drop, length-map}
+use lib.Seq.{drop-length, drop-cons}
+use Rattle.std.specs.Simd.{first_chunks}
+use Rattle.lists.specs.Lists.{all_of, is_whole, whole_rows}
 use Rattle.lists.proofs.BoolLaws.{cases, and_left, and_right, and-false}
 use Rattle.format.specs.declared.tag.CountryTag.{CountryTag}
-use Rattle.format.specs.declared.tag.Created.{Created}
-use Rattle.format.specs.declared.tag.Created.TheVariants.{Tag, NoTag}
-use Rattle.format.specs.Tags.{is_tag, created_tag, tested, tag_of_word}
-use Rattle.rules.specs.NationRows.{NationRow, nation_width, entry_width, nation_rows_in, entry_rows_in, tags_shaped, kind_shaped, entry_shaped, without_gap, well_shaped}
-
--- ## A word that is a tag's, and one that is none
-
-pub tag-told : (w : ℕ) {r : Created} {t : CountryTag} → created_tag r ≡ tag_of_word w → r ≡ Tag t → is_tag (record { 0 = w }) ≡ true
-unfolding tested
-tag-told w {r} {t} e q = go (is_tag (record { 0 = w })) (sym (ap created_tag q) ∙ e)
-  where
-    go : (good : Bool) → some t ≡ cond good (some (record { 0 = w })) none → good ≡ true
-    go true h = refl
-    go false h = let z : ◌≡◌ {A = ℕ} 0 1 = cc in absurd (omega arith)
-
-pub no-tag-told : (w : ℕ) {r : Created} → created_tag r ≡ tag_of_word w → r ≡ NoTag → is_tag (record { 0 = w }) ≡ false
-unfolding tested
-no-tag-told w e q = go (is_tag (record { 0 = w })) (sym (ap created_tag q) ∙ e)
-  where
-    go : (good : Bool) → ◌≡◌ {A = Option CountryTag} none (cond good (some (record { 0 = w })) none) → good ≡ false
-    go true h = let z : ◌≡◌ {A = ℕ} 0 1 = cc in absurd (omega arith)
-    go false h = refl
+use Rattle.format.specs.Tags.{is_tag}
+use Rattle.rules.specs.NationRows.{NationRow, nation_row_of, entry_row_of, nation_width, entry_width, nation_rows_in, entry_rows_in, tags_shaped, kind_shaped, entry_shaped, without_gap, well_shaped}
+use Rattle.chronicle_rows.proofs.RowAtLaws.{chunks-rows}
 
 -- ## Kinds
 
-pub switch-shaped : (kind target : ℕ) (t : CountryTag) → kind ≡ 0 → t.0 ≡ target → is_tag t ≡ kind_shaped kind target
+pub switch_shaped : (kind target : ℕ) (t : CountryTag) → kind ≡ 0 → t.0 ≡ target → is_tag t ≡ kind_shaped kind target
 unfolding kind_shaped
-switch-shaped zero target t h e = rw (← e)
-switch-shaped (suc k) target t h e = absurd (omega arith)
+switch_shaped zero target t h e = rw (← e)
+switch_shaped (suc k) target t h e = absurd (omega arith)
 
-pub life-shaped : (kind target : ℕ) → (kind ≡ 0 → ⊥) → leb kind 2 && eqb target 0 ≡ kind_shaped kind target
+pub life_shaped : (kind target : ℕ) → (kind ≡ 0 → ⊥) → leb kind 2 && eqb target 0 ≡ kind_shaped kind target
 unfolding kind_shaped
-life-shaped zero target h = absurd (h refl)
-life-shaped (suc k) target h = refl
+life_shaped zero target h = absurd (h refl)
+life_shaped (suc k) target h = refl
 
 -- ## All rows
 
@@ -53,12 +35,6 @@ life-shaped (suc k) target h = refl
 module _ {A : Type 0} (p : A → Bool) (rows : List A) (i j : ℕ) (row : A) (next : drop i rows ≡ row ∷ drop j rows) (so_far : all_of p (drop i rows) ≡ all_of p rows) where
   pub all_pass : p row ≡ true → all_of p (drop j rows) ≡ all_of p rows
   all_pass h = rw (next, h) at so_far
-
-  pub all-stop : p row ≡ false → false ≡ all_of p rows
-  all-stop h = rw (next, h) at so_far
-
-pub all_end : {A : Type 0} (p : A → Bool) (rows : List A) (i : ℕ) → i ≡ length rows → all_of p (drop i rows) ≡ all_of p rows → true ≡ all_of p rows
-all_end p rows i e so_far = rw (e, drop-length rows) at so_far
 
 -- ## Without gap
 
@@ -80,10 +56,10 @@ abbrev pub follow : ℕ → List NationRow → ℕ → Bool
 follow first rs end = all_of tags_shaped rs && without_gap first rs end
 
 -- The rows from number i on, with their entries from `next` on, tell of all rows.
-pub record Following (rows : List NationRow) (end next i : ℕ) : Type 0 where
+pub record Following (rows : List (List ℕ)) (end next i : ℕ) : Type 0 where
   pub inside : i ≤ length rows
   pub room : next ≤ end
-  pub tells : follow next (drop i rows) end ≡ follow 0 rows end
+  pub tells : follow next (map nation_row_of (drop i rows)) end ≡ follow 0 (map nation_row_of rows) end
 
 -- The test of one row, as the code makes it.
 abbrev row_fits : NationRow → ℕ → ℕ → Bool
@@ -108,51 +84,74 @@ row-fails row rest end next room h =
     (λ f. simp (t, f, and-false)))
     (λ t. simp t))
 
--- The code has tested row number i, with t for its tags.
-module _ (rows : List NationRow) (end next i : ℕ) (row : NationRow) (more : drop i rows ≡ row ∷ drop (i + 1) rows) (inside : i < length rows) (f : Following rows end next i) (t : Bool) (e : t ≡ tags_shaped row) where
-  pub follow-pass : not (t && eqb row.first next && leb row.count (end - next)) ≡ false → Following rows end (next + row.count) (i + 1)
-  follow-pass h =
-      let step = row-fits row (drop (i + 1) rows) end next f.room (rw e at (not-false (t && eqb row.first next && leb row.count (end - next)) h)) in
-      record { inside = omega arith; room = step.0; tells = sym step.1 ∙ (rw more at f.tells) }
+-- The code has read row number i, and tested it.
+module _ (rows : List (List ℕ)) (end next i : ℕ) (row : NationRow) (read : row ≡ nation_row_of (get_or rows i [])) (inside : i < length rows) (f : Following rows end next i) where
+  more : map nation_row_of (drop i rows) ≡ row ∷ map nation_row_of (drop (i + 1) rows)
+  more = rw (drop-cons rows i [] inside, read, add-one) refl
 
-  pub follow-stop : not (t && eqb row.first next && leb row.count (end - next)) ≡ true → false ≡ follow 0 rows end
-  follow-stop h =
-      sym (row-fails row (drop (i + 1) rows) end next f.room (rw e at (not-true (t && eqb row.first next && leb row.count (end - next)) h)))
-      ∙ (rw more at f.tells)
+  module _ (t : Bool) (e : t ≡ tags_shaped row) where
+    pub follow_pass : not (t && eqb row.first next && leb row.count (end - next)) ≡ false → Following rows end (next + row.count) (i + 1)
+    follow_pass h =
+        let step = row-fits row (map nation_row_of (drop (i + 1) rows)) end next f.room (rw e at (not-false (t && eqb row.first next && leb row.count (end - next)) h)) in
+        record { inside = omega arith; room = step.0; tells = sym step.1 ∙ (rw more at f.tells) }
 
-pub follow-end : (rows : List NationRow) (end next i : ℕ) → length rows ≤ i → Following rows end next i → eqb next end ≡ follow 0 rows end
-follow-end rows end next i h f =
-    let e : i ≡ length rows = let g = f.inside in omega arith in
-    sym (gap-none next end) ∙ (rw (e, drop-length rows) at f.tells)
+    pub follow_stop : not (t && eqb row.first next && leb row.count (end - next)) ≡ true → false ≡ follow 0 (map nation_row_of rows) end
+    follow_stop h =
+        sym (row-fails row (map nation_row_of (drop (i + 1) rows)) end next f.room (rw e at (not-true (t && eqb row.first next && leb row.count (end - next)) h)))
+        ∙ (rw more at f.tells)
+
+pub follow_end : (rows : List (List ℕ)) (end next : ℕ) → Following rows end next (length rows) → eqb next end ≡ follow 0 (map nation_row_of rows) end
+follow_end rows end next f = sym (gap-none next end) ∙ (rw (drop-length rows) at f.tells)
 
 -- ## Well shaped
 
-module _ (ws es : List ℕ) where
-  abbrev whole : Bool
-  whole = is_whole nation_width ws && is_whole entry_width es
+-- What a test of each array found is what `all_of` says of their rows.
+each-all : {A : Type 0} (p : A → Bool) (f : List ℕ → A) (rows : List (List ℕ)) → ((k : ℕ) → k < length rows → p (f (get_or rows k [])) ≡ true) → all_of p (map f rows) ≡ true
+each-all p f [] h = refl
+each-all p f (r ∷ rs) h = simp (h 0 (omega arith)) (each-all p f rs (λ k l. h (suc k) (omega arith)))
 
-  abbrev follows : Bool
-  follows = follow 0 (nation_rows_in ws) (length (entry_rows_in es))
+all-each : {A : Type 0} (p : A → Bool) (f : List ℕ → A) (rows : List (List ℕ)) → all_of p (map f rows) ≡ true → (k : ℕ) → k < length rows → p (f (get_or rows k [])) ≡ true
+all-each p f [] h k l = absurd (omega arith)
+all-each p f (r ∷ rs) h zero l = and_left (p (f r)) _ h
+all-each p f (r ∷ rs) h (suc k) l = all-each p f rs (and_right (p (f r)) _ h) k (omega arith)
 
-  rearranged : (w a b c : Bool) → w && a && b && c ≡ w && (a && c) && b
-  rearranged false a b c = refl
-  rearranged true false b c = refl
-  rearranged true true false c = sym (and-false c)
-  rearranged true true true true = refl
-  rearranged true true true false = refl
+pub rows-pass : {A : Type 0} (p : A → Bool) (f : List ℕ → A) (rows : List (List ℕ)) (b : Bool) → (b ≡ true → (k : ℕ) → k < length rows → p (f (get_or rows k [])) ≡ true)
+    → (((k : ℕ) → k < length rows → p (f (get_or rows k [])) ≡ true) → b ≡ true) → b ≡ all_of p (map f rows)
+rows-pass p f rows b to back = go b (all_of p (map f rows)) (λ h. each-all p f rows (to h)) (λ h. back (all-each p f rows h))
+  where
+    go : (a c : Bool) → (a ≡ true → c ≡ true) → (c ≡ true → a ≡ true) → a ≡ c
+    go true c u v = sym (u refl)
+    go false true u v = v refl
+    go false false u v = refl
 
-  by_parts : well_shaped ws es ≡ whole && follows && all_of entry_shaped (entry_rows_in es)
-  unfolding well_shaped
-  by_parts = rearranged whole _ _ _
+rearranged : (w a b c : Bool) → w && a && b && c ≡ w && (a && c) && b
+rearranged false a b c = refl
+rearranged true false b c = refl
+rearranged true true false c = sym (and-false c)
+rearranged true true true true = refl
+rearranged true true true false = refl
 
-  -- The code has tested whether the words are whole, w and v, and whether the nations' tags and entries follow, f.
-  module _ (w v : Bool) (p : w ≡ is_whole nation_width ws) (q : v ≡ is_whole entry_width es) where
-    pub torn : not (w && v) ≡ true → false ≡ well_shaped ws es
-    torn h = let t = not-true (w && v) h in sym (by_parts ∙ rw (← p, ← q, t))
+-- Of words divided into arrays.
+module _ (ws es : List ℕ) (ns ents : List (List ℕ)) (p : ns ≡ first_chunks nation_width (length ws / nation_width) ws) (q : ents ≡ first_chunks entry_width (length es / entry_width) es) where
+  by_parts : well_shaped ws es ≡ (is_whole nation_width ws && is_whole entry_width es) && follow 0 (map nation_row_of ns) (length ents) && all_of entry_shaped (map entry_row_of ents)
+  unfolding well_shaped nation_rows_in entry_rows_in
+  by_parts = rw (p, q, chunks-rows, chunks-rows, ← length-map (whole_rows entry_width es) entry_row_of) (rearranged (is_whole nation_width ws && is_whole entry_width es) _ _ _)
 
-    module _ (f : Bool) (e : f ≡ follows) (h : not (w && v) ≡ false) where
-      pub not-following : not f ≡ true → false ≡ well_shaped ws es
-      not-following g = let t = not-false (w && v) h in let u = not-true f g in sym (by_parts ∙ rw (← p, ← q, ← e, t, u))
+  module _ (a b : List ℕ) (x : length a ≡ length ws % nation_width) (y : length b ≡ length es % entry_width) where
+    pub torn : not (eqb (length a) 0 && eqb (length b) 0) ≡ true → false ≡ well_shaped ws es
+    torn h = let t = not-true (eqb (length a) 0 && eqb (length b) 0) h in sym (by_parts ∙ rw (← x, ← y, t))
 
-      pub by_entries : not f ≡ false → all_of entry_shaped (entry_rows_in es) ≡ well_shaped ws es
-      by_entries g = let t = not-false (w && v) h in let u = not-false f g in sym (by_parts ∙ rw (← p, ← q, ← e, t, u))
+    module _ (h : not (eqb (length a) 0 && eqb (length b) 0) ≡ false) where
+      whole : well_shaped ws es ≡ follow 0 (map nation_row_of ns) (length ents) && all_of entry_shaped (map entry_row_of ents)
+      whole = let t = not-false (eqb (length a) 0 && eqb (length b) 0) h in by_parts ∙ rw (← x, ← y, t)
+
+      pub not-following : (f : Bool) → f ≡ follow 0 (map nation_row_of ns) (length ents) → f ≡ false → f ≡ well_shaped ws es
+      not-following f e g = sym (whole ∙ rw (← e, g))
+
+      pub by_entries : (f g : Bool) → f ≡ follow 0 (map nation_row_of ns) (length ents) → f ≡ true
+          → (g ≡ true → (k : ℕ) → k < length ents → entry_shaped (entry_row_of (get_or ents k [])) ≡ true)
+          → (((k : ℕ) → k < length ents → entry_shaped (entry_row_of (get_or ents k [])) ≡ true) → g ≡ true)
+          → g ≡ well_shaped ws es
+      by_entries f g e t to back =
+          rows-pass entry_shaped entry_row_of ents g to back
+          ∙ sym (whole ∙ rw (← e, t))

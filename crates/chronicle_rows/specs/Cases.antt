@@ -3,7 +3,6 @@ use Rattle.chronicle_rows.specs.declared.counts.NationCounts.{NationCounts}
 use Rattle.chronicle_rows.specs.declared.rows.Nation as Nation
 use Rattle.chronicle_rows.specs.declared.rows.Kind as Kind
 use Rattle.chronicle_rows.specs.declared.rows.Entry as Entry
-use Rattle.chronicle_rows.specs.declared.rows.EntryRow as EntryRow
 use Rattle.rules.specs.Chronicle as R
 use Rattle.rules.specs.NationRows as N
 use Rattle.rules.specs.Outcomes.{Counts}
@@ -21,10 +20,6 @@ kind_told Kind.TheVariants.Annexed = R.annexed
 -- An entry.
 abbrev pub entry_told : Entry.Entry → R.Entry
 entry_told e = record { date = e.date; kind = kind_told e.kind }
-
--- An entry row whose kind and target may be any words.
-abbrev pub row_told : EntryRow.EntryRow → N.EntryRow
-row_told r = record { date = r.date; kind = r.kind; target = r.target }
 
 -- How many nations, entries, slots, countries and changes there are.
 abbrev pub counts_in : NationCounts → Counts

@@ -1,5 +1,5 @@
 // How many rows of each kind a chronicle has.
-#[derive(Clone, Copy)]
+#[derive(Clone, Copy, Debug, PartialEq, Eq)]
 pub struct NationCounts {
     pub nations: usize,
     pub entries: usize,

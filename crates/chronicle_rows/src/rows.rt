@@ -1,19 +1,36 @@
 // Nation rows and entry rows by their number, from 0. A number past the last row gives a row of zeros.
-ghost use Rattle.std.specs.Prelude.{◌≡◌, length};
-ghost use Rattle.lists.specs.Lists.{is_whole};
-ghost use Rattle.rules.specs.NationRows.{nation_width, entry_width, nation_rows_in, entry_rows_in, kind_of};
-ghost use Rattle.chronicle_rows.specs.Cases.{nation_told, kind_told, entry_told, row_told};
-ghost use Rattle.chronicle_rows.specs.RowAt.{nation_row_at, entry_row_at, entry_at};
+ghost use Rattle.std.specs.Prelude.{◌≡◌, ◌/◌, ◌^◌, ◌<◌, length, get_or, replicate};
+ghost use Rattle.std.specs.Simd.{first_chunks};
+ghost use Rattle.std.proofs.Common.{lit<};
+ghost use Rattle.rules.specs.NationRows.{nation_row_of, entry_row_of, entry_of, nation_rows_in, entry_rows_in, kind_of};
+ghost use Rattle.chronicle_rows.specs.Cases.{nation_told, kind_told, entry_told};
+ghost use Rattle.chronicle_rows.specs.RowAt.{nation_row_at, entry_at};
 
 use format::{CountryTag, Eu4Date};
 
-// How many words a nation row has, and an entry row.
+// How many words a nation row has.
 pub const NATION_WIDTH: usize = 5;
 
+// How many words an entry row has.
 pub const ENTRY_WIDTH: usize = 3;
 
+// A row of so many words, one at least, and not so wide that its width is no size of memory.
+pub trait Row<const WIDTH: usize>: From<[u32; WIDTH]> {
+    ghost some: { 0 < WIDTH };
+
+    ghost narrow: { WIDTH < 2 ^ 16 };
+}
+
+// Row number i of the words; past the last one that of zeros.
+pub fn row_at<R: Row<WIDTH>, const WIDTH: usize>(words: &[u32], i: usize) -> R
+    ensures { R.from_gives (get_or (first_chunks WIDTH (length words.now / WIDTH) words.now) i (replicate WIDTH 0)) result }
+{
+    let rows = words.as_chunks::<WIDTH>().0;
+    R::from(rows.get(i).copied().unwrap_or([0; WIDTH]))
+}
+
 // A nation row: three tags, the number of its first entry row, and how many it has.
-#[derive(Clone, Copy)]
+#[derive(Clone, Copy, Debug, PartialEq, Eq)]
 pub struct Nation {
     pub initial: CountryTag,
     pub latest: CountryTag,
@@ -22,29 +39,23 @@ pub struct Nation {
     pub count: u32,
 }
 
-// What an entry tells.
-#[derive(Clone, Copy)]
+// What an entry tells: the tag that its nation switched to, that it appeared, or that it was annexed. Of three cases none is an absence.
+#[derive(Clone, Copy, Debug, PartialEq, Eq)]
 pub enum Kind {
     Switch(CountryTag),
     Appeared,
     Annexed,
 }
 
-#[derive(Clone, Copy)]
+// An entry of a nation: what it tells, and from which date on.
+#[derive(Clone, Copy, Debug, PartialEq, Eq)]
 pub struct Entry {
     pub date: Eu4Date,
     pub kind: Kind,
 }
 
-// An entry row as it stands: its kind and its target may be any words.
-#[derive(Clone, Copy)]
-pub(crate) struct EntryRow {
-    pub(crate) date: Eu4Date,
-    pub(crate) kind: u32,
-    pub(crate) target: u32,
-}
-
 // How many nation rows the words make. Words behind the last whole row count for nothing.
+#[tactic(auto, using(crate::proofs::RowAtLaws::nation_rows_count))]
 pub fn nation_count(nations: &[u32]) -> usize
     ensures { result ≡ length (nation_rows_in nations.now) }
 {
@@ -52,88 +63,79 @@ pub fn nation_count(nations: &[u32]) -> usize
 }
 
 // How many entry rows the words make.
+#[tactic(auto, using(crate::proofs::RowAtLaws::entry_rows_count))]
 pub fn entry_count(entries: &[u32]) -> usize
     ensures { result ≡ length (entry_rows_in entries.now) }
 {
     entries.len() / ENTRY_WIDTH
 }
 
-// Whether the nation words make whole rows.
-pub(crate) fn nations_whole(nations: &[u32]) -> bool
-    ensures { result ≡ is_whole nation_width nations.now }
-{
-    nations.len() % NATION_WIDTH == 0
+// What a nation row's words tell. Anybody may have written them, and reading refuses none: `is_well_shaped` tests every tag.
+impl From<[u32; NATION_WIDTH]> for Nation {
+    ghost from_gives = { λ row nation. nation_told nation ≡ nation_row_of row };
+
+    fn from(row: [u32; NATION_WIDTH]) -> Nation {
+        let [initial, latest, stored, first, count] = row;
+        Nation {
+            initial: CountryTag::kept(initial),
+            latest: CountryTag::kept(latest),
+            stored: CountryTag::kept(stored),
+            first,
+            count,
+        }
+    }
 }
 
-// Whether the entry words make whole rows.
-pub(crate) fn entries_whole(entries: &[u32]) -> bool
-    ensures { result ≡ is_whole entry_width entries.now }
-{
-    entries.len() % ENTRY_WIDTH == 0
+// What an entry row's words tell, whatever they are: `is_well_shaped` tests the date, the kind and the target.
+impl From<[u32; ENTRY_WIDTH]> for Entry {
+    ghost from_gives = { λ row entry. entry_told entry ≡ entry_of (entry_row_of row) };
+
+    fn from(row: [u32; ENTRY_WIDTH]) -> Entry {
+        let [date, kind, target] = row;
+        Entry {
+            date: Eu4Date::kept(date),
+            kind: Kind::of(kind, target),
+        }
+    }
+}
+
+impl Row<NATION_WIDTH> for Nation {
+    ghost some = { lit< tt };
+
+    ghost narrow = { lit< tt };
+}
+
+impl Row<ENTRY_WIDTH> for Entry {
+    ghost some = { lit< tt };
+
+    ghost narrow = { lit< tt };
+}
+
+impl Kind {
+    // What two words of a row tell, in which kinds are numbers. One above 2 reads as Annexed; no well-shaped chronicle has one.
+    fn of(kind: u32, target: u32) -> Kind
+        ensures { kind_told result ≡ kind_of kind target }
+    {
+        match kind {
+            0 => Kind::Switch(CountryTag::kept(target)),
+            1 => Kind::Appeared,
+            _ => Kind::Annexed,
+        }
+    }
 }
 
 // Nation row number i. Its tags are tested by `is_well_shaped` alone.
+#[tactic(auto, using(crate::proofs::RowAtLaws::nation_here))]
 pub fn nation_at(nations: &[u32], i: usize) -> Nation
     ensures { nation_told result ≡ nation_row_at nations.now i }
 {
-    if nations.len() / NATION_WIDTH <= i {
-        return Nation {
-            initial: CountryTag::kept(0),
-            latest: CountryTag::kept(0),
-            stored: CountryTag::kept(0),
-            first: 0,
-            count: 0,
-        };
-    }
-    let at = NATION_WIDTH * i;
-    Nation {
-        initial: CountryTag::kept(nations[at]),
-        latest: CountryTag::kept(nations[at + 1]),
-        stored: CountryTag::kept(nations[at + 2]),
-        first: nations[at + 3],
-        count: nations[at + 4],
-    }
-}
-
-// Entry row number i, untested.
-pub(crate) fn entry_row(entries: &[u32], i: usize) -> EntryRow
-    ensures { row_told result ≡ entry_row_at entries.now i }
-{
-    if entries.len() / ENTRY_WIDTH <= i {
-        return EntryRow {
-            date: Eu4Date::kept(0),
-            kind: 0,
-            target: 0,
-        };
-    }
-    let at = ENTRY_WIDTH * i;
-    EntryRow {
-        date: Eu4Date::kept(entries[at]),
-        kind: entries[at + 1],
-        target: entries[at + 2],
-    }
-}
-
-// What two words of a row tell. A kind above 2 reads as Annexed; no well-shaped chronicle has one.
-fn kind_of(kind: u32, target: u32) -> Kind
-    ensures { kind_told result ≡ kind_of kind target }
-{
-    if kind == 0 {
-        return Kind::Switch(CountryTag::kept(target));
-    }
-    if kind == 1 {
-        Kind::Appeared
-    } else {
-        Kind::Annexed
-    }
+    row_at(nations, i)
 }
 
 // Entry number i.
+#[tactic(auto, using(crate::proofs::RowAtLaws::entry_here))]
 pub fn entry_at(entries: &[u32], i: usize) -> Entry
     ensures { entry_told result ≡ entry_at entries.now i }
 {
-    let row = entry_row(entries, i);
-    let date = row.date;
-    let kind = kind_of(row.kind, row.target);
-    Entry { date, kind }
+    row_at(entries, i)
 }

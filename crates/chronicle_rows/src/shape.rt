@@ -1,84 +1,54 @@
 // Whether nation words and entry words are a well-shaped chronicle.
-ghost use Rattle.std.specs.Prelude.{◌≡◌, ◌&&◌};
+ghost use Rattle.std.specs.Prelude.{◌≡◌, ◌&&◌, map, true, [], IsTrue, ◌↔◌, EachIndex, slice_index_or};
 ghost use Rattle.lists.specs.Lists.{all_of};
-ghost use Rattle.format.specs.Tags.{is_tag};
-ghost use Rattle.format.specs.Dates.{good_date};
-ghost use Rattle.rules.specs.NationRows.{nation_rows_in, entry_rows_in, tags_shaped, kind_shaped, entry_shaped, without_gap, well_shaped};
-ghost use Rattle.chronicle_rows.specs.Cases.{nation_told, row_told};
+ghost use Rattle.rules.specs.NationRows.{nation_row_of, nation_rows_in, entry_row_of, entry_rows_in, tags_shaped, kind_shaped, entry_shaped, without_gap, well_shaped};
+ghost use Rattle.chronicle_rows.specs.Cases.{nation_told};
 
-use crate::rows;
-use crate::rows::{EntryRow, Nation};
-use format::{CountryTag, Created, Dated, Eu4Date};
+use crate::rows::{ENTRY_WIDTH, NATION_WIDTH, Nation};
+use format::{CountryTag, Eu4Date};
 
-// Whether the word is a tag's.
-pub fn is_tag(tag: CountryTag) -> bool
-    ensures { result ≡ is_tag tag }
-{
-    match CountryTag::of_word(tag.word()) {
-        Created::Tag(_) => true,
-        Created::NoTag => false,
-    }
-}
-
-// Whether the word is a date's.
-pub fn is_date(date: Eu4Date) -> bool
-    ensures { result ≡ good_date date }
-{
-    match Eu4Date::of_word(date.word()) {
-        Dated::Date(_) => true,
-        Dated::NoDate => false,
-    }
-}
-
-// Whether a nation's three words are tags'.
-fn tags_shaped(n: Nation) -> bool
-    ensures { result ≡ tags_shaped (nation_told n) }
-{
-    is_tag(n.initial) & is_tag(n.latest) & is_tag(n.stored)
-}
-
-// Whether a kind is one of three, with a tag as target for a switch and 0 for the others.
+// Whether a kind is one of three, with a tag as target for a switch and 0 for the others. It is asked of the row's numbers, for `Kind` has no case for
+// a bad one; and words are tested as they are kept, for the tag or date that `try_from` would make is not wanted.
+#[tactic(auto, using(crate::proofs::LentShapeLaws::switch_shaped, crate::proofs::LentShapeLaws::life_shaped))]
 fn kind_shaped(kind: u32, target: u32) -> bool
     ensures { result ≡ kind_shaped kind target }
 {
-    if kind == 0 {
-        return is_tag(CountryTag::kept(target));
+    match kind {
+        0 => CountryTag::kept(target).good(),
+        _ => (kind <= 2) & (target == 0),
     }
-    (kind <= 2) & (target == 0)
 }
 
 // Whether an entry's date is good, and its kind and target.
-fn entry_shaped(row: EntryRow) -> bool
-    ensures { result ≡ entry_shaped (row_told row) }
+fn entry_shaped(row: &[u32; ENTRY_WIDTH]) -> bool
+    ensures { result ≡ entry_shaped (entry_row_of row.now) }
 {
-    is_date(row.date) & kind_shaped(row.kind, row.target)
+    let [date, kind, target] = *row;
+    Eu4Date::kept(date).good() & kind_shaped(kind, target)
 }
 
 // Whether every entry row is shaped.
-fn entries_shaped(entries: &[u32]) -> bool
-    ensures { result ≡ all_of entry_shaped (entry_rows_in entries.now) }
+fn entries_shaped(entries: &[[u32; ENTRY_WIDTH]]) -> bool
+    ensures { IsTrue result ↔ EachIndex entries.now (λ k. entry_shaped (entry_row_of (slice_index_or entries.now k [])) ≡ true) }
 {
-    let n = rows::entry_count(entries);
-    let mut entry = 0;
-    while entry < n {
-        if !entry_shaped(rows::entry_row(entries, entry)) {
-            return false;
-        }
-        entry += 1;
-    }
-    true
+    entries.iter().all(entry_shaped)
+}
+
+// Whether a nation's three tags are tags.
+fn tags_shaped(nation: Nation) -> bool
+    ensures { result ≡ tags_shaped (nation_told nation) }
+{
+    nation.initial.good() & nation.latest.good() & nation.stored.good()
 }
 
 // Whether every nation's tags are tags, and their entries follow each other from 0 to the end. A count is held against what is left of
 // the entries before it is added: so no sum can pass the end.
-fn nations_shaped(nations: &[u32], end: usize) -> bool
-    ensures { result ≡ (all_of tags_shaped (nation_rows_in nations.now) && without_gap 0 (nation_rows_in nations.now) end) }
+fn nations_shaped(nations: &[[u32; NATION_WIDTH]], end: usize) -> bool
+    ensures { result ≡ (all_of tags_shaped (map nation_row_of nations.now) && without_gap 0 (map nation_row_of nations.now) end) }
 {
-    let n = rows::nation_count(nations);
     let mut next: usize = 0;
-    let mut i = 0;
-    while i < n {
-        let nation = rows::nation_at(nations, i);
+    for &row in nations {
+        let nation = Nation::from(row);
         let first = nation.first as usize;
         let count = nation.count as usize;
         let follows = tags_shaped(nation) & (first == next) & (count <= end - next);
@@ -86,7 +56,6 @@ fn nations_shaped(nations: &[u32], end: usize) -> bool
             return false;
         }
         next += count;
-        i += 1;
     }
     next == end
 }
@@ -95,11 +64,10 @@ fn nations_shaped(nations: &[u32], end: usize) -> bool
 pub fn is_well_shaped(nations: &[u32], entries: &[u32]) -> bool
     ensures { result ≡ well_shaped nations.now entries.now }
 {
-    if !(rows::nations_whole(nations) & rows::entries_whole(entries)) {
+    let (nations, nations_over) = nations.as_chunks::<NATION_WIDTH>();
+    let (entries, entries_over) = entries.as_chunks::<ENTRY_WIDTH>();
+    if !(nations_over.is_empty() & entries_over.is_empty()) {
         return false;
     }
-    if !nations_shaped(nations, rows::entry_count(entries)) {
-        return false;
-    }
-    entries_shaped(entries)
+    nations_shaped(nations, entries.len()) && entries_shaped(entries)
 }

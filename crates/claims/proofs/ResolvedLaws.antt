@@ -4,7 +4,7 @@ use mathlib.Core.Bool.{Bool, true, cond, not, ◌&&◌}
 use mathlib.Core.List.{List, [], ◌∷◌, ◌++◌, map}
 use mathlib.Core.Option
 use mathlib.Core.Option.{Option, none, some}
-use Prim.Native.Nat.{ℕ, ◌+◌, ◌-◌, ◌<◌}
+use Prim.Native.Nat.{ℕ, ◌<◌}
 use native.Mathlib.Nat.{sub-zero}
 use native.Mathlib.Omega.{arith}
 use borrow.Author.Tests.{ltb-true, ltb-false, leb-true, le-leb, lt-leb, lt-ltb}
@@ -17,7 +17,7 @@ use Rattle.lists.proofs.ElementLaws.{keep_all, keep-map}
 use Rattle.format.specs.declared.tag.CountryTag.{CountryTag}
 use Rattle.format.specs.declared.date.Eu4Date.{Eu4Date}
 use Rattle.format.specs.Tags.{same_tag}
-use Rattle.format.specs.Dates.{not_after, good_date, year, day}
+use Rattle.format.specs.Dates.{not_after, good_date, year}
 use Rattle.rules.specs.Chronicle.{Kind, switch, appeared, annexed, Entry, Nation}
 use Rattle.rules.specs.NationRows.{nation_rows_in, nations_in, kind_shaped, well_shaped}
 use Rattle.rules.specs.Resolver.{Hit, is_switch_to, hits, initial_nation, resolved_nation}

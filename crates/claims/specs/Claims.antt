@@ -1,8 +1,8 @@
 -- Claims, by which the code finds a nation: a nation goes by its initial from date 0 on, and by the target of each of its switches from
 -- that switch's date on. Of the claims to a tag dated not after a question the latest answers it, and of equals the last: no date of a
 -- switch is 0, so that an initial answers only where no switch does.
-use Rattle.std.specs.Prelude.{Bool, cond, ◌&&◌, List, [], ◌∷◌, ◌++◌, map, ℕ, ◌-◌, eqb, length}
-use Rattle.std.proofs.Math.Option.{Option, none, some}
+use Rattle.std.specs.Prelude.{Bool, ◌&&◌, List, [], ◌∷◌, ◌++◌, map, ℕ, ◌-◌, length}
+use Rattle.std.proofs.Math.Option.{Option}
 use Rattle.lists.specs.Lists.{keep, join_of, greatest, numbers_from}
 use Rattle.format.specs.declared.tag.CountryTag.{CountryTag}
 use Rattle.format.specs.declared.date.Eu4Date.{Eu4Date}
@@ -13,10 +13,7 @@ use Rattle.rules.specs.NationRows.{nation_rows_in}
 use Rattle.rules.specs.Resolver.{TagData}
 use Rattle.chronicle_rows.specs.RowAt.{nation_row_at, entries_at}
 use Rattle.claims.specs.declared.claims.Claim.{Claim}
-use Rattle.claims.specs.declared.claims.Walk.{Walk}
-use Rattle.claims.specs.declared.claims.NextClaim as NextClaim
-use Rattle.claims.specs.declared.claims.BestClaim as BestClaim
-use Rattle.claims.specs.declared.claims.SoFar.{SoFar}
+use Rattle.claims.specs.declared.claims.Claims.{Claims}
 
 -- ## The claims of a chronicle
 
@@ -55,20 +52,9 @@ claims_from ws es i = join_of (nation_claims ws es) (numbers_from i (length (nat
 unfoldable pub claims_in : List ℕ → List ℕ → List Claim
 claims_in ws es = claims_from ws es 0
 
--- ## A walk over them
-
--- What a walk has left: the entries of its owner, then the nations behind it.
-unfoldable pub claims_left : List ℕ → List ℕ → Walk → List Claim
-claims_left ws es w = switches_in es w.owner w.entry w.end ++ claims_from ws es w.coming
-
--- What a step tells.
-abbrev pub claim_told : List ℕ → List ℕ → NextClaim.NextClaim → List Claim
-claim_told ws es (NextClaim.TheVariants.Row c w) = c ∷ claims_left ws es w
-claim_told ws es NextClaim.TheVariants.End = []
-
--- Before the first claim.
-abbrev pub walk_start : Walk
-walk_start = record { owner = 0; entry = 0; end = 0; coming = 0 }
+-- What an iterator over them has left: the entries of its owner, then the nations behind it.
+unfoldable pub claims_left : Claims → List Claim
+claims_left c = switches_in c.entries.now c.owner c.entry c.end ++ claims_from c.nations.now c.entries.now c.coming
 
 -- ## The claim that answers a question
 
@@ -83,15 +69,6 @@ claim_day c = c.date.0
 -- The latest of them, and of equals the last.
 abbrev pub best_of : CountryTag → Eu4Date → List Claim → Option Claim
 best_of tag date cs = greatest claim_day (keep (is_asked tag date) cs)
-
--- The best claim, by case.
-abbrev pub best_told : BestClaim.BestClaim → Option Claim
-best_told (BestClaim.TheVariants.Best c) = some c
-best_told BestClaim.TheVariants.Nothing = none
-
--- The best claim so far.
-abbrev pub so_far_told : SoFar → Option Claim
-so_far_told b = cond (eqb b.found 0) none (some b.claim)
 
 -- What a claim answers where no day is set: its nation's latest tag, and the tag it is stored under.
 abbrev pub plain_of : List ℕ → Claim → TagData

@@ -3,4 +3,4 @@
 
 mod claims;
 
-pub use claims::{BestClaim, Claim, NextClaim, Walk, best_claim, best_initial};
+pub use claims::{Claim, Claims, best_claim, best_initial};

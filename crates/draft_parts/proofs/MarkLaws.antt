@@ -1,13 +1,13 @@
 -- The cells of countries: each holds the first nation that is stored under its tag.
 use mathlib.Core.Path.{◌≡◌, refl, sym, ap, subst, ◌∙◌}
-use mathlib.Core.Bool.{Bool, true, false, cond, ◌&&◌}
+use mathlib.Core.Bool.{cond, ◌&&◌}
 use mathlib.Core.List.{List, [], ◌∷◌, ◌++◌, map, append_assoc}
 use mathlib.Core.Option.{Option, none, some}
 use Prim.Native.Nat.{ℕ, suc, ◌+◌, ◌-◌, ◌<◌, ◌≤◌}
 use native.Mathlib.Numerals.{add-one}
 use native.Mathlib.Omega.{arith}
 use native.Mathlib.Decide.{ℕ_discrete}
-use borrow.Author.Tests.{eqb-true, eq-eqb, ne_eqb, lt-ltb, le-ltb}
+use borrow.Author.Tests.{eqb-true, eq-eqb, ne_eqb, lt-ltb}
 use lib.Dec.{eqb, ltb}
 use lib.ListN.{length, get_or, set, length-set}
 use lib.Seq.{get_or-set_same, get_or-set_other}
@@ -18,35 +18,14 @@ use Rattle.format.specs.Tags.{same_tag}
 use Rattle.format.specs.Campaign.{Country}
 use Rattle.rules.specs.NationRows.{nation_rows_in}
 use Rattle.rules.specs.HistoryRows.{nation_word}
-use Rattle.search.specs.declared.places.Place as Place
-use Rattle.search.specs.Places.{place_from, place_told}
+use Rattle.search.specs.Places.{place_from}
 use Rattle.search.proofs.PlaceLaws.{place_inside, place-has}
 use Rattle.chronicle_rows.specs.RowAt.{nation_row_at, stored_tags}
 use Rattle.draft_parts.specs.Marks.{stored_word, marked_at, marked_from, cell_at}
 
--- ## One mark
-
-module _ (cells : List ℕ) (word : ℕ) {place : Place.Place} where
-  module _ (p : ℕ) (at : place ≡ Place.TheVariants.At p) where
-    pub mark-here : p < length cells → get_or cells p 0 ≡ 0 → set cells p word ≡ marked_at cells (place_told place) word
-    mark-here h z = rw (at, lt-ltb p (length cells) h, z)
-
-    pub mark-taken : (get_or cells p 0 ≡ 0 → ⊥) → cells ≡ marked_at cells (place_told place) word
-    mark-taken z = rw at (go (ltb p (length cells)))
-      where
-        go : (b : Bool) → cells ≡ cond (b && eqb (get_or cells p 0) 0) (set cells p word) cells
-        go true = rw (ne_eqb (get_or cells p 0) 0 z)
-        go false = refl
-
-    pub mark-past : length cells ≤ p → cells ≡ marked_at cells (place_told place) word
-    mark-past h = rw (at, le-ltb p (length cells) h)
-
 -- ## A mark for each nation
 
 module _ (ws : List ℕ) (ts : List CountryTag) (cells : List ℕ) (i n : ℕ) where
-  pub marked_start : marked_from ts cells 0 (stored_tags ws 0 (n - 0)) ≡ marked_from ts cells 0 (stored_tags ws 0 n)
-  marked_start = let z : n - 0 ≡ n = omega arith in rw z
-
   pub marked-end : n ≤ i → marked_from ts cells i (stored_tags ws i (n - i)) ≡ cells
   unfolding marked_from
   marked-end h = let z : n - i ≡ 0 = omega arith in rw z

@@ -7,7 +7,6 @@ ghost use Rattle.draft_parts.specs.Parts.{told_by, released_by, draft_by};
 
 use chronicle_rows::{Nation, is_well_shaped, nation_at, nation_count};
 use history_rows::History;
-use lists::one;
 use record::{CountryRow, CountryTag};
 
 // The most nations that a word can number from 1 on.
@@ -24,7 +23,7 @@ pub fn is_numbered(nations: &[u32], entries: &[u32]) -> bool
 pub fn nation_of(nations: &[u32], tag: CountryTag, word: u32) -> Nation
     ensures { nation_told result ≡ told_by nations.now tag word }
 {
-    if word == 0 {
+    let Some(number) = word.checked_sub(1) else {
         return Nation {
             initial: tag,
             latest: tag,
@@ -32,33 +31,29 @@ pub fn nation_of(nations: &[u32], tag: CountryTag, word: u32) -> Nation
             first: 0,
             count: 0,
         };
-    }
-    nation_at(nations, word as usize - 1)
+    };
+    nation_at(nations, number as usize)
 }
 
 // Whether a country with so many players was released and is played on.
 fn is_released(human: bool, switched: bool, cities: i32, n: Nation, count: u32) -> bool
     ensures { result ≡ released_by human switched cities (nation_told n) count }
 {
-    let stored = n.stored;
-    human & (count == 1) & stored.same(n.latest) & switched & (0 < cities)
+    human & (count == 1) & (n.stored == n.latest) & switched & (0 < cities)
 }
 
 // The draft of a country, from its nation and where its players stand among all.
-pub fn draft_of(row: CountryRow, n: Nation, word: u32, first: u32, count: u32) -> History
-    ensures { history_told result ≡ draft_by row.human row.has_switched_nation row.cities word (nation_told n) first count }
+pub fn draft_of(row: CountryRow<'_>, n: Nation, word: u32, first: u32, count: u32) -> History
+    ensures { history_told result ≡ draft_by row.entry.human row.entry.has_switched_nation row.entry.cities word (nation_told n) first count }
 {
     let human = row.human;
-    let initial = n.initial;
-    let latest = n.latest;
-    let stored = n.stored;
     let released = is_released(human, row.has_switched_nation, row.cities, n, count);
     History {
-        initial,
-        latest,
-        stored,
+        initial: n.initial,
+        latest: n.latest,
+        stored: n.stored,
         nation: word,
-        human: (one(human) + 2 * one(released)) as u32,
+        human: u32::from(human) + 2 * u32::from(released),
         first,
         count,
     }

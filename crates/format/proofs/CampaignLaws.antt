@@ -1,5 +1,4 @@
--- What a user of cursors wants of what they have left. A step that gave a row left one row less, so the length of what is left measures a loop
--- over a cursor. A row that owns others is one row of its section: what it owns does not change how many there are. All of them together own no
+-- What a step that gave a row leaves: one row less. How many rows there are: a row that owns others is one row of its section: what it owns does not change how many there are. All of them together own no
 -- more than the section has that they share.
 use mathlib.Core.Path.{◌≡◌, refl, sym, ap, ◌∙◌}
 use mathlib.Core.List.{List, [], ◌∷◌, ◌++◌}
@@ -21,8 +20,7 @@ use Rattle.format.specs.Campaign.{group_countries, group_provinces, group_wars, 
 
 -- ## A step that gave a row
 
--- `told` is a cursor's, as `previous_told xs`: its `next` ensures that what was left is what is told of the result, and an arm of a `match`
--- knows which result that is
+-- `told` says what was left of what a step gave, and an arm of a `match` knows which result that is
 module _ {A Next : Type 0} (told : Next → List A) {left rest : List A} {row : A} {r given : Next} where
   pub told-row : left ≡ told r → r ≡ given → told given ≡ row ∷ rest → left ≡ row ∷ rest
   told-row e q f = e ∙ ap told q ∙ f

@@ -1,16 +1,13 @@
--- A date by its size and its day, and what a caller of a date's `of_word` knows in each of its arms.
-use mathlib.Core.Path.{◌≡◌, refl, sym, ap, ◌∙◌}
-use mathlib.Core.Bool.{Bool, true, false, cond, ◌&&◌}
-use mathlib.Core.Option.{Option, none, some}
+-- A date by its size and its day.
+use mathlib.Core.Path.{◌≡◌, sym, ◌∙◌}
+use mathlib.Core.Bool.{◌&&◌}
 use Prim.Native.Nat.{ℕ, ◌/◌, ◌%◌}
 use native.Mathlib.Decide.{dec_le}
 use native.Mathlib.Omega.{arith}
 use borrow.Author.Tests.{le-leb, lt-leb}
 use lib.Dec.{leb}
 use Rattle.format.specs.declared.date.Eu4Date.{Eu4Date}
-use Rattle.format.specs.declared.date.Dated.{Dated}
-use Rattle.format.specs.declared.date.Dated.TheVariants.{Date, NoDate}
-use Rattle.format.specs.Dates.{good_date, dated_date, date_of_word}
+use Rattle.format.specs.Dates.{good_date}
 use Rattle.format.specs.Days.{in_years, month_day, is_day}
 
 -- The remainder behind the year has the date's month and day.
@@ -42,20 +39,3 @@ last-year w =
 
 pub years-by-size : (w : ℕ) → leb 10000 w && leb w 99999999 ≡ leb 1 (w / 10000) && leb (w / 10000) 9999
 years-by-size w = rw (first-year w, last-year w)
-
--- A word that is a date's is a good date, and one that is none is not.
-pub date-told : (w : ℕ) {r : Dated} {d : Eu4Date} → dated_date r ≡ date_of_word w → r ≡ Date d → (good_date (record { 0 = w }) ≡ true) × (d ≡ record { 0 = w })
-unfolding date_of_word
-date-told w {r} {d} e q = go (good_date (record { 0 = w })) (sym (ap dated_date q) ∙ e)
-  where
-    go : (good : Bool) → some d ≡ cond good (some (record { 0 = w })) none → (good ≡ true) × (d ≡ record { 0 = w })
-    go true h = (refl, cc)
-    go false h = let z : ◌≡◌ {A = ℕ} 0 1 = cc in absurd (omega arith)
-
-pub no-date-told : (w : ℕ) {r : Dated} → dated_date r ≡ date_of_word w → r ≡ NoDate → good_date (record { 0 = w }) ≡ false
-unfolding date_of_word
-no-date-told w e q = go (good_date (record { 0 = w })) (sym (ap dated_date q) ∙ e)
-  where
-    go : (good : Bool) → ◌≡◌ {A = Option Eu4Date} none (cond good (some (record { 0 = w })) none) → good ≡ false
-    go true h = let z : ◌≡◌ {A = ℕ} 0 1 = cc in absurd (omega arith)
-    go false h = refl

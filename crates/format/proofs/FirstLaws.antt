@@ -1,15 +1,14 @@
 -- The first number that refuses: of a list, and of the rows of a section.
-use mathlib.Core.Path.{◌≡◌, refl, sym, ap, ◌∙◌}
-use mathlib.Core.List.{List, [], ◌∷◌, ◌++◌, map, map-append}
-use Prim.Native.Nat.{ℕ, zero, suc, ◌+◌, ◌-◌, ◌*◌, ◌<◌, ◌≤◌}
-use native.Mathlib.Nat.{min-eq_left}
+use mathlib.Core.Path.{◌≡◌, refl}
+use mathlib.Core.List.{List, [], ◌∷◌, ◌++◌, map}
+use Prim.Native.Nat.{ℕ, zero, suc, ◌+◌, ◌-◌, ◌<◌, ◌≤◌}
 use native.Mathlib.Omega.{arith}
-use lib.ListN.{length, take, drop, take-append-drop}
+use lib.ListN.{length}
 use Rattle.lists.specs.Lists.{All}
 use Rattle.lists.proofs.ListLaws.{all-unmap}
 use Rattle.format.specs.Rows.{rows_at}
 use Rattle.format.specs.Refusal.{first_of, first_in}
-use Rattle.format.proofs.RowLaws.{rows_none, rows_more, rows_take, rows_drop, map-rows-same}
+use Rattle.format.proofs.RowLaws.{rows_none, rows_more}
 
 pub first-pass : (n : ℕ) (ns : List ℕ) → n ≡ 0 → first_of (n ∷ ns) ≡ first_of ns
 unfolding first_of
@@ -49,6 +48,7 @@ first-append [] ns = refl
 first-append (zero ∷ ms) ns = first-append ms ns
 first-append (suc m ∷ ms) ns = refl
 
+-- the rows of a section one at a time: none, one that passes, one that stops
 module _ {A : Type 0} (number : A → ℕ) (row : ℕ → A) (width : ℕ) (xs : List ℕ) where
   pub first-rows-none : (at : ℕ) → first_in number (rows_at row width xs at 0) ≡ 0
   unfolding first_in first_of
@@ -63,34 +63,3 @@ module _ {A : Type 0} (number : A → ℕ) (row : ℕ → A) (width : ℕ) (xs :
       → first_in number (rows_at row width xs at n) ≡ number (row at)
   unfolding first_in
   first-rows-stop at n p h e = rw (rows_more row width xs at n p h) (first-stop _ _ e)
-
-  -- the first m rows, then those behind them
-  first-rows-split : (at m n : ℕ) → m ≤ n → at + width * m ≤ length xs
-      → first_in number (rows_at row width xs at n)
-      ≡ first_of (first_in number (rows_at row width xs at m) ∷ map number (rows_at row width xs (at + width * m) (n - m)))
-  unfolding first_in
-  first-rows-split at m n some inside =
-      let rows = rows_at row width xs at n in
-      let front : take m rows ≡ rows_at row width xs at m = rows_take row width xs at m n ∙ ap (rows_at row width xs at) (min-eq_left some) in
-      let back = rows_drop row width xs at m n inside in
-      ap (λ l. first_of (map number l)) (sym (take-append-drop m rows))
-      ∙ ap first_of (map-append number (take m rows) (drop m rows))
-      ∙ first-append (map number (take m rows)) (map number (drop m rows))
-      ∙ ap (λ l. first_of (first_of (map number l) ∷ map number (drop m rows))) front
-      ∙ ap (λ l. first_of (first_of (map number (rows_at row width xs at m)) ∷ map number l)) back
-
-  pub first-rows-skip : (at m n : ℕ) → m ≤ n → at + width * m ≤ length xs → first_in number (rows_at row width xs at m) ≡ 0
-      → first_in number (rows_at row width xs at n) ≡ first_in number (rows_at row width xs (at + width * m) (n - m))
-  unfolding first_in
-  first-rows-skip at m n some inside e = first-rows-split at m n some inside ∙ first-pass _ _ e
-
-  pub first-rows-front : (at m n : ℕ) → m ≤ n → at + width * m ≤ length xs → (first_in number (rows_at row width xs at m) ≡ 0 → ⊥)
-      → first_in number (rows_at row width xs at n) ≡ first_in number (rows_at row width xs at m)
-  first-rows-front at m n some inside e = first-rows-split at m n some inside ∙ first-stop _ _ e
-
--- two sections whose rows are numbered alike
-pub first-rows-same : {A B : Type 0} (f : A → ℕ) (row : ℕ → A) (g : B → ℕ) (row' : ℕ → B) (width : ℕ) (xs : List ℕ)
-    → ((at : ℕ) → f (row at) ≡ g (row' at)) → (at n : ℕ)
-    → first_in f (rows_at row width xs at n) ≡ first_in g (rows_at row' width xs at n)
-unfolding first_in
-first-rows-same f row g row' width xs e at n = ap first_of (map-rows-same f row g row' width xs e at n)

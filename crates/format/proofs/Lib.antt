@@ -1,8 +1,11 @@
 pub mod Computes
 pub mod FormatCases
+pub mod SignedLaws
 pub mod RowLaws
+pub mod PackedLaws
 pub mod CampaignLaws
 pub mod FirstLaws
+pub mod RefusedLaws
 pub mod SizeLaws
 pub mod TagLaws
 pub mod HeadLaws

@@ -28,7 +28,7 @@ use Rattle.format.specs.Sound.{GoodTag, GoodDate, GoodSwitch, GoodCountry, GoodO
 use Rattle.format.proofs.AcceptLaws.{accepted, accepted-laid, number-true}
 use Rattle.format.proofs.CampaignLaws.{countries-length, provinces-length, wars-length, ledgers-length, strings-counted, previous-owned, switches-owned, events-owned, war-events-owned, points-owned}
 use Rattle.format.proofs.FirstLaws.{all-zero, rows-zero}
-use Rattle.format.proofs.HeadLaws.{Limits, limits_of}
+use Rattle.format.proofs.HeadLaws.{limits_of}
 use Rattle.format.proofs.RowLaws.{rows-counted, rows_all}
 
 -- ## No field refuses
@@ -172,7 +172,7 @@ province-ids (r ∷ rs) es = ap (λ (l : List ℕ). r.id.0 ∷ l) (province-ids 
 province-count : (xs : List ℕ) → Laid xs (head_of xs) → length (group_provinces (province_rows xs) (owner_events xs)) ≡ (head_of xs).provinces
 province-count xs l =
     provinces-length (province_rows xs) (owner_events xs)
-    ∙ rows_all (province_at xs) 7 xs (omega arith) (provinces_at (head_of xs)) (head_of xs).provinces (omega (arith, l.inside))
+    ∙ rows_all (province_at xs) 7 xs (provinces_at (head_of xs)) (head_of xs).provinces (omega (arith, l.inside))
 
 pub sound : (xs : List ℕ) → refusal xs ≡ 0 → Sound (campaign_of xs)
 unfolding campaign_of tag_twice id_twice_or_above

@@ -1,4 +1,4 @@
--- The bytes of a tag: they lie from 45 to 122, with nothing between 45 and 48, and a word gives back those that it was made of.
+-- The bytes of a tag: they lie from 45 to 122, with nothing between 45 and 48.
 use mathlib.Core.Path.{◌≡◌}
 use mathlib.Core.Bool.{true, ◌&&◌}
 use Prim.Native.Nat.{ℕ, ◌+◌, ◌*◌, ◌/◌, ◌%◌, ◌<◌, ◌≤◌}
@@ -7,7 +7,7 @@ use borrow.Author.Tests.{leb-true, eqb-true}
 use lib.Dec.{leb}
 use Rattle.lists.proofs.BoolLaws.{cases, and_left, and_right}
 use Rattle.format.specs.declared.tag.CountryTag.{CountryTag}
-use Rattle.format.specs.Tags.{tag_byte, is_tag, tag_of}
+use Rattle.format.specs.Tags.{tag_byte, is_tag}
 
 -- What is known of a tag's byte.
 pub record Range (b : ℕ) : Type 0 where
@@ -53,11 +53,3 @@ tag-bytes t h =
       second = byte-range (t.0 / 256 % 256) (and_right a b ab);
       third = byte-range (t.0 % 256) (and_right (a && b) c h);
     }
-
-pub is-tag-of : (a b c : ℕ) → a < 256 → b < 256 → c < 256 → is_tag (tag_of a b c) ≡ tag_byte a && tag_byte b && tag_byte c
-unfolding is_tag
-is-tag-of a b c ha hb hc =
-    let first : (a * 65536 + b * 256 + c) / 65536 ≡ a = omega arith in
-    let second : (a * 65536 + b * 256 + c) / 256 % 256 ≡ b = omega arith in
-    let third : (a * 65536 + b * 256 + c) % 256 ≡ c = omega arith in
-    rw (first, second, third)

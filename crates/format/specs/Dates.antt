@@ -2,8 +2,6 @@
 use Rattle.std.specs.Prelude.{Bool, cond, ◌&&◌, List, [], ◌∷◌, ℕ, ◌/◌, ◌%◌, leb, ltb, eqb, get_or}
 use Rattle.std.proofs.Math.Option.{Option, none, some}
 use Rattle.format.specs.declared.date.Eu4Date.{Eu4Date}
-use Rattle.format.specs.declared.date.Dated.{Dated}
-use Rattle.format.specs.declared.date.Dated.TheVariants.{Date, NoDate}
 
 -- Its year, month and day.
 abbrev pub year : Eu4Date → ℕ
@@ -42,11 +40,6 @@ earlier a b = ltb a.0 b.0
 abbrev pub same_date : Eu4Date → Eu4Date → Bool
 same_date a b = eqb a.0 b.0
 
--- The answer of `of_word`, by case: a date, or none, which is 5 in a record, 11 in a lent row and 12 in a question.
-abbrev pub dated_date : Dated → Option Eu4Date
-dated_date (Date d) = some d
-dated_date NoDate = none
-
--- A 32-bit word, read as a date.
+-- A 32-bit word, read as a date: a date or none, which is 5 in a record, 11 in a lent row and 12 in a question.
 unfoldable pub date_of_word : ℕ → Option Eu4Date
 date_of_word w = cond (good_date (record { 0 = w })) (some (record { 0 = w })) none

@@ -6,5 +6,6 @@ pub mod Head
 pub mod Rows
 pub mod Campaign
 pub mod Refusal
+pub mod Refused
 pub mod Laid
 pub mod Sound

@@ -1,11 +1,13 @@
 -- 01, The packed record: the rows of each section, as fields with names. Offsets stand here and in Head, and nowhere above.
-use Rattle.std.specs.Prelude.{Bool, cond, List, [], ◌∷◌, ℕ, zero, suc, ◌+◌, leb, eqb, ℤ, length, take, drop}
-use Rattle.format.specs.declared.tag.CountryTag.{CountryTag}
+use Rattle.std.specs.Prelude.{Bool, cond, List, [], ◌∷◌, ℕ, zero, suc, ◌+◌, leb, eqb, length, take, drop}
 use Rattle.format.specs.declared.rows.ProvinceId.{ProvinceId}
 use Rattle.format.specs.declared.rows.Switch.{Switch}
 use Rattle.format.specs.declared.rows.OwnerEvent.{OwnerEvent}
 use Rattle.format.specs.declared.rows.WarEvent.{WarEvent}
 use Rattle.format.specs.declared.rows.Point.{Point}
+pub use Rattle.format.specs.declared.packed.PackedCountry.{PackedCountry}
+pub use Rattle.format.specs.declared.packed.PackedProvince.{PackedProvince}
+pub use Rattle.format.specs.declared.packed.PackedLedger.{PackedLedger}
 use Rattle.format.specs.Bytes.{byte_at, le16, le32, signed32, tag_at, date_at, id_at}
 
 -- So many rows of a width from an offset on, as far as they stand whole in the bytes.
@@ -14,13 +16,6 @@ rows_at row width xs at zero = []
 rows_at row width xs at (suc n) = cond (leb (at + width) (length xs)) (row at ∷ rows_at row width xs (at + width) n) []
 
 -- Country, 12: tag 3, flags 1, cities 4 (signed), how many previous tags 2, how many switches 2.
-pub record PackedCountry : Type 0 where
-  pub tag : CountryTag
-  pub flags : ℕ
-  pub cities : ℤ
-  pub previous : ℕ
-  pub switches : ℕ
-
 unfoldable pub country_at : List ℕ → ℕ → PackedCountry
 country_at xs at =
     record {
@@ -40,11 +35,6 @@ abbrev pub same_id : ProvinceId → ProvinceId → Bool
 same_id a b = eqb a.0 b.0
 
 -- Province, 7: id 2, owner 3, event count 2.
-pub record PackedProvince : Type 0 where
-  pub id : ProvinceId
-  pub owner : CountryTag
-  pub events : ℕ
-
 unfoldable pub province_at : List ℕ → ℕ → PackedProvince
 province_at xs at = record { id = id_at xs at; owner = tag_at xs (at + 2); events = le16 xs (at + 5) }
 
@@ -57,10 +47,6 @@ unfoldable pub war_event_at : List ℕ → ℕ → WarEvent
 war_event_at xs at = record { date = date_at xs at; kind = byte_at xs (at + 4); tag = tag_at xs (at + 5) }
 
 -- Ledger name, 5: tag, point count 2.
-pub record PackedLedger : Type 0 where
-  pub tag : CountryTag
-  pub points : ℕ
-
 unfoldable pub ledger_at : List ℕ → ℕ → PackedLedger
 ledger_at xs at = record { tag = tag_at xs at; points = le16 xs (at + 3) }
 

@@ -2,8 +2,6 @@
 use Rattle.std.specs.Prelude.{Bool, cond, ◌||◌, ◌&&◌, List, ℕ, ◌+◌, ◌*◌, ◌/◌, ◌%◌, eqb, leb, length, get_or}
 use Rattle.std.proofs.Math.Option.{Option, none, some}
 use Rattle.format.specs.declared.tag.CountryTag.{CountryTag}
-use Rattle.format.specs.declared.tag.Created.{Created}
-use Rattle.format.specs.declared.tag.Created.TheVariants.{Tag, NoTag}
 
 -- A tag's byte is an ASCII digit, letter or `-`. (02 K2 adds the underscore here and nowhere else.)
 unfoldable pub tag_byte : ℕ → Bool
@@ -26,17 +24,12 @@ is_tag t = tag_byte (t.0 / 65536) && tag_byte (t.0 / 256 % 256) && tag_byte (t.0
 abbrev pub same_tag : CountryTag → CountryTag → Bool
 same_tag a b = eqb a.0 b.0
 
--- The answer of `create` and of `of_word`, by case: a tag, or none. Whoever asked knows which number that is: 4 in a record, 11 in a lent
--- row, 12 in a question; of a player's text it is no refusal at all.
-abbrev pub created_tag : Created → Option CountryTag
-created_tag (Tag t) = some t
-created_tag NoTag = none
-
 -- A word, if it is a tag's.
 unfoldable pub tested : CountryTag → Option CountryTag
 tested t = cond (is_tag t) (some t) none
 
--- `CountryTag::create`: exactly three bytes, each a tag byte.
+-- `CountryTag::create`: exactly three bytes, each a tag byte. What it and `try_from` answer is a tag or none (`ok_of`). Whoever asked knows which
+-- number that is: 4 in a record, 11 in a lent row, 12 in a question; of a player's text it is no refusal at all.
 unfoldable pub created : List ℕ → Option CountryTag
 created s =
     let t = tag_of (get_or s 0 0) (get_or s 1 0) (get_or s 2 0) in

@@ -1,17 +1,17 @@
 ghost use Rattle.std.specs.Prelude.{◌≡◌};
-ghost use Rattle.format.specs.Dates.{month_days, good_date, dated_date, date_of_word, not_after, earlier, same_date};
+ghost use Rattle.lists.specs.Options.{ok_of};
+ghost use Rattle.format.specs.Dates.{month_days, good_date, date_of_word};
+ghost use Rattle.format.specs.Bytes.{date_at};
 ghost use Rattle.format.specs.Dates.{year as yearOf};
 ghost use Rattle.format.specs.Days.{month_day, is_day, in_years};
 
 // A date as year*10000 + month*100 + day: number order is date order.
-#[derive(Clone, Copy)]
+#[derive(Clone, Copy, Debug, PartialEq, Eq, PartialOrd, Ord)]
 pub struct Eu4Date(pub(crate) u32);
 
-#[derive(Clone, Copy)]
-pub enum Dated {
-    Date(Eu4Date),
-    NoDate,
-}
+// A word that is no date's.
+#[derive(Clone, Copy, Debug, PartialEq, Eq)]
+pub struct NotADate;
 
 // Two bits for each month, the lowest for month 0: how many days it has more than 28.
 const OVER_28: u32 = 62648012;
@@ -59,29 +59,20 @@ impl Eu4Date {
         self.in_years() & is_day(self.month_day())
     }
 
-    // The date that a row's word holds; a word that is no date's is refused.
-    pub fn of_word(w: u32) -> Dated
-        ensures { dated_date result ≡ date_of_word w }
-    {
-        if Eu4Date(w).good() {
-            Dated::Date(Eu4Date(w))
-        } else {
-            Dated::NoDate
-        }
-    }
-
-    // The date that was kept as its word in a sort key or a cell. Nothing is tested: a word from outside goes through `of_word`.
+    // The date that was kept as its word in a sort key or a cell. Nothing is tested: a word from outside goes through `try_from`, beside which no
+    // `From<u32>` can stand.
     pub fn kept(word: u32) -> Eu4Date
         ensures { result.0 ≡ word }
     {
         Eu4Date(word)
     }
 
-    // The word that a row holds for this date.
-    pub fn word(self) -> u32
-        ensures { result ≡ self.0 }
+    // The date of four bytes as they stand, the low one first. Nothing is tested.
+    #[tactic(auto, unfolding(crate::specs::Bytes::date_at, crate::specs::Bytes::le32))]
+    pub fn read(bytes: [u8; 4]) -> Eu4Date
+        ensures { result ≡ date_at bytes 0 }
     {
-        self.0
+        Eu4Date(u32::from_le_bytes(bytes))
     }
 
     // The year.
@@ -90,25 +81,25 @@ impl Eu4Date {
     {
         self.0 / 10000
     }
+}
 
-    // Whether it is this date or an earlier one.
-    pub fn not_after(self, other: Eu4Date) -> bool
-        ensures { result ≡ not_after self other }
-    {
-        self.0 <= other.0
+// The date that a row's word holds; a word that is no date's is refused.
+impl TryFrom<u32> for Eu4Date {
+    type Error = NotADate;
+
+    ghost try_from_gives = { λ word r. ok_of r ≡ date_of_word word };
+
+    fn try_from(word: u32) -> Result<Eu4Date, NotADate> {
+        let date = Eu4Date(word);
+        if date.good() { Ok(date) } else { Err(NotADate) }
     }
+}
 
-    // Whether it comes before the other.
-    pub fn earlier(self, other: Eu4Date) -> bool
-        ensures { result ≡ earlier self other }
-    {
-        self.0 < other.0
-    }
+// The word that a row holds for a date.
+impl From<Eu4Date> for u32 {
+    ghost from_gives = { λ date word. word ≡ date.0 };
 
-    // Whether both are one date.
-    pub fn same(self, other: Eu4Date) -> bool
-        ensures { result ≡ same_date self other }
-    {
-        self.0 == other.0
+    fn from(date: Eu4Date) -> u32 {
+        date.0
     }
 }

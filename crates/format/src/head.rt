@@ -2,7 +2,7 @@
 use crate::date::Eu4Date;
 
 // The head's numbers: version, flags, dates, and the counts of C, P, A, B, E, N, W, V, G and Y.
-#[derive(Clone, Copy)]
+#[derive(Clone, Copy, Debug, PartialEq, Eq)]
 pub struct Head {
     pub version: u32,
     pub flags: u32,

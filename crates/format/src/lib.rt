@@ -3,10 +3,14 @@
 
 mod date;
 mod head;
+mod packed;
+mod refused;
 mod rows;
 mod tag;
 
-pub use date::{Dated, Eu4Date, month_days};
+pub use date::{Eu4Date, NotADate, month_days};
 pub use head::Head;
+pub use packed::{Packed, PackedCountry, PackedLedger, PackedProvince};
+pub use refused::Refusal;
 pub use rows::{OwnerEvent, Point, ProvinceId, Switch, WarEvent};
-pub use tag::{CountryTag, Created, tag_byte};
+pub use tag::{CountryTag, NotATag, tag_byte};

@@ -1,17 +1,17 @@
 ghost use Rattle.std.specs.Prelude.{◌≡◌};
-ghost use Rattle.format.specs.Tags.{tag_byte, tag_of, is_tag, created_tag, tested, same_tag, NONE, created, tag_of_word};
+ghost use Rattle.lists.specs.Options.{ok_of};
+ghost use Rattle.format.specs.Tags.{tag_byte, tag_of, is_tag, tested, same_tag, NONE, created, tag_of_word};
 
 // A country's tag of three bytes, held as its word a*65536 + b*256 + c: equal words are equal tags, and word order is byte order.
-#[derive(Clone, Copy)]
+#[derive(Clone, Copy, Debug, PartialEq, Eq, PartialOrd, Ord)]
 pub struct CountryTag(pub(crate) u32);
 
-#[derive(Clone, Copy)]
-pub enum Created {
-    Tag(CountryTag),
-    NoTag,
-}
+// A text or a word that is no tag's.
+#[derive(Clone, Copy, Debug, PartialEq, Eq)]
+pub struct NotATag;
 
-// The one test of a tag's byte, behind every caller of the tag rule: an ASCII digit, letter or `-`.
+// The one test of a tag's byte, behind every caller of the tag rule: an ASCII digit, letter or `-`. By ranges, as the rule is written, and not by
+// `u8::is_ascii_alphanumeric`: a number above 255 may be asked about, and is none.
 pub fn tag_byte(b: u32) -> bool
     ensures { result ≡ tag_byte b }
 {
@@ -23,7 +23,7 @@ impl CountryTag {
     pub const NONE: CountryTag = CountryTag(2960685);
 
     // Whether the word's three bytes are tag bytes.
-    fn good(self) -> bool
+    pub fn good(self) -> bool
         ensures { result ≡ is_tag self }
     {
         let w = self.0;
@@ -31,33 +31,25 @@ impl CountryTag {
     }
 
     // The tag of a text of three tag bytes; any other text is no tag.
-    pub fn create(s: &[u8]) -> Created
-        ensures { created_tag result ≡ created s.now }
+    pub fn create(s: &[u8]) -> Result<CountryTag, NotATag>
+        ensures { ok_of result ≡ created s.now }
     {
-        if s.len() != 3 {
-            return Created::NoTag;
+        let wrong = s.len() != 3;
+        if wrong {
+            return Err(NotATag);
         }
-        CountryTag::tested(CountryTag::read(s[0], s[1], s[2]))
+        CountryTag::read(s[0], s[1], s[2]).tested()
     }
 
-    // The tag whose word a row holds; a word with a byte that is no tag byte is no tag.
-    pub fn of_word(w: u32) -> Created
-        ensures { created_tag result ≡ tag_of_word w }
+    // The tag itself, if its bytes are tag bytes.
+    fn tested(self) -> Result<CountryTag, NotATag>
+        ensures { ok_of result ≡ tested self }
     {
-        CountryTag::tested(CountryTag(w))
+        if self.good() { Ok(self) } else { Err(NotATag) }
     }
 
-    fn tested(self) -> Created
-        ensures { created_tag result ≡ tested self }
-    {
-        if self.good() {
-            Created::Tag(self)
-        } else {
-            Created::NoTag
-        }
-    }
-
-    // The tag that was kept as its word in a sort key or a cell. Nothing is tested: a word from outside goes through `of_word`.
+    // The tag that was kept as its word in a sort key or a cell. Nothing is tested: a word from outside goes through `try_from`, beside which no
+    // `From<u32>` can stand.
     pub fn kept(word: u32) -> CountryTag
         ensures { result.0 ≡ word }
     {
@@ -68,27 +60,33 @@ impl CountryTag {
     pub fn read(a: u8, b: u8, c: u8) -> CountryTag
         ensures { result ≡ tag_of a b c }
     {
-        CountryTag(a as u32 * 65536 + b as u32 * 256 + c as u32)
-    }
-
-    // The word that a row holds for this tag.
-    pub fn word(self) -> u32
-        ensures { result ≡ self.0 }
-    {
-        self.0
+        CountryTag(u32::from_be_bytes([0, a, b, c]))
     }
 
     // Whether it is the tag of no one.
     pub fn is_none(self) -> bool
         ensures { result ≡ same_tag self NONE }
     {
-        self.same(CountryTag::NONE)
+        self == CountryTag::NONE
     }
+}
 
-    // Whether both are one tag.
-    pub fn same(self, other: CountryTag) -> bool
-        ensures { result ≡ same_tag self other }
-    {
-        self.0 == other.0
+// The tag whose word a row holds; a word with a byte that is no tag byte is no tag.
+impl TryFrom<u32> for CountryTag {
+    type Error = NotATag;
+
+    ghost try_from_gives = { λ word r. ok_of r ≡ tag_of_word word };
+
+    fn try_from(word: u32) -> Result<CountryTag, NotATag> {
+        CountryTag(word).tested()
+    }
+}
+
+// The word that a row holds for a tag.
+impl From<CountryTag> for u32 {
+    ghost from_gives = { λ tag word. word ≡ tag.0 };
+
+    fn from(tag: CountryTag) -> u32 {
+        tag.0
     }
 }

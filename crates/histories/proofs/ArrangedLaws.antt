@@ -2,7 +2,6 @@
 use mathlib.Core.Path.{◌≡◌, refl, sym, ap, ap₂, ◌∙◌}
 use mathlib.Core.Bool.{Bool, true, false, cond, ◌&&◌, not}
 use mathlib.Core.List.{List, [], ◌∷◌, ◌++◌, map, append-nil}
-use mathlib.Core.Option.{some}
 use Prim.Native.Nat.{ℕ, suc, ◌+◌, ◌-◌, ◌*◌, ◌%◌}
 use native.Mathlib.Omega.{arith}
 use borrow.Author.Tests.{lt-ltb, ltb-false, ne_eqb}
@@ -17,7 +16,8 @@ use Rattle.sorting.proofs.SortLaws.{all-kept}
 use Rattle.rules.specs.Histories.{History, has_players, is_released, takes_initial, arranged, names_in}
 use Rattle.rules.specs.HistoryRows.{HistoryRow, history_row_of, history_row_words, history_rows_from, history_words}
 use Rattle.histories.specs.Drafts.{draft_of}
-use Rattle.arranging.specs.Arranging.{has_names, is_popped, histories_from, names_at, kept_of, draft_words}
+use Rattle.arranging.specs.Drafts.{is_played, is_leftover}
+use Rattle.arranging.specs.Arranging.{is_popped, histories_from, names_at, kept_of, draft_words}
 
 module _ (keys : List ℕ) where
   abbrev draft : History → HistoryRow
@@ -190,13 +190,11 @@ module _ (keys : List ℕ) where
 
   -- ## All histories
 
-  named-drafts : (hs : List History) → keep (has_names true) (map draft hs) ≡ map draft (keep has_players hs)
-  unfolding has_names
-  named-drafts hs = keep-map (has_names true) draft hs
+  named-drafts : (hs : List History) → keep is_played (map draft hs) ≡ map draft (keep has_players hs)
+  named-drafts hs = keep-map is_played draft hs
 
-  idle-drafts : (hs : List History) → keep (has_names false) (map draft hs) ≡ map draft (keep (λ h. not (has_players h)) hs)
-  unfolding has_names
-  idle-drafts hs = keep-map (has_names false) draft hs
+  idle-drafts : (hs : List History) → keep is_leftover (map draft hs) ≡ map draft (keep (λ h. not (has_players h)) hs)
+  idle-drafts hs = keep-map is_leftover draft hs
 
   no_names : (ns : List ℕ) → not (ltb 0 (length ns)) ≡ true → ns ≡ []
   no_names [] e = refl
@@ -242,6 +240,6 @@ module _ (keys : List ℕ) where
         ∙ sym (names-named hs)
         ∙ sym (names-arranged ironman (keep has_players hs) (keep (λ h. not (has_players h)) hs) (leftovers-bare hs))
 
-    pub count_same : length (keep (has_names true) (map draft hs)) + kept_of is_out (map draft hs) ≡ length whole
+    pub count_same : length (keep is_played (map draft hs)) + kept_of is_out (map draft hs) ≡ length whole
     count_same =
         sym (length-arranged ironman (keep has_players hs) (keep (λ h. not (has_players h)) hs) ∙ rw (named-drafts hs, idle-drafts hs) refl)

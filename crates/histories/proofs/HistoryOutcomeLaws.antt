@@ -2,11 +2,12 @@
 use mathlib.Core.Path.{◌≡◌, refl, sym, ap, ap₂, ◌∙◌}
 use mathlib.Core.Bool.{Bool, true, false, ◌&&◌}
 use mathlib.Core.List.{List, [], ◌∷◌, map}
-use Prim.Native.Nat.{ℕ, ◌+◌, ◌-◌, ◌*◌, ◌%◌, ◌≤◌, ◌<◌}
+use Prim.Native.Nat.{ℕ, ◌+◌, ◌*◌, ◌%◌, ◌≤◌}
 use native.Mathlib.Omega.{arith}
 use borrow.Author.Tests.{le-leb}
 use lib.Dec.{leb, ltb}
 use lib.ListN.{length, take, drop, length-take, length-drop, length-map}
+use Rattle.std.specs.Prelude.{Ok}
 use Rattle.lists.specs.Lists.{All, keep, join_of}
 use Rattle.lists.proofs.BoolLaws.{cases}
 use Rattle.lists.proofs.EachLaws.{all-each}
@@ -17,10 +18,14 @@ use Rattle.sorting.proofs.SortLaws.{length-sort}
 use Rattle.format.specs.declared.tag.CountryTag.{CountryTag}
 use Rattle.format.specs.Campaign.{Campaign, Country, campaign_of}
 use Rattle.format.specs.Refusal.{refusal, first_of}
+use Rattle.format.specs.Refused.{refusal_number}
+use Rattle.format.specs.declared.refused.Refusal.{Refusal}
 use Rattle.format.proofs.FirstLaws.{first-stop, first-pass, first_one}
 use Rattle.format.proofs.SoundLaws.{sound}
 use Rattle.record.specs.declared.opened.Record.{Record}
+use Rattle.record.specs.Opened.{RightlyOpened}
 use Rattle.record.specs.Cursors.{countries_left}
+use Rattle.record.proofs.ToldLaws.{refusal_above}
 use Rattle.rules.specs.Lent.{refused, room_number, outcome}
 use Rattle.rules.specs.NationRows.{nation_rows_in, nations_in, well_shaped}
 use Rattle.rules.specs.Players.{Player, players_of}
@@ -29,11 +34,8 @@ use Rattle.rules.specs.HistoryRows.{HistoryRow, history_row_words, history_rows_
 use Rattle.rules.specs.Refusals.{chronicle_number, numbered_number}
 use Rattle.rules.specs.PlayerOutcomes.{HistoryCells, HistoryCounts, history_cells_of, history_counts_of, both_fit, both_written, call_player_histories}
 use Rattle.rules.proofs.LentLaws.{outcome-refused}
-use Rattle.players.specs.declared.pairs.Pairs.{Pairs}
-use Rattle.players.specs.PlayerSteps.{players_left}
-use Rattle.players.proofs.PlayerLaws.{walk-ready, players-few}
+use Rattle.players.proofs.PlayerLaws.{PlayersTold}
 use Rattle.history_rows.proofs.LackLaws.{nations-many}
-use Rattle.histories.specs.Cases.{AcceptedRecord}
 use Rattle.draft_parts.specs.Marks.{stored_word}
 use Rattle.histories.specs.Tables.{player_key}
 use Rattle.histories.specs.Drafts.{played_left, keys_before, run_length, draft_with, draft_of}
@@ -85,36 +87,30 @@ module _ (c : Campaign) (ws es : List ℕ) (shaped : well_shaped ws es ≡ true)
 
 -- ## From what the functions give to the outcome
 
-module _ (xs ws : List ℕ) (r : Record) (a : AcceptedRecord xs r) where
+module _ (xs : List ℕ) (r : Record) (o : RightlyOpened xs (Ok r)) where
   abbrev camp : Campaign
   camp = campaign_of xs
 
-  abbrev start : Pairs
-  start = record { number = 0; strings = r.strings }
+  accepted : refusal xs ≡ 0
+  accepted = sym o.number
 
-  walk : players_left xs r.multiplayer start ≡ players_of camp
-  walk = (walk-ready xs r a.accepted a.told).all
+  pub few-countries : length (countries_left r.countries) ≤ 2000
+  few-countries = omega (arith, ap length o.rows.countries, (sound xs accepted).few_countries)
 
-  pub few-players : length (players_left xs r.multiplayer start) ≤ 1000
-  few-players = omega (arith, ap length walk, players-few xs a.accepted)
-
-  pub few-countries : length (countries_left xs r.countries) ≤ 2000
-  few-countries = omega (arith, ap length a.told.countries, (sound xs a.accepted).few_countries)
-
-  module _ (keys words : List ℕ) (sorted : keys ≡ sort_by leb (map player_key (players_left xs r.multiplayer start)))
-      (drafted : words ≡ join_of history_row_words (map (λ k. draft_with ws keys k (stored_word ws k.tag % 4294967296)) (played_left xs r.countries))) where
-    rows : history_rows_in words ≡ map (λ k. draft_with ws keys k (stored_word ws k.tag % 4294967296)) (played_left xs r.countries)
+  module _ (ws : List ℕ) (left : List Player) (walk : PlayersTold xs left) (keys words : List ℕ) (sorted : keys ≡ sort_by leb (map player_key left))
+      (drafted : words ≡ join_of history_row_words (map (λ k. draft_with ws keys k (stored_word ws k.tag % 4294967296)) (played_left r.countries))) where
+    rows : history_rows_in words ≡ map (λ k. draft_with ws keys k (stored_word ws k.tag % 4294967296)) (played_left r.countries)
     rows = ap history_rows_in drafted ∙ drafts-read _
 
     short : length keys ≤ 1000
-    short = omega (arith, ap length sorted ∙ length-sort leb (map player_key (players_left xs r.multiplayer start)), length-map (players_left xs r.multiplayer start) player_key, few-players)
+    short = omega (arith, ap length sorted ∙ length-sort leb (map player_key left), length-map left player_key, walk.few)
 
     ready-told : ArrangeReady (history_rows_in words) keys
     ready-told =
         record {
-          few = omega (arith, ap length rows ∙ length-map (played_left xs r.countries) _, keep-short (λ (k : Country). k.was_player) (countries_left xs r.countries), few-countries);
+          few = omega (arith, ap length rows ∙ length-map (played_left r.countries) _, keep-short (λ (k : Country). k.was_player) (countries_left r.countries), few-countries);
           short = short;
-          inside = rw rows (all-images (λ d. d.first + d.count ≤ length keys) (λ k. draft_with ws keys k (stored_word ws k.tag % 4294967296)) (λ k. run_inside keys k.tag) (played_left xs r.countries));
+          inside = rw rows (all-images (λ d. d.first + d.count ≤ length keys) (λ k. draft_with ws keys k (stored_word ws k.tag % 4294967296)) (λ k. run_inside keys k.tag) (played_left r.countries));
         }
 
     module _ (es : List ℕ) (shaped : well_shaped ws es ≡ true) (numbered : length (nation_rows_in ws) ≤ 4294967295) (before : HistoryCells) where
@@ -122,18 +118,18 @@ module _ (xs ws : List ℕ) (r : Record) (a : AcceptedRecord xs r) where
       hs = played_histories camp (nations_in ws es)
 
       whole-keys : keys ≡ sort_by leb (map player_key (players_of camp))
-      whole-keys = sorted ∙ ap (λ (ps : List Player). sort_by leb (map player_key ps)) walk
+      whole-keys = sorted ∙ ap (λ (ps : List Player). sort_by leb (map player_key ps)) walk.all
 
       drafts : history_rows_in words ≡ map (draft_of keys) hs
       unfolding played_histories
       drafts =
           rows
-          ∙ ap (λ (ks : List Country). map (λ k. draft_with ws keys k (stored_word ws k.tag % 4294967296)) (keep (λ k. k.was_player) ks)) a.told.countries
-          ∙ rw whole-keys (drafts-histories camp ws es shaped numbered (sound xs a.accepted).few_strings (keep (λ k. k.was_player) camp.countries))
+          ∙ ap (λ (ks : List Country). map (λ k. draft_with ws keys k (stored_word ws k.tag % 4294967296)) (keep (λ k. k.was_player) ks)) o.rows.countries
+          ∙ rw whole-keys (drafts-histories camp ws es shaped numbered (sound xs accepted).few_strings (keep (λ k. k.was_player) camp.countries))
 
       named : All (λ h. names_at keys (draft_of keys h) ≡ h.names) hs
       unfolding played_histories
-      named = rw whole-keys (all_named camp ws es shaped numbered (sound xs a.accepted).few_strings (keep (λ k. k.was_player) camp.countries))
+      named = rw whole-keys (all_named camp ws es shaped numbered (sound xs accepted).few_strings (keep (λ k. k.was_player) camp.countries))
 
       cells_same : drafted_cells (is_popped camp.ironman (map (draft_of keys) hs)) (map (draft_of keys) hs) keys ≡ history_cells_of (histories_of camp (nations_in ws es))
       unfolding history_cells_of histories_of
@@ -150,7 +146,7 @@ module _ (xs ws : List ℕ) (r : Record) (a : AcceptedRecord xs r) where
       number : first_of (refusal xs ∷ chronicle_number ws es ∷ numbered_number (nations_in ws es) ∷ room_number (both_fit (history_cells_of (histories_of camp (nations_in ws es))) before) ∷ [])
           ≡ room_number (both_fit (history_cells_of (histories_of camp (nations_in ws es))) before)
       number =
-          first-pass (refusal xs) _ a.accepted
+          first-pass (refusal xs) _ accepted
           ∙ first-pass (chronicle_number ws es) _ (rw shaped)
           ∙ first-pass (numbered_number (nations_in ws es)) _ (rw (le-leb (length (nations_in ws es)) 4294967295 (omega (arith, nations-many ws es shaped))))
           ∙ first_one _
@@ -159,7 +155,7 @@ module _ (xs ws : List ℕ) (r : Record) (a : AcceptedRecord xs r) where
       unfolding call_player_histories
       outcome-told =
           arranged-ready (history_rows_in words) keys r.ironman before ready-told
-          ∙ ap₂ (λ (b : Bool) (ds : List HistoryRow). drafted_outcome b ds keys before) a.told.ironman drafts
+          ∙ ap₂ (λ (b : Bool) (ds : List HistoryRow). drafted_outcome b ds keys before) o.rows.ironman drafts
           ∙ ap₂ (λ (cells : HistoryCells) (n : HistoryCounts). outcome (room_number (both_fit cells before)) n (both_written cells before) before) cells_same counts_same
           ∙ ap (λ (m : ℕ). outcome m (history_counts_of (histories_of camp (nations_in ws es))) (both_written (history_cells_of (histories_of camp (nations_in ws es))) before) before) (sym number)
 
@@ -169,11 +165,12 @@ module _ (xs ws es : List ℕ) (before : HistoryCells) where
   abbrev all : List History
   all = histories_of (campaign_of xs) (nations_in ws es)
 
-  pub call-refused : (n : ℕ) → 0 < n → n ≡ refusal xs → record { answer = refused n; memory = before } ≡ call_player_histories xs ws es before
+  pub call-refused : (e : Refusal) → refusal_number e ≡ refusal xs → record { answer = refused (refusal_number e); memory = before } ≡ call_player_histories xs ws es before
   unfolding call_player_histories
-  call-refused n p e =
-      let first = first-stop (refusal xs) (chronicle_number ws es ∷ numbered_number (nations_in ws es) ∷ room_number (both_fit (history_cells_of all) before) ∷ []) (λ z. omega (arith, p, e)) ∙ sym e in
-      sym (rw first (outcome-refused n (history_counts_of all) (both_written (history_cells_of all) before) before p))
+  call-refused e t =
+      let above = refusal_above e in
+      let first = first-stop (refusal xs) (chronicle_number ws es ∷ numbered_number (nations_in ws es) ∷ room_number (both_fit (history_cells_of all) before) ∷ []) (λ z. omega arith) ∙ sym t in
+      sym (rw first (outcome-refused (refusal_number e) (history_counts_of all) (both_written (history_cells_of all) before) before above))
 
   -- The chronicle is not well shaped, or has more nations than a word can number.
   pub call-torn : refusal xs ≡ 0 → (well_shaped ws es && leb (length (nation_rows_in ws)) 4294967295) ≡ false

@@ -1,30 +1,24 @@
 -- What a draft holds: inner steps, which no promise of a call of 01 cites.
-use Rattle.std.specs.Prelude.{◌≡◌, List, [], ◌∷◌, map, ℕ, ◌+◌, ◌-◌, ◌*◌, ◌%◌, ◌≤◌, leb, ltb, length, take}
+use Rattle.std.specs.Prelude.{◌≡◌, List, map, ℕ, ◌+◌, ◌-◌, ◌*◌, ◌%◌, ◌≤◌, leb, ltb, length, take}
+use Rattle.std.specs.declared.ops.Range.{Range}
 use Rattle.lists.specs.Lists.{keep, count_of, one, join_of}
 use Rattle.sorting.specs.Sort.{sort_by}
 use Rattle.format.specs.declared.tag.CountryTag.{CountryTag}
 use Rattle.format.specs.Campaign.{Country}
 use Rattle.record.specs.declared.cursors.Countries.{Countries}
-use Rattle.record.specs.declared.cursors.NextCountry as NextCountry
-use Rattle.record.specs.Cursors.{countries_left, country_of}
+use Rattle.record.specs.Cursors.{countries_left}
 use Rattle.rules.specs.Lent.{written}
 use Rattle.rules.specs.Histories.{History, is_released}
 use Rattle.rules.specs.HistoryRows.{HistoryRow, history_row_words, nation_word}
 use Rattle.search.specs.Places.{tag_keys_from, place_from}
-use Rattle.histories.specs.declared.drafts.NameRun.{NameRun}
 use Rattle.draft_parts.specs.Marks.{cell_at, stored_word}
 use Rattle.draft_parts.specs.Parts.{told_by, draft_by}
 use Rattle.histories.specs.Tables.{tags_left}
 
--- ## A walk over the countries that were played
+-- ## The countries that were played
 
-abbrev pub played_left : List ℕ → Countries → List Country
-played_left xs c = keep (λ k. k.was_player) (countries_left xs c)
-
--- What a step tells.
-abbrev pub played_told : List ℕ → NextCountry.NextCountry → List Country
-played_told xs (NextCountry.TheVariants.Row r c) = country_of xs r ∷ played_left xs c
-played_told xs NextCountry.TheVariants.End = []
+abbrev pub played_left : Countries → List Country
+played_left c = keep (λ k. k.was_player) (countries_left c)
 
 -- ## The players of a tag, by sorted keys
 
@@ -36,10 +30,11 @@ abbrev pub run_length : List ℕ → CountryTag → ℕ
 run_length keys tag = count_of (λ k. ltb k (tag.0 * 65536 + 65536)) keys - keys_before keys tag
 
 -- The run that the code holds.
-pub record RunOf (keys : List ℕ) (tag : CountryTag) (r : NameRun) : Type 0 where
-  pub first : r.first ≡ keys_before keys tag
-  pub count : r.count ≡ run_length keys tag
-  pub inside : r.first + r.count ≤ length keys
+pub record RunOf (keys : List ℕ) (tag : CountryTag) (r : Range ℕ) : Type 0 where
+  pub first : r.start ≡ keys_before keys tag
+  pub count : r.end - r.start ≡ run_length keys tag
+  pub rising : r.start ≤ r.end
+  pub inside : r.end ≤ length keys
 
 -- ## A draft
 
@@ -55,31 +50,32 @@ draft_for ws ts cells keys k = draft_with ws keys k (cell_at cells (place_from 0
 -- ## All drafts
 
 -- The tables are in order, and there is room for a draft of each country that was played.
-pub record FillReady (xs : List ℕ) (c : Countries) (tags keys out : List ℕ) : Type 0 where
-  pub few : length (tags_left xs c) ≤ 65536
-  pub indexed : tags ≡ sort_by leb (tag_keys_from 0 (tags_left xs c))
+pub record FillReady (c : Countries) (tags keys out : List ℕ) : Type 0 where
+  pub few : length (tags_left c) ≤ 65536
+  pub indexed : tags ≡ sort_by leb (tag_keys_from 0 (tags_left c))
   pub ordered : sort_by leb keys ≡ keys
   pub short : length keys ≤ 1000
   pub small : length out ≤ 14000
-  pub room : 7 * length (played_left xs c) ≤ length out
+  pub room : 7 * length (played_left c) ≤ length out
 
 -- So many drafts, by the cells.
-pub record FillsDrafts (xs : List ℕ) (c : Countries) (ws cells keys : List ℕ) (count : ℕ) (out₀ out₁ : List ℕ) : Type 0 where
-  pub counted : count ≡ length (played_left xs c)
-  pub rows : out₁ ≡ written (join_of history_row_words (map (draft_for ws (tags_left xs c) cells keys) (played_left xs c))) out₀
+pub record FillsDrafts (c : Countries) (ws cells keys : List ℕ) (count : ℕ) (out₀ out₁ : List ℕ) : Type 0 where
+  pub counted : count ≡ length (played_left c)
+  pub rows : out₁ ≡ written (join_of history_row_words (map (draft_for ws (tags_left c) cells keys) (played_left c))) out₀
 
 -- At most as many countries as a record has, and room for each.
-pub record DraftReady (xs : List ℕ) (c : Countries) (keys out : List ℕ) : Type 0 where
-  pub few : length (countries_left xs c) ≤ 2000
+pub record DraftReady (c : Countries) (keys out : List ℕ) : Type 0 where
+  pub few : length (countries_left c) ≤ 2000
   pub ordered : sort_by leb keys ≡ keys
   pub short : length keys ≤ 1000
   pub room : length out ≡ 14000
 
 -- So many drafts, by the nations.
-pub record HoldsDrafts (xs : List ℕ) (c : Countries) (ws keys : List ℕ) (count : ℕ) (out : List ℕ) : Type 0 where
-  pub counted : count ≡ length (played_left xs c)
+pub record HoldsDrafts (c : Countries) (ws keys : List ℕ) (count : ℕ) (out : List ℕ) : Type 0 where
+  pub counted : count ≡ length (played_left c)
+  pub few : count ≤ 2000
   pub long : length out ≡ 14000
-  pub rows : take (7 * count) out ≡ join_of history_row_words (map (λ k. draft_with ws keys k (stored_word ws k.tag % 4294967296)) (played_left xs c))
+  pub rows : take (7 * count) out ≡ join_of history_row_words (map (λ k. draft_with ws keys k (stored_word ws k.tag % 4294967296)) (played_left c))
 
 -- ## The draft of a history
 

@@ -7,4 +7,4 @@ mod drafts;
 mod tables;
 
 pub use answers::player_histories;
-pub use arranging::{HistoryCounts, PlayerHistories};
+pub use arranging::HistoryCounts;

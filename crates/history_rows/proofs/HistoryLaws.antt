@@ -1,58 +1,26 @@
 -- A history row by its number, from its words; and the test of their shape.
-use mathlib.Core.Path.{◌≡◌, refl, sym}
-use mathlib.Core.Bool.{false}
+use mathlib.Core.Path.{◌≡◌, refl, sym, ◌∙◌}
+use mathlib.Core.Bool.{Bool, true, false}
 use mathlib.Core.List.{List, [], ◌∷◌}
-use Prim.Native.Nat.{ℕ, ◌+◌, ◌*◌, ◌/◌, ◌%◌, ◌<◌, ◌≤◌}
-use native.Mathlib.Omega.{arith}
+use Prim.Native.Nat.{ℕ, ◌+◌, ◌/◌, ◌%◌, ◌<◌}
 use borrow.Author.Tests.{ne_eqb}
 use lib.ListN.{length, get_or, drop}
-use Rattle.lists.specs.Lists.{all_of}
-use Rattle.format.specs.declared.tag.CountryTag.{CountryTag}
+use Rattle.std.specs.Simd.{first_chunks}
 use Rattle.rules.specs.Chronicle.{Nation}
 use Rattle.rules.specs.HistoryRows.{history_width, history_row_of, history_rows_in, history_shaped, histories_shaped}
-use Rattle.chronicle_rows.proofs.RowAtLaws.{rows-count, row-past, row-here, word-here, word_first, rows_next}
+use Rattle.chronicle_rows.proofs.RowAtLaws.{chunks-rows, rows-count, array-here, rows_next}
+use Rattle.chronicle_rows.proofs.LentShapeLaws.{rows-pass}
 use Rattle.history_rows.specs.HistoryAt.{history_row_at}
 
--- A row whose tags have these words.
-pub history-row : (a b c : CountryTag) (x y z nation human first count : ℕ) → a.0 ≡ x → b.0 ≡ y → c.0 ≡ z
-    → record { initial = a; latest = b; stored = c; nation = nation; human = human; first = first; count = count }
-    ≡ history_row_of (x ∷ y ∷ z ∷ nation ∷ human ∷ first ∷ count ∷ [])
-history-row a b c x y z nation human first count p q r = rw (← p, ← q, ← r)
-
 module _ (ws : List ℕ) where
-  pub histories-count : length ws / 7 ≡ length (history_rows_in ws)
+  pub history_rows_count : length ws / history_width ≡ length (history_rows_in ws)
   unfolding history_rows_in
-  histories-count = rows-count history_width history_row_of ws
+  history_rows_count = rows-count history_width history_row_of ws
 
   module _ (i : ℕ) where
-    pub history-past : length ws / 7 ≤ i → history_row_of [] ≡ history_row_at ws i
+    pub history_here : history_row_of (get_or (first_chunks history_width (length ws / history_width) ws) i (0 ∷ 0 ∷ 0 ∷ 0 ∷ 0 ∷ 0 ∷ 0 ∷ [])) ≡ history_row_at ws i
     unfolding history_row_at history_rows_in
-    history-past h = row-past history_width history_row_of ws i h
-
-    pub history-words : i < length ws / 7
-        → history_row_of
-        (get_or ws (7 * i) 0
-        ∷ get_or ws (7 * i + 1) 0
-        ∷ get_or ws (7 * i + 2) 0
-        ∷ get_or ws (7 * i + 3) 0
-        ∷ get_or ws (7 * i + 4) 0
-        ∷ get_or ws (7 * i + 5) 0
-        ∷ get_or ws (7 * i + 6) 0
-        ∷ [])
-        ≡ history_row_at ws i
-    unfolding history_row_at history_rows_in
-    history-words h =
-        let w = word-here history_width history_row_of ws i in
-        simp (
-          word_first history_width history_row_of ws i h (omega arith),
-          w 1 h (omega arith),
-          w 2 h (omega arith),
-          w 3 h (omega arith),
-          w 4 h (omega arith),
-          w 5 h (omega arith),
-          w 6 h (omega arith),
-        )
-        (row-here history_width history_row_of ws i)
+    history_here = array-here history_width history_row_of ws i _ refl
 
     pub histories-next : i < length (history_rows_in ws) → drop i (history_rows_in ws) ≡ history_row_at ws i ∷ drop (i + 1) (history_rows_in ws)
     unfolding history_row_at history_rows_in
@@ -60,11 +28,17 @@ module _ (ws : List ℕ) where
 
 -- ## Well shaped
 
-module _ (ws : List ℕ) (ns : List Nation) where
-  pub torn-rows : (length ws % 7 ≡ 0 → ⊥) → false ≡ histories_shaped ns ws
+-- Of words divided into arrays.
+module _ (ws : List ℕ) (ns : List Nation) (rows : List (List ℕ)) (over : List ℕ) (p : rows ≡ first_chunks history_width (length ws / history_width) ws) (q : length over ≡ length ws % history_width) where
+  pub torn-rows : (length over ≡ 0 → ⊥) → false ≡ histories_shaped ns ws
   unfolding histories_shaped
-  torn-rows h = sym (rw (ne_eqb (length ws % 7) 0 h) refl)
+  torn-rows h = sym (rw (← q, ne_eqb (length over) 0 h) refl)
 
-  pub whole-rows : length ws % 7 ≡ 0 → (n : ℕ) → n ≡ length ns → all_of (history_shaped n) (history_rows_in ws) ≡ histories_shaped ns ws
-  unfolding histories_shaped
-  whole-rows h n e = sym (rw (h, ← e) refl)
+  pub whole-rows : length over ≡ 0 → (n : ℕ) → n ≡ length ns → (b : Bool)
+      → (b ≡ true → (k : ℕ) → k < length rows → history_shaped n (history_row_of (get_or rows k [])) ≡ true)
+      → (((k : ℕ) → k < length rows → history_shaped n (history_row_of (get_or rows k [])) ≡ true) → b ≡ true)
+      → b ≡ histories_shaped ns ws
+  unfolding histories_shaped history_rows_in
+  whole-rows h n e b to back =
+      rows-pass (history_shaped n) history_row_of rows b to back
+      ∙ sym (rw (← q, h, ← e, p, chunks-rows) refl)

@@ -1,19 +1,24 @@
 -- Histories that lack Appeared: entry by entry, row by row, and by the rules.
 use mathlib.Core.Path.{◌≡◌, refl, sym, ap, ◌∙◌}
-use mathlib.Core.Bool.{Bool, true, false, cond, not, ◌&&◌, ◌||◌}
+use mathlib.Core.Bool.{Bool, true, false, not, ◌&&◌, ◌||◌}
 use mathlib.Core.List.{List, [], ◌∷◌}
-use mathlib.Core.Option.{none, some}
+use mathlib.Core.Option.{Option, none, some}
 use Prim.Native.Nat.{ℕ, zero, suc, ◌+◌, ◌-◌, ◌<◌, ◌≤◌}
 use native.Mathlib.Numerals.{add-one}
 use native.Mathlib.Omega.{arith}
-use borrow.Author.Tests.{leb-true}
+use borrow.Author.Tests.{leb-true, ne_eqb}
+use lib.Dec.{eqb}
 use lib.ListN.{length, get_or, drop, get_elem?, length-map}
-use lib.Seq.{drop-length}
+use Rattle.std.specs.Prelude as code
+use Rattle.std.specs.Prelude.{Some, None}
+use Rattle.std.specs.Bool.{then_some}
+use Rattle.std.specs.Iterator.{YieldsFirstBy, MakesProgress, item_count}
 use Rattle.lists.specs.Lists.{keep, any_of, all_of, numbers_from, is_whole}
-use Rattle.lists.proofs.BoolLaws.{cases, clash, and_right}
+use Rattle.lists.proofs.BoolLaws.{and_right}
 use Rattle.lists.proofs.ListLaws.{all_map, map_at, length-numbers}
 use Rattle.lists.proofs.ElementLaws.{keep_same}
 use Rattle.lists.proofs.EachLaws.{all_of-all}
+use Rattle.lists.specs.Options.{option_of}
 use Rattle.format.specs.declared.tag.CountryTag.{CountryTag}
 use Rattle.format.specs.Tags.{is_tag}
 use Rattle.format.specs.Refusal.{first_of}
@@ -28,10 +33,13 @@ use Rattle.rules.specs.PlayerOutcomes.{call_starting_country}
 use Rattle.rules.proofs.LentLaws.{answered-gives}
 use Rattle.chronicle_rows.specs.RowAt.{nation_row_at, entry_at, entries_at, nation_numbered}
 use Rattle.chronicle_rows.proofs.NumberedLaws.{nations-numbered}
-use Rattle.history_rows.specs.declared.starting.Lacking as Lacking
-use Rattle.history_rows.specs.declared.starting.Lacking.TheVariants.{Nobody, One, More}
+use Rattle.history_rows.specs.declared.rows.History.{History}
+use Rattle.history_rows.specs.declared.starting.Lacking.{Lacking}
+use Rattle.history_rows.specs.Cases.{history_told}
 use Rattle.history_rows.specs.HistoryAt.{history_row_at}
-use Rattle.history_rows.specs.LackSteps.{entries_behind, appeared_in, lacks_in, lacked_by, lacked_after, is_more}
+use Rattle.history_rows.specs.LackSteps.{entries_behind, appeared_in, lacks_in, lacking_left}
+use Rattle.history_rows.proofs.HistoryLaws.{histories-next}
+use Rattle.history_rows.proofs.KeptLaws.{kept_here, kept-past}
 
 -- ## Entry by entry
 
@@ -62,95 +70,55 @@ module _ (ws es : List ℕ) (nation : ℕ) where
   bare-history e = rw e
 
   -- The row of its nation, as the code has read it.
-  pub nation-walk : (nation ≡ 0 → ⊥) → (first count : ℕ) → first ≡ (nation_row_at ws (nation - 1)).first → count ≡ (nation_row_at ws (nation - 1)).count
-      → appeared_from es first (first + count) ≡ appeared_in ws es nation
-  nation-walk h first count f g = go nation h f g
-    where
-      go : (m : ℕ) → (m ≡ 0 → ⊥) → first ≡ (nation_row_at ws (m - 1)).first → count ≡ (nation_row_at ws (m - 1)).count
-          → appeared_from es first (first + count) ≡ appeared_in ws es m
-      go zero h f g = absurd (h refl)
-      go (suc m) h f g =
-          let e : suc m - 1 ≡ m = omega arith in
-          let n : first + count - first ≡ count = omega arith in
-          rw (n, (rw e at f), (rw e at g))
+  pub nation-walk : (m first count : ℕ) → m + 1 ≡ nation → first ≡ (nation_row_at ws m).first → count ≡ (nation_row_at ws m).count → appeared_from es first (first + count) ≡ appeared_in ws es nation
+  nation-walk m first count e f g =
+      let n : first + count - first ≡ count = omega arith in
+      let s : nation ≡ suc m = omega arith in
+      rw (n, s, f, g)
 
 -- ## Row by row
 
--- What is kept of histories that lack it, with what was kept of those before them.
-abbrev pub lacked_behind : Lacking.Lacking → List HistoryRow → Lacking.Lacking
-lacked_behind Nobody rs = lacked_by rs
-lacked_behind (One t) [] = One t
-lacked_behind (One t) (r ∷ rs) = More
-lacked_behind More rs = More
+-- What is left of the histories that lack it, from a number on.
+abbrev pub lacking_from : List ℕ → List ℕ → List ℕ → ℕ → List HistoryRow
+lacking_from hs ws es i = keep (lacks_in ws es) (drop i (history_rows_in hs))
 
-lacked-none : (l : Lacking.Lacking) → lacked_behind l [] ≡ l
-lacked-none Nobody = refl
-lacked-none (One t) = refl
-lacked-none More = refl
+module _ (hs ws es : List ℕ) (i : ℕ) (row : HistoryRow) (t : Bool) (h : i < length (history_rows_in hs)) (e : row ≡ history_row_at hs i) (f : t ≡ appeared_in ws es row.nation) where
+  more : drop i (history_rows_in hs) ≡ row ∷ drop (i + 1) (history_rows_in hs)
+  more = histories-next hs i h ∙ ap (λ (r : HistoryRow). r ∷ drop (i + 1) (history_rows_in hs)) (sym e)
 
--- No row is left, or two were found.
-pub lacked-end : (ws es : List ℕ) (rows : List HistoryRow) (i : ℕ) → i ≡ length rows → (l : Lacking.Lacking) → l ≡ lacked_behind l (keep (lacks_in ws es) (drop i rows))
-lacked-end ws es rows i e l = rw (e, drop-length rows) (sym (lacked-none l))
+  pub lack_here : not t ≡ true → lacking_from hs ws es i ≡ row ∷ lacking_from hs ws es (i + 1)
+  lack_here n = kept_here (lacks_in ws es) row _ more (ap not (sym f) ∙ n)
 
-pub lacked-more : (l : Lacking.Lacking) (rs : List HistoryRow) → is_more l ≡ true → l ≡ lacked_behind l rs
-lacked-more Nobody rs h = clash false h refl
-lacked-more (One t) rs h = clash false h refl
-lacked-more More rs h = refl
+  pub lack_past : not t ≡ false → lacking_from hs ws es i ≡ lacking_from hs ws es (i + 1)
+  lack_past n = kept-past (lacks_in ws es) row _ more (ap not (sym f) ∙ n)
 
-lacked-after : (l : Lacking.Lacking) (r : HistoryRow) (rs : List HistoryRow) → lacked_behind l (r ∷ rs) ≡ lacked_behind (lacked_after l r.initial) rs
-lacked-after Nobody r [] = refl
-lacked-after Nobody r (q ∷ rs) = refl
-lacked-after (One t) r rs = refl
-lacked-after More r rs = refl
+-- A step that gives the first of what was left makes progress.
+pub step-goes : {can : Lacking → Type 0} (s t : Lacking) (r : code.Option History) → ((u : Lacking) → can u) → YieldsFirstBy history_told lacking_left s r t
+    → MakesProgress can (item_count lacking_left) s r t
+step-goes s t None all h = record { on = λ _. tt; keeps = tt; rests = λ _. tt }
+step-goes s t (Some x) all h = record { on = λ _. (all t, tt, omega (arith, ap length h)); keeps = all t; rests = λ _. tt }
 
--- The next row is read, and t tells whether it has Appeared.
-pub lacked-step : (ws es : List ℕ) (rows : List HistoryRow) (i : ℕ) (row : HistoryRow) (l : Lacking.Lacking) (t : Bool)
-    → drop i rows ≡ row ∷ drop (i + 1) rows → t ≡ appeared_in ws es row.nation
-    → lacked_behind l (keep (lacks_in ws es) (drop i rows)) ≡ lacked_behind (cond t l (lacked_after l row.initial)) (keep (lacks_in ws es) (drop (i + 1) rows))
-lacked-step ws es rows i row l t next e =
-    rw (next, ← e)
-    (cases t
-    (λ h. simp h)
-    (λ h. simp h (lacked-after l row (keep (lacks_in ws es) (drop (i + 1) rows)))))
+-- ## What is left tells the starting country
 
--- ## What is kept tells the starting country
-
--- The row of a sole history was read.
-pub sole-told : (hs : List ℕ) (ks : List HistoryRow) → lacked_by ks ≡ Nobody → length (history_rows_in hs) ≡ 1 → (row : HistoryRow) → row ≡ history_row_at hs 0
-    → gives (some row.initial) ≡ gives (starting_of ks (history_rows_in hs))
+-- No history lacks it: a sole one was read.
+pub sole-told : (hs : List ℕ) (ks : List HistoryRow) → ks ≡ [] → (n : ℕ) → n ≡ length (history_rows_in hs) → (row : History) → history_told row ≡ history_row_at hs 0
+    → (r : code.Option CountryTag) → r ≡ then_some (eqb n 1) row.initial → option_of r ≡ starting_of ks (history_rows_in hs)
 unfolding starting_of history_row_at
-sole-told hs [] e h row f = rw f (go (history_rows_in hs) h (history_row_of []))
+sole-told hs ks e n q row f r g = rw (e, g, q) (go (history_rows_in hs) (ap (λ (d : HistoryRow). d.initial) f))
   where
-    go : (rs : List HistoryRow) → length rs ≡ 1 → (d : HistoryRow) → gives (some (get_or rs 0 d).initial) ≡ gives (starting_of [] rs)
-    go [] h d = absurd (omega arith)
-    go (r ∷ []) h d = refl
-    go (r ∷ q ∷ qs) h d = absurd (omega arith)
-sole-told hs (k ∷ []) e h row f = let z : ◌≡◌ {A = ℕ} 0 1 = cc in absurd (omega arith)
-sole-told hs (k ∷ l ∷ ks) e h row f = let z : ◌≡◌ {A = ℕ} 0 1 = cc in absurd (omega arith)
+    go : (rs : List HistoryRow) → row.initial ≡ (get_or rs 0 (history_row_of [])).initial → option_of (then_some (eqb (length rs) 1) row.initial) ≡ starting_of [] rs
+    go [] h = refl
+    go (r ∷ []) h = ap some h
+    go (r ∷ q ∷ qs) h = rw (ne_eqb (length (r ∷ q ∷ qs)) 1 (λ e. omega arith)) refl
 
-module _ (rs : List HistoryRow) where
-  pub none_told : (ks : List HistoryRow) → lacked_by ks ≡ Nobody → (length rs ≡ 1 → ⊥) → gives none ≡ gives (starting_of ks rs)
+module _ (rs ks : List HistoryRow) (r : HistoryRow) where
+  pub one_told : ks ≡ r ∷ [] → some r.initial ≡ starting_of ks rs
   unfolding starting_of
-  none_told [] e h = go rs h
-    where
-      go : (qs : List HistoryRow) → (length qs ≡ 1 → ⊥) → gives none ≡ gives (starting_of [] qs)
-      go [] h = refl
-      go (r ∷ []) h = absurd (h refl)
-      go (r ∷ q ∷ qs) h = refl
-  none_told (k ∷ []) e h = let z : ◌≡◌ {A = ℕ} 0 1 = cc in absurd (omega arith)
-  none_told (k ∷ l ∷ ks) e h = let z : ◌≡◌ {A = ℕ} 0 1 = cc in absurd (omega arith)
+  one_told e = rw e
 
-  pub one_told : (ks : List HistoryRow) (t : CountryTag) → lacked_by ks ≡ One t → gives (some t) ≡ gives (starting_of ks rs)
+  pub more-told : (q : HistoryRow) (qs : List HistoryRow) → ks ≡ r ∷ q ∷ qs → none ≡ starting_of ks rs
   unfolding starting_of
-  one_told [] t e = let z : ◌≡◌ {A = ℕ} 0 1 = cc in absurd (omega arith)
-  one_told (k ∷ []) t e = let f : t ≡ k.initial = cc in rw f
-  one_told (k ∷ l ∷ ks) t e = let z : ◌≡◌ {A = ℕ} 0 1 = cc in absurd (omega arith)
-
-  pub more-told : (ks : List HistoryRow) → lacked_by ks ≡ More → gives none ≡ gives (starting_of ks rs)
-  unfolding starting_of
-  more-told [] e = let z : ◌≡◌ {A = ℕ} 0 1 = cc in absurd (omega arith)
-  more-told (k ∷ []) e = let z : ◌≡◌ {A = ℕ} 0 1 = cc in absurd (omega arith)
-  more-told (k ∷ l ∷ ks) e = refl
+  more-told q qs e = rw e
 
 -- ## By the rules
 
@@ -207,10 +175,10 @@ module _ (hs ws es : List ℕ) where
         let n : first_of (chronicle_number ws es ∷ histories_number (nations_in ws es) hs ∷ []) ≡ 11 = passed ∙ rw h refl in
         sym (rw n refl)
 
-    pub starting-gives : histories_shaped (nations_in ws es) hs ≡ true
-        → gives (starting_of (keep (lacks_in ws es) (history_rows_in hs)) (history_rows_in hs)) ≡ call_starting_country hs ws es
+    pub starting-gives : histories_shaped (nations_in ws es) hs ≡ true → (t : Option CountryTag) → t ≡ starting_of (keep (lacks_in ws es) (history_rows_in hs)) (history_rows_in hs)
+        → gives t ≡ call_starting_country hs ws es
     unfolding call_starting_country histories_shaped
-    starting-gives h =
+    starting-gives h t e =
         let n : first_of (chronicle_number ws es ∷ histories_number (nations_in ws es) hs ∷ []) ≡ 0 = passed ∙ rw h refl in
         let rows = and_right (is_whole history_width hs) _ h in
-        sym (answered-gives _ _ n ∙ ap gives (sym (starting-told ws es shaped (history_rows_in hs) rows)))
+        ap gives e ∙ sym (answered-gives _ _ n ∙ ap gives (sym (starting-told ws es shaped (history_rows_in hs) rows)))

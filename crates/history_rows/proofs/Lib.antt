@@ -1,3 +1,4 @@
+pub mod KeptLaws
 pub mod HistoryLaws
 pub mod PutLaws
 pub mod LackLaws

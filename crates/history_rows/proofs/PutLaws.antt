@@ -1,9 +1,9 @@
 -- Rows of seven words, put one behind the other.
 use mathlib.Core.Path.{◌≡◌, refl, sym, ap, subst, ◌∙◌}
 use mathlib.Core.List.{List, ◌++◌}
-use Prim.Native.Nat.{ℕ, ◌+◌, ◌-◌, ◌*◌, ◌<◌, ◌≤◌}
+use Prim.Native.Nat.{ℕ, ◌+◌, ◌-◌, ◌*◌, ◌≤◌}
 use native.Mathlib.Omega.{arith}
-use borrow.Author.Tests.{le-leb, lt-leb}
+use borrow.Author.Tests.{le-leb}
 use lib.ListN.{length, take, drop, length-append, length-take, length-drop}
 use Rattle.lists.specs.Lists.{join_of}
 use Rattle.lists.proofs.ListLaws.{length-join}
@@ -13,10 +13,7 @@ use Rattle.rules.specs.HistoryRows.{HistoryRow, history_row_words}
 use Rattle.history_rows.specs.HistoryAt.{history_put}
 
 module _ (d : HistoryRow) (ws : List ℕ) where
-  pub put-short : length ws < 7 → ws ≡ history_put d ws
-  put-short h = rw (lt-leb 7 (length ws) h)
-
-  pub put_whole : 7 ≤ length ws → history_row_words d ++ drop 7 ws ≡ history_put d ws
+  put_whole : 7 ≤ length ws → history_row_words d ++ drop 7 ws ≡ history_put d ws
   put_whole h = rw (le-leb 7 (length ws) h)
 
 pub length-rows : (ds : List HistoryRow) → length (join_of history_row_words ds) ≡ 7 * length ds

@@ -1,11 +1,13 @@
 -- What a history row by value stands for among the rules; and 01, Expected form: the answer of `starting_country` by case, as an answer
 -- of PlayerOutcomes.
-use Rattle.std.proofs.Math.Option.{Option, none, some}
+use Rattle.std.specs.Prelude as code
+use Rattle.std.proofs.Math.Option.{Option}
+use Rattle.lists.specs.Options.{option_of}
 use Rattle.format.specs.declared.tag.CountryTag.{CountryTag}
-use Rattle.rules.specs.Lent.{Answer, refused, gives}
+use Rattle.format.specs.declared.refused.Refusal.{Refusal}
+use Rattle.rules.specs.Lent.{Answer, answer_of}
 use Rattle.rules.specs.HistoryRows.{HistoryRow}
 use Rattle.history_rows.specs.declared.rows.History as History
-use Rattle.history_rows.specs.declared.starting.Starting as Starting
 
 -- A history row.
 abbrev pub history_told : History.History → HistoryRow
@@ -21,7 +23,5 @@ history_told h =
     }
 
 -- `starting_country`: its tag, none, or refused by a number.
-abbrev pub starting_answer : Starting.Starting → Answer (Option CountryTag)
-starting_answer (Starting.TheVariants.Found t) = gives (some t)
-starting_answer Starting.TheVariants.Nothing = gives none
-starting_answer (Starting.TheVariants.Refused n) = refused n
+abbrev pub starting_answer : code.Result (code.Option CountryTag) Refusal → Answer (Option CountryTag)
+starting_answer = answer_of option_of

@@ -5,4 +5,4 @@ mod rows;
 mod starting;
 
 pub use rows::{HISTORY_WIDTH, History, history_at, history_count, is_history_shaped, put_history};
-pub use starting::{Starting, starting_country};
+pub use starting::starting_country;

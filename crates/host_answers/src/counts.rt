@@ -1,7 +1,9 @@
 // The counts of nations, in a lent slice of their own.
-ghost use Rattle.std.specs.Prelude.{◌≡◌, leb, length};
-ghost use Rattle.host_answers.specs.Inner.{counts_put};
+ghost use Rattle.std.specs.Prelude.{◌≡◌, ◌%◌, leb, length};
+ghost use Rattle.host_answers.specs.Host.{Returns, word_cells};
+ghost use Rattle.host_answers.specs.Inner.{low_counts};
 
+use crate::found::put_words;
 use chronicle_rows::NationCounts;
 
 // How many counts there are.
@@ -17,16 +19,26 @@ pub fn has_counts(out: &[u32]) -> bool
     COUNTS <= out.len()
 }
 
-// Writes the five counts, where there is room for them: their lowest 32 bits, which of every record are all.
-pub fn put_counts(counts: NationCounts, out: &mut [u32])
-    ensures { out.new ≡ counts_put counts out.old }
+// The lowest 32 bits of a count.
+fn low_word(count: usize) -> u32
+    ensures { result ≡ count % 4294967296 }
 {
-    if !has_counts(out) {
-        return;
-    }
-    out[0] = (counts.nations % WORDS) as u32;
-    out[1] = (counts.entries % WORDS) as u32;
-    out[2] = (counts.slots % WORDS) as u32;
-    out[3] = (counts.countries % WORDS) as u32;
-    out[4] = (counts.changes % WORDS) as u32;
+    (count % WORDS) as u32
+}
+
+// Writes the five counts, and gives 5: their lowest 32 bits, which of every record are all. Without room for them it gives minus 10, and
+// nothing is written.
+pub fn put_counts(counts: NationCounts, out: &mut [u32]) -> i64
+    ensures { Returns (word_cells (low_counts counts) out.old) result out.new }
+{
+    put_words(
+        [
+            low_word(counts.nations),
+            low_word(counts.entries),
+            low_word(counts.slots),
+            low_word(counts.countries),
+            low_word(counts.changes),
+        ],
+        out,
+    )
 }

@@ -6,5 +6,5 @@ mod found;
 mod numbers;
 
 pub use counts::{has_counts, put_counts};
-pub use found::{put_data, put_starting, put_two};
-pub use numbers::{can_return, minus, room_number};
+pub use found::{put_data, put_starting, put_words};
+pub use numbers::{can_return, minus, returned, room_refusal};

@@ -1,33 +1,43 @@
 // The number that a C function returns.
 ghost use Rattle.std.specs.Prelude.{◌≡◌, ◌∷◌, [], min};
+ghost use Rattle.format.specs.Refused.{number_of, refusal_number};
 ghost use Rattle.format.specs.Refusal.{first_of};
-ghost use Rattle.rules.specs.Lent.{refused};
+ghost use Rattle.rules.specs.Lent.{answer_of, refused};
 ghost use Rattle.host_answers.specs.Host.{returned, most_returned};
 
+use format::Refusal;
+
 // The largest number that can be returned.
-const MOST_RETURNED: usize = 9223372036854775807;
+const MOST_RETURNED: usize = i64::MAX as usize;
 
 // What a refused call returns: minus its number.
-pub fn minus(number: u32) -> i64
-    ensures { result ≡ returned (refused number) }
+pub fn minus(refusal: Refusal) -> i64
+    ensures { result ≡ returned (refused (refusal_number refusal)) }
 {
-    0 - number as i64
+    -i64::from(refusal.number())
 }
 
-// The number that refuses a call without room: the record's own, else 10.
-pub fn room_number(number: u32) -> u32
-    ensures { result ≡ first_of (number ∷ 10 ∷ []) }
+// What refuses a call without room: what the record is refused for, else that there is no room.
+#[tactic(auto, unfolding(format::specs::Refusal::first_of))]
+pub fn room_refusal(checked: Result<(), Refusal>) -> Refusal
+    ensures { refusal_number result ≡ first_of (number_of checked ∷ 10 ∷ []) }
 {
-    if number == 0 { 10 } else { number }
+    checked.err().unwrap_or(Refusal::NoRoom)
 }
 
 // A number, or in place of one that no return can tell the largest that one can.
 pub fn can_return(most: usize) -> usize
     ensures { result ≡ min most most_returned }
 {
-    if most < MOST_RETURNED {
-        most
-    } else {
-        MOST_RETURNED
+    most.min(MOST_RETURNED)
+}
+
+// What a call returns that counts what it wrote: its count, held at the largest number that can be told; refused, minus the refusal's number.
+pub fn returned(answer: Result<usize, Refusal>) -> i64
+    ensures { result ≡ returned (answer_of (λ n. min n most_returned) answer) }
+{
+    match answer {
+        Ok(count) => can_return(count) as i64,
+        Err(refusal) => minus(refusal),
     }
 }

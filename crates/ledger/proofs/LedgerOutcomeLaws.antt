@@ -1,38 +1,44 @@
 -- The outcomes of the calls, by case: the record's number, 11, 13, 10, or the rows.
-use mathlib.Core.Path.{◌≡◌, refl, sym, ap, ◌∙◌}
+use mathlib.Core.Path.{◌≡◌, refl, sym, ap, ap₂, ◌∙◌}
 use mathlib.Core.Bool.{Bool, true, false, cond, not, ◌&&◌}
 use mathlib.Core.List.{List, [], ◌∷◌}
-use mathlib.Core.Option.{Option, none, some}
-use Prim.Native.Nat.{ℕ, zero, suc, ◌+◌, ◌*◌, ◌/◌, ◌≤◌, ◌<◌, min}
+use mathlib.Core.Option.{none}
+use Prim.Native.Nat.{ℕ, ◌+◌, ◌*◌, ◌/◌, ◌≤◌, ◌<◌, min}
 use native.Mathlib.Decide.{dec_le}
 use native.Mathlib.Omega.{arith}
 use borrow.Author.Tests.{le-leb, lt-leb, not-true, not-false}
 use lib.ListN.{length, get_elem?, length-map}
+use Rattle.std.specs.Prelude as code
+use Rattle.std.specs.Prelude.{Ok, Err, IsErr, IsErrAnd}
 use Rattle.lists.specs.Lists.{numbers_from}
 use Rattle.lists.proofs.BoolLaws.{and-false}
 use Rattle.lists.proofs.ListLaws.{length-numbers}
 use Rattle.lists.proofs.ElementLaws.{at-inside}
+use Rattle.format.specs.declared.refused.Refusal.{Refusal}
+use Rattle.format.specs.declared.refused.Refusal.TheVariants.{NoRoom, NotShaped}
+use Rattle.format.specs.Refused.{refusal_number}
 use Rattle.format.specs.Campaign.{campaign_of}
 use Rattle.format.specs.Refusal.{refusal, first_of}
+use Rattle.format.proofs.RefusedLaws.{refuses}
 use Rattle.format.proofs.FirstLaws.{first-stop, first-pass, first-zero, first_one, first-append}
-use Rattle.rules.specs.Lent.{refused, gives, written, fits, room_number, Outcome}
-use Rattle.rules.specs.Chronicle as R
-use Rattle.rules.specs.NationRows.{nation_rows_in, nations_in, well_shaped}
+use Rattle.rules.specs.Lent.{written, fits, room_number}
+use Rattle.rules.specs.NationRows.{NationRow, nation_rows_in, nations_in, well_shaped}
 use Rattle.rules.specs.Ledger.{LedgerPoint, point_rows}
 use Rattle.rules.specs.Refusals.{chronicle_number, asked_nation_number}
 use Rattle.rules.specs.Outcomes.{LedgerCells, ledger_cells_of, asked_points, call_nation_ledger, call_nation_ledger_rows, call_nation_ledgers}
 use Rattle.rules.proofs.LentLaws.{answered-refused, answered-gives, outcome-refused, outcome-gives}
-use Rattle.chronicle_rows.specs.declared.rows.Nation.{Nation}
-use Rattle.chronicle_rows.specs.Cases.{nation_told}
 use Rattle.chronicle_rows.specs.RowAt.{nation_row_at}
 use Rattle.span_points.proofs.FillsLaws.{rows-length}
-use Rattle.ledger.specs.Cases.{ledger_cells}
-use Rattle.ledger.specs.Ledgers.{nation_in, row_ledger, ledger_numbered, row_ledgers, row_counts, WritesLedgers, asked_number, room_outcome, rooms_outcome}
-use Rattle.ledger.proofs.NationLaws.{nations-size, nation-listed, nation-unlisted, all-ledgers, all-counts}
+use Rattle.ledger.specs.declared.index.Frame.{Frame}
+use Rattle.ledger.specs.Asked.{asked_number}
+use Rattle.ledger.specs.Cases.{ledger_answer, ledger_outcome, ledger_cells, ledgers_outcome}
+use Rattle.ledger.specs.Ledgers.{Framed, row_ledger, ledger_numbered, row_ledgers, row_counts, WritesLedgers}
+use Rattle.ledger.proofs.NationLaws.{nations-size, nation-listed, nation-unlisted, numbered-ledger, all-ledgers, all-counts}
 
-positive : (n : ℕ) → (n ≡ 0 → ⊥) → 0 < n
-positive zero h = absurd (h refl)
-positive (suc n) h = omega arith
+-- What `?` returns.
+pub handed-on : (r : code.Result ℕ Refusal) (e : Refusal) → IsErr r × IsErrAnd r (λ x. x ≡ e) → r ≡ Err e
+handed-on (Ok x) e h = absurd h.1
+handed-on (Err x) e h = ap Err h.1
 
 -- ## The room for points
 
@@ -46,17 +52,6 @@ module _ (ps : List LedgerPoint) (before : List ℕ) (n : ℕ) (counted : n ≡ 
 
   has_room : n ≤ length before / 3 → fits (point_rows ps) before ≡ true
   has_room h = le-leb (length (point_rows ps)) (length before) (omega (arith, (room-few h).1, rows-length ps))
-
-  pub room-short : length before / 3 < n → record { answer = refused 10; memory = before } ≡ room_outcome ps before
-  unfolding room_outcome
-  room-short h =
-      let number : room_number (fits (point_rows ps) before) ≡ 10 = ap room_number (no_room h) in
-      sym (rw number (outcome-refused 10 (length ps) (written (point_rows ps) before) before (omega arith)))
-
-  pub room-rows : n ≤ length before / 3 → (after : List ℕ) → after ≡ written (point_rows ps) before → record { answer = gives n; memory = after } ≡ room_outcome ps before
-  unfolding room_outcome
-  room-rows h after w =
-      sym (rw ((room-few h).0, w) (outcome-gives (room_number (fits (point_rows ps) before)) (length ps) (written (point_rows ps) before) before (ap room_number (has_room h))))
 
 -- ## The numbers before that
 
@@ -104,25 +99,35 @@ module _ (ws es : List ℕ) (i : ℕ) (fine : asked_number ws es i ≡ 0) where
           let t : asked_nation_number (get_elem? (nations_in ws es) i) ≡ 13 = ap asked_nation_number h in
           omega arith
 
-  -- It is that of the row by value.
-  asked-there : (n : Nation) → nation_told n ≡ nation_row_at ws i → get_elem? (nations_in ws es) i ≡ some (nation_in es n)
-  asked-there n told = nation-listed ws es i asked-shaped asked-inside n told
-
 -- The numbers of a call: the record's, these two, and the rest.
 module _ (xs ws es : List ℕ) (i : ℕ) (rest : List ℕ) where
   abbrev number : ℕ
   number = first_of (refusal xs ∷ chronicle_number ws es ∷ asked_nation_number (get_elem? (nations_in ws es) i) ∷ rest)
 
-  record-number : (n : ℕ) → 0 < n → n ≡ refusal xs → number ≡ n
-  record-number n p e = first-stop (refusal xs) _ (λ z. omega arith) ∙ sym e
+  record-number : (e : Refusal) → refusal_number e ≡ refusal xs → number ≡ refusal_number e
+  record-number e h = first-stop (refusal xs) _ (λ z. omega (arith, h, z, refuses e)) ∙ sym h
 
   both-numbers : refusal xs ≡ 0 → number ≡ first_of (asked_number ws es i ∷ rest)
   unfolding asked_number
   both-numbers z =
       first-pass (refusal xs) _ z ∙ first-append (chronicle_number ws es ∷ asked_nation_number (get_elem? (nations_in ws es) i) ∷ []) rest
 
--- ## `nation_ledger`
+  asked-first : refusal xs ≡ 0 → (e : Refusal) → refusal_number e ≡ asked_number ws es i → number ≡ refusal_number e
+  asked-first z e h = both-numbers z ∙ (first-stop (asked_number ws es i) _ (λ q. omega (arith, h, q, refuses e)) ∙ sym h)
 
+  room-last : refusal xs ≡ 0 → asked_number ws es i ≡ 0 → number ≡ first_of rest
+  room-last z h = both-numbers z ∙ first-pass (asked_number ws es i) _ h
+
+-- ## One nation
+
+-- No refusal stands before the room: the row is the nation's, and its points are those that the code reads.
+module _ {xs : List ℕ} {f : Frame} (t : Framed xs f) (ws es : List ℕ) (i : ℕ) (fine : asked_number ws es i ≡ 0) (row : NationRow) (told : row ≡ nation_row_at ws i) where
+  own-points : asked_points (campaign_of xs) (get_elem? (nations_in ws es) i) ≡ row_ledger f es row
+  own-points =
+      ap (asked_points (campaign_of xs)) (nation-listed ws es i (asked-shaped ws es i fine) (asked-inside ws es i fine))
+      ∙ (sym (numbered-ledger t ws es i) ∙ sym (ap (row_ledger f es) told))
+
+-- `nation_ledger`
 module _ (xs ws es : List ℕ) (i : ℕ) (before : List ℕ) where
   abbrev points : List LedgerPoint
   points = asked_points (campaign_of xs) (get_elem? (nations_in ws es) i)
@@ -130,121 +135,126 @@ module _ (xs ws es : List ℕ) (i : ℕ) (before : List ℕ) where
   abbrev room : List ℕ
   room = room_number (fits (point_rows points) before) ∷ []
 
-  by_number : (n : ℕ) → 0 < n → number xs ws es i room ≡ n → record { answer = refused n; memory = before } ≡ call_nation_ledger xs ws es i before
+  by_number : (e : Refusal) → number xs ws es i room ≡ refusal_number e → ledger_outcome (Err e) before ≡ call_nation_ledger xs ws es i before
   unfolding call_nation_ledger
-  by_number n p e = sym (rw e (outcome-refused n (length points) (written (point_rows points) before) before p))
+  by_number e p = sym (rw p (outcome-refused (refusal_number e) (length points) (written (point_rows points) before) before (refuses e)))
 
-  pub ledger-refused : (n : ℕ) → 0 < n → n ≡ refusal xs → record { answer = refused n; memory = before } ≡ call_nation_ledger xs ws es i before
-  ledger-refused n p e = by_number n p (record-number xs ws es i room n p e)
+  pub ledger-refused : (e : Refusal) → refusal_number e ≡ refusal xs → ledger_outcome (Err e) before ≡ call_nation_ledger xs ws es i before
+  ledger-refused e h = by_number e (record-number xs ws es i room e h)
 
-  module _ (z : refusal xs ≡ 0) (a : ℕ) (e : a ≡ asked_number ws es i) where
-    pub ledger-unasked : (a ≡ 0 → ⊥) → record { answer = refused a; memory = before } ≡ call_nation_ledger xs ws es i before
-    ledger-unasked h = by_number a (positive a h) (both-numbers xs ws es i room z ∙ (ap (λ (k : ℕ). first_of (k ∷ room)) (sym e) ∙ first-stop a _ h))
+  module _ (z : refusal xs ≡ 0) where
+    pub ledger-unasked : (e : Refusal) → refusal_number e ≡ asked_number ws es i → ledger_outcome (Err e) before ≡ call_nation_ledger xs ws es i before
+    ledger-unasked e h = by_number e (asked-first xs ws es i room z e h)
 
-    pub ledger-asked : a ≡ 0 → (n : Nation) → nation_told n ≡ nation_row_at ws i → {r : Outcome ℕ (List ℕ)} → r ≡ room_outcome (row_ledger xs es n) before
-        → r ≡ call_nation_ledger xs ws es i before
-    unfolding call_nation_ledger room_outcome
-    ledger-asked h n told given =
-        let there = asked-there ws es i (sym e ∙ h) n told in
-        let last : number xs ws es i room ≡ room_number (fits (point_rows points) before) =
-        both-numbers xs ws es i room z ∙ (first-pass (asked_number ws es i) _ (sym e ∙ h) ∙ first_one _) in
-        given ∙ sym (rw last (ap (λ (o : Option R.Nation). room_outcome (asked_points (campaign_of xs) o) before) there))
+    module _ {f : Frame} (t : Framed xs f) (fine : asked_number ws es i ≡ 0) (row : NationRow) (told : row ≡ nation_row_at ws i)
+        (n : ℕ) (counted : n ≡ min (length (row_ledger f es row)) (length before / 3 + 1)) where
+      by_room : (b : Bool) → fits (point_rows (row_ledger f es row)) before ≡ b → number xs ws es i room ≡ room_number b
+      by_room b e =
+          room-last xs ws es i room z fine
+          ∙ (first_one _ ∙ ap room_number (ap (λ (ps : List LedgerPoint). fits (point_rows ps) before) (own-points t ws es i fine row told) ∙ e))
 
--- ## `nation_ledger_rows`
+      pub ledger-short : length before / 3 < n → ledger_outcome (Err NoRoom) before ≡ call_nation_ledger xs ws es i before
+      ledger-short h = by_number NoRoom (by_room false (no_room (row_ledger f es row) before n counted h))
 
+      pub ledger-given : n ≤ length before / 3 → (after : List ℕ) → after ≡ written (point_rows (row_ledger f es row)) before
+          → ledger_outcome (Ok n) after ≡ call_nation_ledger xs ws es i before
+      unfolding call_nation_ledger
+      ledger-given h after w =
+          let few = room-few (row_ledger f es row) before n counted h in
+          let none = by_room true (has_room (row_ledger f es row) before n counted h) in
+          sym (outcome-gives (number xs ws es i room) (length points) (written (point_rows points) before) before none ∙ rw (few.0, w, own-points t ws es i fine row told))
+
+-- `nation_ledger_rows`
 module _ (xs ws es : List ℕ) (i most : ℕ) where
-  abbrev counted : ℕ
-  counted = min (length (asked_points (campaign_of xs) (get_elem? (nations_in ws es) i))) most
+  abbrev asked : List LedgerPoint
+  asked = asked_points (campaign_of xs) (get_elem? (nations_in ws es) i)
 
-  told-number : (n : ℕ) → 0 < n → number xs ws es i [] ≡ n → refused n ≡ call_nation_ledger_rows xs ws es i most
+  by_first : (e : Refusal) → number xs ws es i [] ≡ refusal_number e → ledger_answer (Err e) ≡ call_nation_ledger_rows xs ws es i most
   unfolding call_nation_ledger_rows
-  told-number n p e = sym (rw e (answered-refused n counted p))
+  by_first e p = sym (rw p (answered-refused (refusal_number e) (min (length asked) most) (refuses e)))
 
-  pub rows-refused : (n : ℕ) → 0 < n → n ≡ refusal xs → refused n ≡ call_nation_ledger_rows xs ws es i most
-  rows-refused n p e = told-number n p (record-number xs ws es i [] n p e)
+  pub rows-refused : (e : Refusal) → refusal_number e ≡ refusal xs → ledger_answer (Err e) ≡ call_nation_ledger_rows xs ws es i most
+  rows-refused e h = by_first e (record-number xs ws es i [] e h)
 
-  module _ (z : refusal xs ≡ 0) (a : ℕ) (e : a ≡ asked_number ws es i) where
-    only : number xs ws es i [] ≡ a
-    only = both-numbers xs ws es i [] z ∙ (first_one _ ∙ sym e)
+  module _ (z : refusal xs ≡ 0) where
+    pub rows-unasked : (e : Refusal) → refusal_number e ≡ asked_number ws es i → ledger_answer (Err e) ≡ call_nation_ledger_rows xs ws es i most
+    rows-unasked e h = by_first e (asked-first xs ws es i [] z e h)
 
-    pub rows-unasked : (a ≡ 0 → ⊥) → refused a ≡ call_nation_ledger_rows xs ws es i most
-    rows-unasked h = told-number a (positive a h) only
+    pub rows-given : {f : Frame} → Framed xs f → asked_number ws es i ≡ 0 → (row : NationRow) → row ≡ nation_row_at ws i
+        → (n : ℕ) → n ≡ min (length (row_ledger f es row)) most → ledger_answer (Ok n) ≡ call_nation_ledger_rows xs ws es i most
+    unfolding call_nation_ledger_rows first_of
+    rows-given t fine row told n counted =
+        let none = room-last xs ws es i [] z fine in
+        sym (answered-gives (number xs ws es i []) (min (length asked) most) none ∙ rw (counted, own-points t ws es i fine row told))
 
-    pub rows-asked : a ≡ 0 → (n : Nation) → nation_told n ≡ nation_row_at ws i → (k : ℕ) → k ≡ min (length (row_ledger xs es n)) most
-        → gives k ≡ call_nation_ledger_rows xs ws es i most
-    unfolding call_nation_ledger_rows
-    rows-asked h n told k c =
-        sym (answered-gives (number xs ws es i []) counted (only ∙ h)
-        ∙ ap gives (ap (λ (o : Option R.Nation). min (length (asked_points (campaign_of xs) o)) most) (asked-there ws es i (sym e ∙ h) n told) ∙ sym c))
-
--- ## `nation_ledgers`
+-- ## All nations: `nation_ledgers`
 
 module _ (xs ws es before counts : List ℕ) where
-  abbrev cells : LedgerCells
-  cells = record { rows = point_rows (row_ledgers xs ws es); counts = row_counts xs ws es }
-
   abbrev lent : LedgerCells
   lent = ledger_cells before counts
+
+  abbrev cells : LedgerCells
+  cells = ledger_cells_of (campaign_of xs) (nations_in ws es)
 
   abbrev both_fit : Bool
   both_fit = fits cells.rows before && fits cells.counts counts
 
-  abbrev put : LedgerCells
-  put = record { rows = written cells.rows before; counts = written cells.counts counts }
-
-  size : length (row_counts xs ws es) ≡ length (nation_rows_in ws)
-  size = length-map (numbers_from 0 (length (nation_rows_in ws))) (λ k. length (ledger_numbered xs ws es k)) ∙ length-numbers 0 (length (nation_rows_in ws))
-
-  without : both_fit ≡ false → record { answer = refused 10; memory = lent } ≡ rooms_outcome xs ws es lent
-  unfolding rooms_outcome
-  without e =
-      let no : room_number both_fit ≡ 10 = ap room_number e in
-      sym (rw no (outcome-refused 10 (length (row_ledgers xs ws es)) put lent (omega arith)))
-
-  -- Too few cells for the counts.
-  pub counts-short : (count : ℕ) → count ≡ length (nation_rows_in ws) → length counts < count → record { answer = refused 10; memory = lent } ≡ rooms_outcome xs ws es lent
-  counts-short count m h =
-      let short : fits (row_counts xs ws es) counts ≡ false = lt-leb (length (row_counts xs ws es)) (length counts) (omega (arith, size)) in
-      without (rw short (and-false (fits (point_rows (row_ledgers xs ws es)) before)))
-
-  -- Counted with one more than there is room for.
-  module _ (n : ℕ) (told : n ≡ min (length (row_ledgers xs ws es)) (length before / 3 + 1)) where
-    pub rows_short : length before / 3 < n → record { answer = refused 10; memory = lent } ≡ rooms_outcome xs ws es lent
-    rows_short h = let no = no_room (row_ledgers xs ws es) before n told h in without (rw no)
-
-    pub ledgers-given : n ≤ length before / 3 → length (nation_rows_in ws) ≤ length counts → (after counts_after : List ℕ) → WritesLedgers xs ws es before counts after counts_after
-        → record { answer = gives n; memory = ledger_cells after counts_after } ≡ rooms_outcome xs ws es lent
-    unfolding rooms_outcome
-    ledgers-given h g after counts_after w =
-        let few = room-few (row_ledgers xs ws es) before n told h in
-        let a = has_room (row_ledgers xs ws es) before n told h in
-        let b : fits (row_counts xs ws es) counts ≡ true = le-leb (length (row_counts xs ws es)) (length counts) (omega (arith, size)) in
-        let yes : room_number both_fit ≡ 0 = rw (a, b) in
-        sym (rw (few.0, w.cells, w.counted) (outcome-gives (room_number both_fit) (length (row_ledgers xs ws es)) put lent yes))
-
-  abbrev last : ℕ
-  last = room_number (fits (ledger_cells_of (campaign_of xs) (nations_in ws es)).rows before && fits (ledger_cells_of (campaign_of xs) (nations_in ws es)).counts counts)
-
   abbrev first : ℕ
-  first = first_of (refusal xs ∷ chronicle_number ws es ∷ last ∷ [])
+  first = first_of (refusal xs ∷ chronicle_number ws es ∷ room_number both_fit ∷ [])
 
-  by_first : (n : ℕ) → 0 < n → first ≡ n → record { answer = refused n; memory = lent } ≡ call_nation_ledgers xs ws es lent
+  by_any : (e : Refusal) → first ≡ refusal_number e → ledgers_outcome (Err e) before counts ≡ call_nation_ledgers xs ws es lent
   unfolding call_nation_ledgers
-  by_first n p e = sym (rw e (outcome-refused n _ _ lent p))
+  by_any e p = sym (rw p (outcome-refused (refusal_number e) _ _ lent (refuses e)))
 
-  pub ledgers-refused : (n : ℕ) → 0 < n → n ≡ refusal xs → record { answer = refused n; memory = lent } ≡ call_nation_ledgers xs ws es lent
-  ledgers-refused n p e = by_first n p (first-stop (refusal xs) _ (λ z. omega arith) ∙ sym e)
+  pub ledgers-refused : (e : Refusal) → refusal_number e ≡ refusal xs → ledgers_outcome (Err e) before counts ≡ call_nation_ledgers xs ws es lent
+  ledgers-refused e h = by_any e (first-stop (refusal xs) _ (λ z. omega (arith, h, z, refuses e)) ∙ sym h)
 
-  module _ (z : refusal xs ≡ 0) (s : Bool) (e : s ≡ well_shaped ws es) where
-    pub ledgers-torn : not s ≡ true → record { answer = refused 11; memory = lent } ≡ call_nation_ledgers xs ws es lent
+  module _ (z : refusal xs ≡ 0) where
+    pub ledgers-torn : well_shaped ws es ≡ false → ledgers_outcome (Err NotShaped) before counts ≡ call_nation_ledgers xs ws es lent
     ledgers-torn h =
-        by_first 11 (omega arith)
-        (first-pass (refusal xs) _ z ∙ (ap (λ (b : Bool). first_of (cond b 0 11 ∷ last ∷ [])) (sym e ∙ not-true s h) ∙ first-stop 11 _ (λ q. omega arith)))
+        by_any NotShaped
+        (first-pass (refusal xs) _ z ∙ (ap (λ (b : Bool). first_of (cond b 0 11 ∷ room_number both_fit ∷ [])) h ∙ first-stop 11 _ (λ q. omega arith)))
 
-    pub ledgers-asked : not s ≡ false → {r : Outcome ℕ LedgerCells} → r ≡ rooms_outcome xs ws es lent → r ≡ call_nation_ledgers xs ws es lent
-    unfolding call_nation_ledgers rooms_outcome ledger_cells_of
-    ledgers-asked well given =
-        let shaped : well_shaped ws es ≡ true = sym e ∙ not-false s well in
-        let only : first ≡ last =
-        first-pass (refusal xs) _ z ∙ (first-pass (chronicle_number ws es) _ (ap (λ (b : Bool). cond b 0 11) shaped) ∙ first_one last) in
-        given ∙ rw (all-ledgers xs ws es shaped, all-counts xs ws es shaped, only)
+    module _ {f : Frame} (t : Framed xs f) (shaped : well_shaped ws es ≡ true) where
+      last : first ≡ room_number both_fit
+      last = first-pass (refusal xs) _ z ∙ (first-pass (chronicle_number ws es) _ (ap (λ (b : Bool). cond b 0 11) shaped) ∙ first_one _)
+
+      same-rows : cells.rows ≡ point_rows (row_ledgers f ws es)
+      unfolding ledger_cells_of
+      same-rows = ap point_rows (sym (all-ledgers t ws es shaped))
+
+      same-counts : cells.counts ≡ row_counts f ws es
+      unfolding ledger_cells_of
+      same-counts = sym (all-counts t ws es shaped)
+
+      size : length (row_counts f ws es) ≡ length (nation_rows_in ws)
+      size =
+          length-map (numbers_from 0 (length (nation_rows_in ws))) (λ k. length (ledger_numbered f ws es k))
+          ∙ length-numbers 0 (length (nation_rows_in ws))
+
+      without : both_fit ≡ false → ledgers_outcome (Err NoRoom) before counts ≡ call_nation_ledgers xs ws es lent
+      without e = by_any NoRoom (last ∙ ap room_number e)
+
+      -- Too few cells for the counts.
+      pub counts-short : length counts < length (nation_rows_in ws) → ledgers_outcome (Err NoRoom) before counts ≡ call_nation_ledgers xs ws es lent
+      counts-short h =
+          let short : fits cells.counts counts ≡ false = ap (λ (l : List ℕ). fits l counts) same-counts ∙ lt-leb (length (row_counts f ws es)) (length counts) (omega (arith, size)) in
+          without (ap (λ (b : Bool). fits cells.rows before && b) short ∙ and-false (fits cells.rows before))
+
+      -- Counted with one more than there is room for.
+      module _ (n : ℕ) (counted : n ≡ min (length (row_ledgers f ws es)) (length before / 3 + 1)) where
+        pub rows_short : length before / 3 < n → ledgers_outcome (Err NoRoom) before counts ≡ call_nation_ledgers xs ws es lent
+        rows_short h =
+            without (ap (λ (b : Bool). b && fits cells.counts counts)
+            (ap (λ (l : List ℕ). fits l before) same-rows ∙ no_room (row_ledgers f ws es) before n counted h))
+
+        pub ledgers-given : n ≤ length before / 3 → length (nation_rows_in ws) ≤ length counts → (after counts_after : List ℕ)
+            → WritesLedgers f ws es before counts after counts_after → ledgers_outcome (Ok n) after counts_after ≡ call_nation_ledgers xs ws es lent
+        unfolding call_nation_ledgers
+        ledgers-given h g after counts_after w =
+            let few = room-few (row_ledgers f ws es) before n counted h in
+            let a : fits cells.rows before ≡ true = ap (λ (l : List ℕ). fits l before) same-rows ∙ has_room (row_ledgers f ws es) before n counted h in
+            let b : fits cells.counts counts ≡ true =
+            ap (λ (l : List ℕ). fits l counts) same-counts ∙ le-leb (length (row_counts f ws es)) (length counts) (omega (arith, size)) in
+            let none : first ≡ 0 = last ∙ ap room_number (ap₂ ◌&&◌ a b) in
+            sym (outcome-gives first _ _ lent none ∙ rw (few.0, w.cells, w.counted, same-rows, same-counts, ← all-ledgers t ws es shaped))

@@ -1,3 +1,4 @@
+pub mod Asked
 pub mod Cases
 pub mod Index
 pub mod Ledgers

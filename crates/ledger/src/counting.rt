@@ -1,90 +1,50 @@
 // How many points a span gives, a nation, and all nations. A count stops at what is left of the most that is asked for: so no sum passes
 // that.
 ghost use Rattle.std.specs.Prelude.{◌≡◌, min, length};
-ghost use Rattle.format.specs.Campaign.{campaign_of};
 ghost use Rattle.rules.specs.Ledger.{span_points};
+ghost use Rattle.chronicle_rows.specs.Cases.{nation_told};
+ghost use Rattle.record.specs.Cursors.{ledgers_left};
 ghost use Rattle.spans.specs.SpanSteps.{span_in};
-ghost use Rattle.ledger.specs.Index.{Indexed};
-ghost use Rattle.ledger.specs.Ledgers.{Framed, row_ledger, row_ledgers};
+ghost use Rattle.ledger.specs.Ledgers.{row_ledger, row_ledgers};
 
-use crate::frame::Frame;
-use crate::index;
-use crate::index::NamePoints;
+use crate::index::LedgerIndex;
 use chronicle_rows::{Nation, nation_at, nation_count};
-use record::Ledgers;
 use span_points::count_span;
-use spans::{NextSpan, Span, SpanWalk};
+use spans::{Span, Spans};
 
-// How many points a span gives, at most so many.
-fn count_points(
-    s: &[u8],
-    ledgers: Ledgers,
-    keys: &[u64],
-    places: &[u64],
-    span: Span,
-    most: usize,
-) -> usize
-    requires { Indexed s.now ledgers keys.now places.now }
-    ensures { result ≡ min (length (span_points (campaign_of s.now).ledgers (span_in span))) most }
-{
-    let tag = span.tag;
-    match index::points_of(s, ledgers, keys, places, tag) {
-        NamePoints::Found(points) => count_span(s, points, span, most),
-        NamePoints::Nothing => 0,
+impl LedgerIndex<'_> {
+    // How many points a span gives, at most so many.
+    fn count_points(&self, span: Span, most: usize) -> usize
+        ensures { result ≡ min (length (span_points (ledgers_left self.now.frame.ledgers) (span_in span))) most }
+    {
+        match self.points_of(span.tag) {
+            Some(points) => count_span(points, span, most),
+            None => 0,
+        }
     }
-}
 
-// How many points a nation has, at most so many.
-pub(crate) fn count_ledger(
-    s: &[u8],
-    frame: Frame,
-    keys: &[u64],
-    places: &[u64],
-    entries: &[u32],
-    nation: Nation,
-    most: usize,
-) -> usize
-    requires { Framed s.now frame × Indexed s.now frame.ledgers keys.now places.now }
-    ensures { result ≡ min (length (row_ledger s.now entries.now nation)) most }
-{
-    let ledgers = frame.ledgers;
-    let current = frame.current;
-    let mut walk = SpanWalk::begin(nation, frame.start);
-    let mut n = 0;
-    while n < most {
-        match walk.next(entries, current) {
-            NextSpan::Row(span, rest) => {
-                n += count_points(s, ledgers, keys, places, span, most - n);
-                walk = rest;
-            }
-            NextSpan::End => {
+    // How many points a nation has, at most so many.
+    pub(crate) fn count(&self, entries: &[u32], nation: Nation, most: usize) -> usize
+        ensures { result ≡ min (length (row_ledger self.now.frame entries.now (nation_told nation))) most }
+    {
+        let mut n = 0;
+        for span in Spans::of(entries, nation, self.frame.start, self.frame.current) {
+            n += self.count_points(span, most - n);
+            if n == most {
                 return n;
             }
         }
+        n
     }
-    n
-}
 
-// How many points all nations have, at most so many.
-pub(crate) fn count_ledgers(
-    s: &[u8],
-    frame: Frame,
-    keys: &[u64],
-    places: &[u64],
-    nations: &[u32],
-    entries: &[u32],
-    most: usize,
-) -> usize
-    requires { Framed s.now frame × Indexed s.now frame.ledgers keys.now places.now }
-    ensures { result ≡ min (length (row_ledgers s.now nations.now entries.now)) most }
-{
-    let end = nation_count(nations);
-    let mut n = 0;
-    let mut i = 0;
-    while i < end {
-        let row = nation_at(nations, i);
-        n += count_ledger(s, frame, keys, places, entries, row, most - n);
-        i += 1;
+    // How many points all nations have, at most so many.
+    pub(crate) fn count_all(&self, nations: &[u32], entries: &[u32], most: usize) -> usize
+        ensures { result ≡ min (length (row_ledgers self.now.frame nations.now entries.now)) most }
+    {
+        let mut n = 0;
+        for i in 0..nation_count(nations) {
+            n += self.count(entries, nation_at(nations, i), most - n);
+        }
+        n
     }
-    n
 }

@@ -2,14 +2,12 @@
 // cell is written, and no more of them than there may be room for.
 #![tactic(auto)]
 
-mod answers;
 mod counting;
-mod frame;
 mod index;
 mod ledgers;
 mod nation;
+mod opening;
 mod writing;
 
-pub use answers::NationLedger;
 pub use ledgers::nation_ledgers;
 pub use nation::{nation_ledger, nation_ledger_rows};

@@ -20,10 +20,6 @@ pub and_right : (a b : Bool) → a && b ≡ true → b ≡ true
 and_right true b h = h
 and_right false b h = absurd (true≢false (sym h))
 
-pub or-true : (a : Bool) → a || true ≡ true
-or-true true = refl
-or-true false = refl
-
 pub and-false : (a : Bool) → a && false ≡ false
 and-false true = refl
 and-false false = refl

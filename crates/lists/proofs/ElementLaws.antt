@@ -4,9 +4,9 @@ use mathlib.Core.Bool.{Bool, true, cond, ◌&&◌}
 use mathlib.Core.List.{List, [], ◌∷◌, ◌++◌, map}
 use mathlib.Core.Option
 use mathlib.Core.Option.{none, some, none-ne-some, some-injective}
-use Prim.Native.Nat.{ℕ, zero, suc, ◌+◌, ◌-◌, ◌≤◌, ◌<◌}
+use Prim.Native.Nat.{ℕ, zero, suc, ◌≤◌, ◌<◌}
 use native.Mathlib.Omega.{arith}
-use lib.ListN.{length, get_or, get_elem?, drop, replicate}
+use lib.ListN.{length, get_or, get_elem?, drop}
 use Rattle.lists.specs.Lists.{All, keep, all_of, join_of, first_or, last_or, last}
 use Rattle.lists.proofs.BoolLaws.{cases, and-false, both}
 use Rattle.lists.proofs.ListLaws.{InOrder, all_keep, map_at}
@@ -164,11 +164,3 @@ order-keep key p (x ∷ xs) o =
     cases (p x)
     (λ h. simp h (all_keep (λ y. key x ≤ key y) p xs o.0, order-keep key p xs o.1))
     (λ h. simp h (order-keep key p xs o.1))
-
--- ## One element in each place, counted down
-
-pub replicate_next : (n i x : ℕ) → i < n → replicate (n - i) x ≡ x ∷ replicate (n - (i + 1)) x
-replicate_next n i x h = let e : n - i ≡ suc (n - (i + 1)) = omega arith in rw e
-
-pub replicate-end : (n i x : ℕ) → n ≤ i → replicate (n - i) x ≡ []
-replicate-end n i x h = let e : n - i ≡ 0 = omega arith in rw e

@@ -8,3 +8,4 @@ pub mod BoundLaws
 pub mod EachLaws
 pub mod FillLaws
 pub mod WriteLaws
+pub mod ProgressLaws

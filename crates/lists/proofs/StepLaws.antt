@@ -1,11 +1,10 @@
 -- One element more, counted as code counts, i + 1: a list that is read, copied, filled or mapped element by element.
-use mathlib.Core.Path.{◌≡◌, refl, sym, ap, ◌∙◌}
+use mathlib.Core.Path.{◌≡◌, ap, ◌∙◌}
 use mathlib.Core.List.{List, [], ◌∷◌, ◌++◌, map}
-use Prim.Native.Nat.{ℕ, zero, suc, ◌+◌, ◌≤◌, ◌<◌}
+use Prim.Native.Nat.{ℕ, ◌+◌, ◌≤◌, ◌<◌}
 use native.Mathlib.Numerals.{add-one}
-use native.Mathlib.Omega.{arith}
-use lib.ListN.{length, take, drop, get_or, set, replicate, drop_of_length-le}
-use lib.Seq.{drop-cons, take-suc, take-suc-set, take_all}
+use lib.ListN.{length, take, drop, get_or, set, drop_of_length-le}
+use lib.Seq.{drop-cons, take-suc, take-suc-set}
 
 module _ {A : Type 0} where
   -- What stands from a place on is the element there and the others.
@@ -18,22 +17,6 @@ module _ {A : Type 0} where
 
   pub take-set-more : (l : List A) (i : ℕ) (v : A) → i < length l → take (i + 1) (set l i v) ≡ take i l ++ (v ∷ [])
   take-set-more l i v h = ap (λ (n : ℕ). take n (set l i v)) (add-one i) ∙ take-suc-set l i v h
-
-  -- A copy of a list, of which the first i elements are made.
-  pub copy_more : (from to : List A) (i : ℕ) (d : A) → i < length from → length to ≡ length from → take i to ≡ take i from
-      → take (i + 1) (set to i (get_or from i d)) ≡ take (i + 1) from
-  copy_more from to i d p q e = rw (take-set-more to i (get_or from i d) (omega arith), take_more from i d p, e)
-
-  pub copy_done : (from to : List A) (i : ℕ) → length from ≤ i → length to ≡ length from → take i to ≡ take i from → to ≡ from
-  copy_done from to i p q e = sym (take_all i to (omega arith)) ∙ e ∙ take_all i from p
-
-  -- Cells of which the first i are set to one value.
-  replicate_more : (n : ℕ) (v : A) → replicate n v ++ (v ∷ []) ≡ replicate (n + 1) v
-  replicate_more zero v = refl
-  replicate_more (suc n) v = let m : suc n + 1 ≡ suc (n + 1) = omega arith in rw m (ap (λ (l : List A). v ∷ l) (replicate_more n v))
-
-  pub fill_more : (l : List A) (i : ℕ) (v : A) → i < length l → take i l ≡ replicate i v → take (i + 1) (set l i v) ≡ replicate (i + 1) v
-  fill_more l i v h e = take-set-more l i v h ∙ ap (λ (m : List A). m ++ (v ∷ [])) e ∙ replicate_more i v
 
 -- What a function gives of the elements from a place on: that of the first of them, then the others.
 module _ {A : Type 0} (f : ℕ → A) (xs : List ℕ) (i : ℕ) where

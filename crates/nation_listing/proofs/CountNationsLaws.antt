@@ -1,19 +1,17 @@
--- The listed nations counted, key by key of the initials. The count reads no tags and no targets.
-use mathlib.Core.Path.{◌≡◌, refl, ap, ap₂, ◌∙◌}
+-- The listed nations counted, key by key of the initials.
+use mathlib.Core.Path.{◌≡◌, ap, ap₂}
 use mathlib.Core.List.{List, [], ◌∷◌, ◌++◌}
-use Prim.Native.Nat.{ℕ, ◌+◌, ◌-◌, ◌*◌, ◌≤◌, ◌<◌}
+use Prim.Native.Nat.{ℕ, ◌+◌, ◌*◌, ◌≤◌, ◌<◌}
 use native.Mathlib.Omega.{arith}
 use lib.ListN.{length, get_or, drop, length-append}
-use Rattle.lists.proofs.BoolLaws.{cases}
 use Rattle.nation_tables.specs.Layout.{key_rows, word_span}
 use Rattle.nation_listing.specs.declared.listing.Listed.{Listed}
 use Rattle.rules.specs.Chronicle.{Nation}
-use Rattle.nation_tables.specs.Lookup.{row_in}
 use Rattle.nation_tables.specs.Gathering.{Cells}
-use Rattle.nation_listing.specs.Listing.{retold, walk_of, is_listed, nation_of_key, key_nations, nations_at, listed_of}
-use Rattle.nation_listing.specs.Listing.{Readable, Counted}
+use Rattle.nation_listing.specs.Listing.{key_nations, nations_at, listed_of}
+use Rattle.nation_listing.specs.Listing.{Readable}
 use Rattle.rules.proofs.RowLaws.{all_entries}
-use Rattle.nation_listing.proofs.ListingLaws.{key-few, key-short, length-entries, key_one, key-none, one-entries, key-nations-next, nations-end, length-all-entries}
+use Rattle.nation_listing.proofs.ListingLaws.{key-few, key-short, key-nations-next, nations-end, length-all-entries}
 
 -- Of the keys before i so many nations and entries are counted.
 pub record NationsCounting (w : Cells) (i nations entries : ℕ) : Type 0 where
@@ -22,51 +20,6 @@ pub record NationsCounting (w : Cells) (i nations entries : ℕ) : Type 0 where
   pub told : entries + length (all_entries (nations_at w (drop i w.initials))) ≡ length (all_entries (nations_at w w.initials))
   pub few : nations ≤ i
   pub short : entries ≤ 163840 * i
-
-module _ (w : Cells) (tags targets : List ℕ) where
-  -- A key gives as many nations and entries by other tags and targets.
-  key-retold : (key : ℕ)
-      → (length (key_nations w key) ≡ length (key_nations (retold w tags targets) key))
-      × (length (all_entries (key_nations w key)) ≡ length (all_entries (key_nations (retold w tags targets) key)))
-  key-retold key =
-      let v : Cells = retold w tags targets in
-      cases (is_listed w.initials key (walk_of w (row_in key)))
-      (λ h. rw (key_one w key h, key_one v key h) (
-        refl,
-        omega (
-          arith,
-          one-entries w (nation_of_key w key),
-          one-entries v (nation_of_key v key),
-          length-entries w (row_in key),
-          length-entries v (row_in key),
-        ),
-      ))
-      (λ h. rw (key-none w key h, key-none v key h) (refl, refl))
-
-  -- So do all keys.
-  nations-retold : (keys : List ℕ)
-      → (length (nations_at w keys) ≡ length (nations_at (retold w tags targets) keys))
-      × (length (all_entries (nations_at w keys)) ≡ length (all_entries (nations_at (retold w tags targets) keys)))
-  nations-retold [] = (refl, refl)
-  nations-retold (key ∷ keys) =
-      let v : Cells = retold w tags targets in
-      let here = key-retold key in
-      let rest = nations-retold keys in (
-        omega (
-          arith,
-          here.0,
-          rest.0,
-          length-append (key_nations w key) (nations_at w keys),
-          length-append (key_nations v key) (nations_at v keys),
-        ),
-        omega (
-          arith,
-          here.1,
-          rest.1,
-          length-all-entries (key_nations w key) (nations_at w keys),
-          length-all-entries (key_nations v key) (nations_at v keys),
-        ),
-      )
 
 module _ (w : Cells) where
   -- At first none is counted.
@@ -88,8 +41,9 @@ module _ (w : Cells) where
       nations-counting-short = omega (arith, c.short, one-more.1, readable.few)
 
       -- The key at i is counted.
-      pub nations-counting-more : NationsCounting w (i + 1) (nations + r.nations) (entries + r.entries)
-      nations-counting-more =
+      pub nations-counting-more : (nations' entries' : ℕ) → nations' ≡ nations + r.nations → entries' ≡ entries + r.entries
+          → NationsCounting w (i + 1) nations' entries'
+      nations-counting-more nations' entries' p q =
           let here : List Nation = key_nations w (get_or w.initials i 0) in
           let rest : List Nation = nations_at w (drop (i + 1) w.initials) in
           let next : nations_at w (drop i w.initials) ≡ here ++ rest = key-nations-next w w.initials i h in
@@ -97,22 +51,18 @@ module _ (w : Cells) where
           let m : r.entries ≡ length (all_entries here) = ap (λ (x : Listed). x.entries) e in
           record {
             inside = omega arith;
-            listed = omega (arith, n, c.listed, ap length next, length-append here rest);
-            told = omega (arith, m, c.told, ap (λ (ns : List Nation). length (all_entries ns)) next, length-all-entries here rest);
-            few = omega (arith, c.few, one-more.0);
-            short = omega (arith, c.short, one-more.1);
+            listed = omega (arith, p, n, c.listed, ap length next, length-append here rest);
+            told = omega (arith, q, m, c.told, ap (λ (ns : List Nation). length (all_entries ns)) next, length-all-entries here rest);
+            few = omega (arith, p, c.few, one-more.0);
+            short = omega (arith, q, c.short, one-more.1);
           }
 
     -- All keys are counted.
-    pub nations-counting-done : length w.initials ≤ i → Counted (retold w [] []) (record { nations = nations; entries = entries })
+    pub nations-counting-done : length w.initials ≤ i → record { nations = nations; entries = entries } ≡ listed_of (nations_at w w.initials)
     nations-counting-done h =
         let none : nations_at w (drop i w.initials) ≡ [] = nations-end w w.initials i h in
-        record {
-          listed =
-              λ tags targets. ap₂ (λ (a b : ℕ). record { nations = a; entries = b })
-              (omega (arith, c.listed, ap length none) ∙ (nations-retold w tags targets w.initials).0)
-              (omega (arith, c.told, ap (λ (ns : List Nation). length (all_entries ns)) none) ∙ (nations-retold w tags targets w.initials).1);
-        }
+        ap₂ (λ (a b : ℕ). record { nations = a; entries = b }) (omega (arith, c.listed, ap length none))
+        (omega (arith, c.told, ap (λ (ns : List Nation). length (all_entries ns)) none))
 
 -- Keys give few nations and entries.
 nations-short : (w : Cells) → Readable w → (keys : List ℕ)

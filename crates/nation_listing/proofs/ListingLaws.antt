@@ -15,13 +15,11 @@ use Rattle.lists.proofs.ListLaws.{count-le, count-more, join-append}
 use Rattle.sorting.proofs.SortLaws.{length-merge}
 use Rattle.format.specs.declared.tag.CountryTag.{CountryTag}
 use Rattle.nation_tables.specs.Layout.{key_rows, row_key_span, row_span, half}
-use Rattle.nation_listing.specs.declared.lives.Lives.{Lives}
-use Rattle.nation_listing.specs.declared.lives.LivesCount.{LivesCount}
 use Rattle.rules.specs.Chronicle.{Entry, Nation}
 use Rattle.rules.specs.NationRows.{nation_rows_from, entry_words, nation_width, entry_width}
 use Rattle.nation_tables.specs.Lookup.{row_in}
 use Rattle.nation_tables.specs.Turning.{high_halves, by_date}
-use Rattle.nation_listing.specs.Walks.{lived_left, lives_count, Light}
+use Rattle.nation_listing.specs.Walks.{Walk}
 use Rattle.nation_tables.specs.Switches.{run_start, switch_in}
 use Rattle.nation_listing.specs.Entries.{merged_entries, latest_tag, EntriesWritten}
 use Rattle.nation_tables.specs.Gathering.{Cells}
@@ -66,6 +64,10 @@ module _ (w : Cells) where
       )
 
   module _ (r : Readable w) where
+    -- The lives are few.
+    pub lives-few : (row : ℕ) → length (lived_of w row).entries ≤ 131070
+    lives-few row = omega (arith, r.chained.few, lived-short w.start w.olds w.news 0 w.keys (walk_of w row))
+
     -- They are few.
     pub entries-short : (row : ℕ) → length (row_entries w row) ≤ 163840
     entries-short row =
@@ -74,8 +76,7 @@ module _ (w : Cells) where
           length-entries row,
           run_inside (row + 1) w.runs,
           r.few_runs,
-          r.chained.few,
-          lived-short w.start w.olds w.news 0 w.keys (walk_of w row),
+          lives-few row,
         )
 
   -- ## The nation of a key
@@ -152,13 +153,7 @@ module _ (w : Cells) (r : Readable w) (i : ℕ) (h : i < length w.initials) wher
   pub key-narrow : key < row_key_span
   key-narrow = all-inside (λ k. k < row_key_span) w.initials i 0 r.words h
 
-  module _ (walk : Lives) (here : walk ≡ walk_of w (row_in key)) where
-    -- The walk may begin.
-    pub key-light : Light walk
-    key-light =
-        let few = all-inside (λ n. n ≤ half) w.started (row_in key) 0 r.started key-started in
-        rw here (omega (arith, few))
-
+  module _ (walk : Walk) (here : walk ≡ walk_of w (row_in key)) where
     -- Of a country that is not listed nothing is counted or written.
     module _ (silent : is_listed w.initials key walk ≡ false) where
       -- It gives no nation.
@@ -181,72 +176,67 @@ module _ (w : Cells) (r : Readable w) (i : ℕ) (h : i < length w.initials) wher
       -- The country is listed, and its run is found.
       module _ (from end : ℕ) (f : from ≡ run_start (row_in key) w.runs) (e : end ≡ run_start (row_in key + 1) w.runs) where
         -- It counts for one, and its entries are its switches and lives.
-        pub count-listed : (lived : LivesCount) → lived ≡ lives_count (lived_left w.start w.keys w.olds w.news walk)
-            → record { nations = 1; entries = end - from + lived.entries } ≡ listed_of (key_nations w key)
+        pub count-listed : (lived : ℕ) → lived ≡ length (lived_of w (row_in key)).entries
+            → record { nations = 1; entries = end - from + lived } ≡ listed_of (key_nations w key)
         count-listed lived l =
-            let n : lived.entries ≡ length (lived_of w (row_in key)).entries = rw here at (ap (λ (x : LivesCount). x.entries) l) in
             rw only
             (ap (λ (m : ℕ). record { nations = 1; entries = m })
-            (omega (arith, f, e, n, one-entries w (nation_of_key w key), length-entries w (row_in key))))
+            (omega (arith, f, e, l, one-entries w (nation_of_key w key), length-entries w (row_in key))))
 
         -- They are few.
-        pub count_small : (lived : LivesCount) → lived ≡ lives_count (lived_left w.start w.keys w.olds w.news walk)
-            → end - from + lived.entries ≤ 163840
-        count_small lived l =
-            let n : lived.entries ≡ length (lived_of w (row_in key)).entries = rw here at (ap (λ (x : LivesCount). x.entries) l) in
-            omega (arith, f, e, n, length-entries w (row_in key), entries-short w r (row_in key))
+        pub count_small : (lived : ℕ) → lived ≡ length (lived_of w (row_in key)).entries → end - from + lived ≤ 163840
+        count_small lived l = omega (arith, f, e, l, length-entries w (row_in key), entries-short w r (row_in key))
 
         -- The row's run, as it is lent.
         same-run : take (end - from) (drop from w.runs) ≡ run_of w.runs (row_in key)
         same-run = rw (f, e, add-one)
 
-        -- The entries, with the run as it is lent.
-        abbrev lent : List Entry
-        lent =
-            merged_entries w.targets (take (end - from) (drop from w.runs))
-            (lived_left w.start w.keys w.olds w.news walk).entries
+        module _ (lives : List Entry) (l : lives ≡ (lived_of w (row_in key)).entries) where
+          -- The entries, with the run as it is lent.
+          abbrev lent : List Entry
+          lent = merged_entries w.targets (take (end - from) (drop from w.runs)) lives
 
-        -- They are the row's.
-        same_entries : lent ≡ row_entries w (row_in key)
-        same_entries = rw (same-run, here)
+          -- They are the row's.
+          same_entries : lent ≡ row_entries w (row_in key)
+          same_entries = rw (same-run, l)
 
-        module _ (rows entries : List ℕ) (room : NationsRoom (key_nations w key) rows entries) where
-          -- There is room for the row.
-          pub room_row : nation_width ≤ length rows
-          room_row =
-              omega (arith, room.rows, length-nation_words (key_nations w key), ap length only)
+          module _ (rows entries : List ℕ) (room : NationsRoom (key_nations w key) rows entries) where
+            -- There is room for the row.
+            pub room_row : nation_width ≤ length rows
+            room_row =
+                omega (arith, room.rows, length-nation_words (key_nations w key), ap length only)
 
-          -- There is room for the entries.
-          pub room-entries : entry_width * length lent ≤ length entries
-          room-entries =
-              rw same_entries
-              (omega (
-                arith,
-                room.entries,
-                length-entry_words (key_nations w key),
-                ap (λ (ns : List Nation). length (all_entries ns)) only,
-                one-entries w (nation_of_key w key),
-              ))
+            -- There is room for the entries.
+            pub room-entries : entry_width * length lent ≤ length entries
+            room-entries =
+                rw same_entries
+                (omega (
+                  arith,
+                  room.entries,
+                  length-entry_words (key_nations w key),
+                  ap (λ (ns : List Nation). length (all_entries ns)) only,
+                  one-entries w (nation_of_key w key),
+                ))
 
-        module _ (count : ℕ) (entries entries' : List ℕ) (wrote : EntriesWritten lent count entries entries') where
-          -- Their number is a word.
-          pub count-narrow : count ≤ 163840
-          count-narrow = omega (arith, wrote.counted, ap length same_entries, entries-short w r (row_in key))
+          module _ (count : ℕ) (entries entries' : List ℕ) (wrote : EntriesWritten lent count entries entries') where
+            -- Their number is a word.
+            pub count-narrow : count ≤ 163840
+            count-narrow = omega (arith, wrote.counted, ap length same_entries, entries-short w r (row_in key))
 
-          -- What is written is the nation's.
-          pub put-listed : (initial latest stored : CountryTag) (first : ℕ) (rows rows' : List ℕ) → initial.0 ≡ key / key_rows
-              → latest ≡ latest_tag w.targets (take (end - from) (drop from w.runs)) initial → stored.0 ≡ get_or w.tags (row_in key) 0
-              → rows' ≡ (initial.0 ∷ latest.0 ∷ stored.0 ∷ first ∷ count ∷ []) ++ drop nation_width rows
-              → NationsPut (key_nations w key) first (record { nations = 1; entries = count }) rows rows' entries entries'
-          unfolding nation_rows_from entry_words
-          put-listed initial latest stored first rows rows' a b s p =
-              let n : count ≡ length (row_entries w (row_in key)) = wrote.counted ∙ ap length same_entries in
-              let i : initial ≡ record { 0 = key / key_rows } = ap (λ (v : ℕ). record { 0 = v }) a in
-              let l : latest ≡ latest_tag w.targets (run_of w.runs (row_in key)) (record { 0 = key / key_rows }) = rw (same-run, i) at b in
-              let all = append-nil (row_entries w (row_in key)) in
-              rw only
-              (record {
-                listed = ap (λ (m : ℕ). record { nations = 1; entries = m }) (n ∙ sym (ap length all));
-                rows = rw (a, l, s, n) at p;
-                entries = rw (all) (rw same_entries at wrote.cells);
-              })
+            -- What is written is the nation's.
+            pub put-listed : (initial latest stored : CountryTag) (first : ℕ) (rows rows' : List ℕ) → initial.0 ≡ key / key_rows
+                → latest ≡ latest_tag w.targets (take (end - from) (drop from w.runs)) initial → stored.0 ≡ get_or w.tags (row_in key) 0
+                → rows' ≡ (initial.0 ∷ latest.0 ∷ stored.0 ∷ first ∷ count ∷ []) ++ drop nation_width rows
+                → NationsPut (key_nations w key) first (record { nations = 1; entries = count }) rows rows' entries entries'
+            unfolding nation_rows_from entry_words
+            put-listed initial latest stored first rows rows' a b s p =
+                let n : count ≡ length (row_entries w (row_in key)) = wrote.counted ∙ ap length same_entries in
+                let i : initial ≡ record { 0 = key / key_rows } = ap (λ (v : ℕ). record { 0 = v }) a in
+                let l : latest ≡ latest_tag w.targets (run_of w.runs (row_in key)) (record { 0 = key / key_rows }) = rw (same-run, i) at b in
+                let all = append-nil (row_entries w (row_in key)) in
+                rw only
+                (record {
+                  listed = ap (λ (m : ℕ). record { nations = 1; entries = m }) (n ∙ sym (ap length all));
+                  rows = rw (a, l, s, n) at p;
+                  entries = rw (all) (rw same_entries at wrote.cells);
+                })

@@ -2,30 +2,31 @@
 -- the loss by itself and then the gain by itself tell what the change tells.
 use mathlib.Core.Path.{◌≡◌, refl, sym, ap, ap₂, ◌∙◌}
 use mathlib.Core.Bool.{Bool, true, false, cond, ◌&&◌, ◌||◌}
-use mathlib.Core.List.{List, [], ◌∷◌, ◌++◌, map, append_assoc}
-use Prim.Native.Nat.{ℕ, zero, suc, ◌+◌, ◌-◌, ◌*◌, ◌/◌, ◌≤◌, ◌<◌}
+use mathlib.Core.List.{List, [], ◌∷◌, ◌++◌, append_assoc}
+use Prim.Native.Nat.{ℕ, zero, suc, ◌+◌, ◌-◌, ◌*◌, ◌≤◌, ◌<◌}
 use native.Mathlib.Omega.{arith}
-use borrow.Author.Tests.{ltb-true, ltb-false, eq-eqb, ne_eqb}
+use borrow.Author.Tests.{ltb-false, eq-eqb, ne_eqb}
 use lib.Dec.{ltb, eqb}
-use lib.ListN.{length, get_or, drop, length-append, length-map}
+use lib.ListN.{length, get_or, drop, length-append}
 use lib.Seq.{drop-cons, drop-length}
-use Rattle.lists.proofs.BoolLaws.{cases, neither}
+use Rattle.lists.proofs.BoolLaws.{neither}
 use Rattle.format.specs.declared.date.Eu4Date.{Eu4Date}
 use Rattle.format.specs.Dates.{earlier}
-use Rattle.nation_tables.specs.Layout.{half}
-use Rattle.nation_listing.specs.declared.lives.Lives.{Lives}
-use Rattle.nation_listing.specs.declared.lives.Turned.TheVariants.{Silent, Told}
-use Rattle.nation_listing.specs.declared.lives.NextLife.TheVariants.{Life, End}
 use Rattle.rules.specs.Chronicle.{appeared, annexed, Entry}
 use Rattle.rules.specs.Nations.{turn_entries, turn_count}
 use Rattle.nation_tables.specs.Turning.{Lived, before, key_date}
-use Rattle.nation_listing.specs.Walks.{past_change, lived_from, lived_left, life_entry, Chained, Light, ahead, Turns, TellsLife, lives_count}
+use Rattle.std.specs.Prelude.{Some, None}
+use Rattle.chronicle_rows.specs.declared.rows.Entry as code
+use Rattle.nation_tables.specs.Layout.{half}
+use Rattle.nation_listing.specs.declared.lives.Lives.{Lives}
+use Rattle.nation_listing.specs.Lives.{walk_in, lives_left, Steps}
+use Rattle.nation_listing.specs.Walks.{Walk, past_change, lived_from, lived_left, life_entry, Chained, ahead}
 
 -- The walk after a loss, and after a gain.
-abbrev pub after_loss : List ℕ → Lives → Lives
+abbrev pub after_loss : List ℕ → Walk → Walk
 after_loss olds c = record { lose = get_or olds c.lose 0; gain = c.gain; held = c.held - 1 }
 
-abbrev pub after_gain : List ℕ → Lives → Lives
+abbrev pub after_gain : List ℕ → Walk → Walk
 after_gain news c = record { lose = c.lose; gain = get_or news c.gain 0; held = c.held + 1 }
 
 before-twice : (es fs : List Entry) (l : Lived) → before (es ++ fs) l ≡ before es (before fs l)
@@ -35,7 +36,7 @@ module _ (start : Eu4Date) (olds news : List ℕ) where
   -- ## One change
 
   -- What change k tells, if it takes a slot (a) and gives one (b), with what is left behind it.
-  abbrev stepped : ℕ → ℕ → List ℕ → Lives → Bool → Bool → Lived
+  abbrev stepped : ℕ → ℕ → List ℕ → Walk → Bool → Bool → Lived
   stepped k x xs c a b =
       before (turn_entries start (key_date x) a b c.held)
       (lived_from start olds news (suc k) xs
@@ -45,17 +46,17 @@ module _ (start : Eu4Date) (olds news : List ℕ) where
         held = turn_count a b c.held;
       }))
 
-  step : (k x : ℕ) (xs : List ℕ) (c : Lives) (a b : Bool) → eqb c.lose k ≡ a → eqb c.gain k ≡ b
+  step : (k x : ℕ) (xs : List ℕ) (c : Walk) (a b : Bool) → eqb c.lose k ≡ a → eqb c.gain k ≡ b
       → lived_from start olds news k (x ∷ xs) c ≡ stepped k x xs c a b
   unfolding lived_from
   step k x xs c a b p q = ap₂ (stepped k x xs c) p q
 
-  step-none : (k x : ℕ) (xs : List ℕ) (c : Lives) → stepped k x xs c false false ≡ lived_from start olds news (suc k) xs c
+  step-none : (k x : ℕ) (xs : List ℕ) (c : Walk) → stepped k x xs c false false ≡ lived_from start olds news (suc k) xs c
   unfolding turn_entries turn_count
   step-none k x xs c = refl
 
   -- A loss, and a gain if there is one.
-  step-loss : (k x : ℕ) (xs : List ℕ) (c : Lives) (b : Bool)
+  step-loss : (k x : ℕ) (xs : List ℕ) (c : Walk) (b : Bool)
       → stepped k x xs c true b
       ≡ before (cond (eqb (c.held - 1) 0) (life_entry (key_date x) true ∷ []) [])
       (stepped k x xs (record { lose = get_or olds k 0; gain = c.gain; held = c.held - 1 }) false b)
@@ -64,7 +65,7 @@ module _ (start : Eu4Date) (olds news : List ℕ) where
       before-twice (cond (eqb (c.held - 1) 0) (life_entry (key_date x) true ∷ []) [])
       (cond (b && eqb (c.held - 1) 0 && earlier start (key_date x)) (life_entry (key_date x) false ∷ []) []) _
 
-  step-gain : (k x : ℕ) (xs : List ℕ) (c : Lives)
+  step-gain : (k x : ℕ) (xs : List ℕ) (c : Walk)
       → stepped k x xs c false true
       ≡ before (cond (eqb c.held 0 && earlier start (key_date x)) (life_entry (key_date x) false ∷ []) [])
       (lived_from start olds news (suc k) xs (record { lose = c.lose; gain = get_or news k 0; held = c.held + 1 }))
@@ -73,7 +74,7 @@ module _ (start : Eu4Date) (olds news : List ℕ) where
 
   -- ## Changes that are not the country's
 
-  passed : (i k : ℕ) (keys : List ℕ) (c : Lives) → i ≤ length keys → k + i ≤ c.lose → k + i ≤ c.gain
+  passed : (i k : ℕ) (keys : List ℕ) (c : Walk) → i ≤ length keys → k + i ≤ c.lose → k + i ≤ c.gain
       → lived_from start olds news k keys c ≡ lived_from start olds news (k + i) (drop i keys) c
   passed zero k keys c h l g = let e : k + 0 ≡ k = omega arith in simp e
   passed (suc i) k [] c h l g = absurd (omega arith)
@@ -85,21 +86,21 @@ module _ (start : Eu4Date) (olds news : List ℕ) where
 
   module _ (keys : List ℕ) where
     -- From the country's next change on.
-    from : (k : ℕ) (c : Lives) → k < length keys → k ≤ c.lose → k ≤ c.gain
+    from : (k : ℕ) (c : Walk) → k < length keys → k ≤ c.lose → k ≤ c.gain
         → lived_from start olds news 0 keys c ≡ lived_from start olds news k (get_or keys k 0 ∷ drop (suc k) keys) c
     from k c h l g =
         let e : 0 + k ≡ k = omega arith in
         passed k 0 keys c (omega arith) (omega arith) (omega arith)
         ∙ ap₂ (λ (j : ℕ) (xs : List ℕ). lived_from start olds news j xs c) e (drop-cons keys k 0 h)
 
-    pub walk_end : (c : Lives) → length keys ≤ c.lose → length keys ≤ c.gain
+    pub walk_end : (c : Walk) → length keys ≤ c.lose → length keys ≤ c.gain
         → lived_from start olds news 0 keys c ≡ record { entries = []; held = c.held }
     unfolding lived_from
     walk_end c l g =
         passed (length keys) 0 keys c (omega arith) (omega arith) (omega arith)
         ∙ ap (λ (xs : List ℕ). lived_from start olds news (0 + length keys) xs c) (drop-length keys)
 
-    pub walk-loss : (c : Lives) → c.lose < length keys → c.lose ≤ c.gain → c.lose < get_or olds c.lose 0
+    pub walk-loss : (c : Walk) → c.lose < length keys → c.lose ≤ c.gain → c.lose < get_or olds c.lose 0
         → lived_from start olds news 0 keys c
         ≡ before (cond (eqb (c.held - 1) 0) (life_entry (key_date (get_or keys c.lose 0)) true ∷ []) [])
         (lived_from start olds news 0 keys (after_loss olds c))
@@ -107,7 +108,7 @@ module _ (start : Eu4Date) (olds news : List ℕ) where
         let k : ℕ = c.lose in
         let x : ℕ = get_or keys k 0 in
         let xs : List ℕ = drop (suc k) keys in
-        let c' : Lives = after_loss olds c in
+        let c' : Walk = after_loss olds c in
         let gains : Bool = eqb c.gain k in
         let told : List Entry = cond (eqb (c.held - 1) 0) (life_entry (key_date x) true ∷ []) [] in
         from k c h (omega arith) l
@@ -116,7 +117,7 @@ module _ (start : Eu4Date) (olds news : List ℕ) where
         ∙ ap (before told)
         (sym (from k c' h (omega arith) l ∙ step k x xs c' false gains (ne_eqb (get_or olds k 0) k (λ e. omega arith)) refl))))
 
-    pub walk-gain : (c : Lives) → c.gain < length keys → c.gain < c.lose → c.gain < get_or news c.gain 0
+    pub walk-gain : (c : Walk) → c.gain < length keys → c.gain < c.lose → c.gain < get_or news c.gain 0
         → lived_from start olds news 0 keys c
         ≡ before
         (cond (eqb c.held 0 && earlier start (key_date (get_or keys c.gain 0))) (life_entry (key_date (get_or keys c.gain 0)) false ∷ []) [])
@@ -125,7 +126,7 @@ module _ (start : Eu4Date) (olds news : List ℕ) where
         let k : ℕ = c.gain in
         let x : ℕ = get_or keys k 0 in
         let xs : List ℕ = drop (suc k) keys in
-        let c' : Lives = after_gain news c in
+        let c' : Walk = after_gain news c in
         let told : List Entry = cond (eqb c.held 0 && earlier start (key_date x)) (life_entry (key_date x) false ∷ []) [] in
         let kept : eqb c.lose k ≡ false = ne_eqb c.lose k (λ e. omega arith) in
         from k c h (omega arith) (omega arith)
@@ -136,136 +137,71 @@ module _ (start : Eu4Date) (olds news : List ℕ) where
         (from k c' h (omega arith) (omega arith)
         ∙ (step k x xs c' false false kept (ne_eqb (get_or news k 0) k (λ e. omega arith)) ∙ step-none k x xs c')))))
 
--- There is a cell for each change.
-pub turn_inside : (keys turns : List ℕ) (news : List ℕ) → Chained keys (map (λ x. x / half) turns) news → (k : ℕ) → k < length keys → (k < length turns) × (k < length news)
-turn_inside keys turns news s k h =
-    let a = s.all_olds in
-    let b = s.all_news in
-    let l = length-map turns (λ x. x / half) in
-    (omega arith, omega arith)
-
 -- ## What a change tells
 
-module _ (start : Eu4Date) (keys olds news : List ℕ) (s : Chained keys olds news) (c : Lives) (light : Light c) where
+module _ (start : Eu4Date) (keys olds news : List ℕ) (s : Chained keys olds news) (c : Walk) where
+  -- Behind it the walk has other entries left, and fewer links ahead.
+  abbrev pub Past : List Entry → Walk → Type 0
+  Past told c' = ((lived_left start keys olds news c).entries ≡ told ++ (lived_left start keys olds news c').entries) × (ahead c' < ahead c)
+
   module _ (h : c.lose < length keys) (l : c.lose ≤ c.gain) where
     abbrev loss_told : List Entry
     loss_told = cond (eqb (c.held - 1) 0) (life_entry (key_date (get_or keys c.lose 0)) true ∷ []) []
 
-    loss : lived_left start keys olds news c ≡ before loss_told (lived_left start keys olds news (after_loss olds c))
-    loss = walk-loss start olds news keys c h l (s.olds_rise c.lose h)
+    loss : Past loss_told (after_loss olds c)
+    loss = (ap (λ (x : Lived). x.entries) (walk-loss start olds news keys c h l (s.olds_rise c.lose h)), omega (arith, s.few, s.olds_rise c.lose h))
 
-    pub loss-told : eqb (c.held - 1) 0 ≡ true
-        → Turns start keys olds news c (Told (key_date (get_or keys c.lose 0)) true (after_loss olds c))
-    loss-told e =
-        record {
-          told = rw e at loss;
-          onward = record { light = omega arith; less = omega (arith, s.few, s.olds_rise c.lose h) };
-        }
+    -- The walk behind it, as the code finds it.
+    module _ (lose held : ℕ) (p : lose ≡ get_or olds c.lose 0) (q : held ≡ c.held - 1) where
+      pub loss-told : (date : Eu4Date) → date ≡ key_date (get_or keys c.lose 0) → held ≡ 0
+          → Past (life_entry date true ∷ []) (record { lose = lose; gain = c.gain; held = held })
+      loss-told date d z = let e : eqb (c.held - 1) 0 ≡ true = eq-eqb (c.held - 1) 0 (omega arith) in rw (d, p, q) (rw e at loss)
 
-    pub loss-silent : eqb (c.held - 1) 0 ≡ false → Turns start keys olds news c (Silent (after_loss olds c))
-    loss-silent e =
-        record {
-          told = rw e at loss;
-          onward = record { light = omega arith; less = omega (arith, s.few, s.olds_rise c.lose h) };
-        }
+      pub loss-silent : 0 < held → Past [] (record { lose = lose; gain = c.gain; held = held })
+      loss-silent z = let e : eqb (c.held - 1) 0 ≡ false = ne_eqb (c.held - 1) 0 (λ w. omega arith) in rw (p, q) (rw e at loss)
 
   module _ (h : c.gain < length keys) (l : c.gain < c.lose) where
-    gain : lived_left start keys olds news c
-        ≡ before
-        (cond (eqb c.held 0 && earlier start (key_date (get_or keys c.gain 0))) (life_entry (key_date (get_or keys c.gain 0)) false ∷ []) [])
-        (lived_left start keys olds news (after_gain news c))
-    gain = walk-gain start olds news keys c h l (s.news_rise c.gain h)
+    abbrev gain_told : List Entry
+    gain_told = cond (eqb c.held 0 && earlier start (key_date (get_or keys c.gain 0))) (life_entry (key_date (get_or keys c.gain 0)) false ∷ []) []
 
-    pub gain-told : eqb c.held 0 && earlier start (key_date (get_or keys c.gain 0)) ≡ true
-        → Turns start keys olds news c (Told (key_date (get_or keys c.gain 0)) false (after_gain news c))
-    gain-told e =
-        record {
-          told = rw e at gain;
-          onward = record { light = omega (arith, s.news_rise c.gain h); less = omega (arith, s.few, s.news_rise c.gain h) };
-        }
+    gain : Past gain_told (after_gain news c)
+    gain = (ap (λ (x : Lived). x.entries) (walk-gain start olds news keys c h l (s.news_rise c.gain h)), omega (arith, s.few, s.news_rise c.gain h))
 
-    pub gain-silent : eqb c.held 0 && earlier start (key_date (get_or keys c.gain 0)) ≡ false
-        → Turns start keys olds news c (Silent (after_gain news c))
-    gain-silent e =
-        record {
-          told = rw e at gain;
-          onward = record { light = omega (arith, s.news_rise c.gain h); less = omega (arith, s.few, s.news_rise c.gain h) };
-        }
+    module _ (gains : ℕ) (p : gains ≡ get_or news c.gain 0) (date : Eu4Date) (d : date ≡ key_date (get_or keys c.gain 0)) where
+      pub gain-told : eqb c.held 0 && earlier start date ≡ true
+          → Past (life_entry date false ∷ []) (record { lose = c.lose; gain = gains; held = c.held + 1 })
+      gain-told e = rw (d, p) (rw (rw d at e) at gain)
 
--- Of two places of which one is among the first n, the lower one is.
-pub lower_in : (a b n k : ℕ) → ltb a n || ltb b n ≡ true → k ≤ a → k ≤ b → k < n
-lower_in a b n k e l g =
-    cases (ltb a n) (λ h. omega (arith, ltb-true a n h)) (λ h. omega (arith, ltb-true b n (simp h at e)))
+      pub gain-silent : eqb c.held 0 && earlier start date ≡ false → Past [] (record { lose = c.lose; gain = gains; held = c.held + 1 })
+      gain-silent e = rw p (rw (rw d at e) at gain)
+
+-- ## The end
+
+-- Behind the last change nothing is left.
+pub none-left : (start : Eu4Date) (keys olds news : List ℕ) (c : Walk) → ltb c.lose (length keys) || ltb c.gain (length keys) ≡ false
+    → (lived_left start keys olds news c).entries ≡ []
+none-left start keys olds news c h =
+    let past = neither (ltb c.lose (length keys)) (ltb c.gain (length keys)) h in
+    ap (λ (x : Lived). x.entries)
+    (walk_end start olds news keys c (ltb-false c.lose (length keys) past.0) (ltb-false c.gain (length keys) past.1))
 
 -- ## From entry to entry
 
--- A walk came from one place to another without a word.
-pub record Walked (start : Eu4Date) (keys olds news : List ℕ) (from to : Lives) : Type 0 where
-  pub told : lived_left start keys olds news from ≡ lived_left start keys olds news to
-  pub light : Light to
-  pub near : ahead to ≤ ahead from
+-- An iterator came from one place to another without a word.
+pub record Walked (from to : Lives) : Type 0 where
+  pub told : lives_left from ≡ lives_left to
+  pub light : to.held ≤ to.gain + half
+  pub near : ahead (walk_in to) ≤ ahead (walk_in from)
 
-module _ (start : Eu4Date) (keys olds news : List ℕ) where
-  pub walked_none : (c : Lives) → Light c → Walked start keys olds news c c
-  walked_none c light = record { told = refl; light = light; near = omega arith }
+pub walked_none : (c : Lives) → Walked c c
+walked_none c = record { told = refl; light = c.light; near = omega arith }
 
-  module _ (from to : Lives) (w : Walked start keys olds news from to) where
-    pub walked_more : (c : Lives) → Turns start keys olds news to (Silent c) → Walked start keys olds news from c
-    walked_more c t =
-        record { told = w.told ∙ t.told; light = t.onward.light; near = omega (arith, w.near, t.onward.less) }
+module _ (from to : Lives) (w : Walked from to) where
+  pub walked_more : (c : Lives) → Steps to None c → Walked from c
+  walked_more c t = record { told = w.told ∙ t.told; light = c.light; near = omega (arith, w.near, t.less) }
 
-    pub walked-told : (date : Eu4Date) (falls : Bool) (c : Lives) → Turns start keys olds news to (Told date falls c)
-        → TellsLife start keys olds news from (Life date falls c)
-    walked-told date falls c t =
-        record {
-          told = w.told ∙ t.told;
-          onward = record { light = t.onward.light; less = omega (arith, w.near, t.onward.less) };
-        }
-
-    pub walked_end : ltb to.lose (length keys) || ltb to.gain (length keys) ≡ false
-        → TellsLife start keys olds news from (End to.held)
-    walked_end h =
-        let past = neither (ltb to.lose (length keys)) (ltb to.gain (length keys)) h in
-        record {
-          told =
-              w.told
-              ∙ walk_end start olds news keys to (ltb-false to.lose (length keys) past.0)
-              (ltb-false to.gain (length keys) past.1);
-          onward = tt;
-        }
-
--- ## Counting
-
--- So many entries were told on the way.
-pub record LivesCounted (start : Eu4Date) (keys olds news : List ℕ) (from to : Lives) (n : ℕ) : Type 0 where
-  pub told : n + length (lived_left start keys olds news to).entries ≡ length (lived_left start keys olds news from).entries
-  pub held : (lived_left start keys olds news to).held ≡ (lived_left start keys olds news from).held
-  pub light : Light to
-  pub near : n + ahead to ≤ ahead from
-
-module _ (start : Eu4Date) (keys olds news : List ℕ) where
-  pub counted_none : (c : Lives) → Light c → LivesCounted start keys olds news c c 0
-  counted_none c light = record { told = omega arith; held = refl; light = light; near = omega arith }
-
-  module _ (from to : Lives) (n : ℕ) (w : LivesCounted start keys olds news from to n) where
-    pub counted-more : (date : Eu4Date) (falls : Bool) (c : Lives) → TellsLife start keys olds news to (Life date falls c)
-        → LivesCounted start keys olds news from c (n + 1)
-    counted-more date falls c t =
-        let e : length (lived_left start keys olds news to).entries ≡ suc (length (lived_left start keys olds news c).entries) =
-        ap (λ (l : Lived). length l.entries) t.told in
-        record {
-          told = omega (arith, w.told);
-          held = sym (ap (λ (l : Lived). l.held) t.told) ∙ w.held;
-          light = t.onward.light;
-          near = omega (arith, w.near, t.onward.less);
-        }
-
-    pub counted-end : (held : ℕ) → TellsLife start keys olds news to (End held)
-        → record { entries = n; held = held } ≡ lives_count (lived_left start keys olds news from)
-    counted-end held t =
-        let e : length (lived_left start keys olds news to).entries ≡ 0 = ap (λ (l : Lived). length l.entries) t.told in
-        ap₂ (λ (a b : ℕ). record { entries = a; held = b }) (omega (arith, w.told))
-        (sym (ap (λ (l : Lived). l.held) t.told) ∙ w.held)
+  pub walked-told : (x : code.Entry) (c : Lives) → Steps to (Some x) c → Steps from (Some x) c
+  walked-told x c t = record { told = w.told ∙ t.told; less = omega (arith, w.near, t.less) }
 
 -- A change tells two entries at most.
 pub turn-short : (start date : Eu4Date) (loses gains : Bool) (n : ℕ) → length (turn_entries start date loses gains n) ≤ 2
@@ -278,7 +214,7 @@ turn-short start date loses gains n = go (loses && eqb (n - 1) 0) (gains && eqb 
     go false true = omega arith
     go false false = omega arith
 
-pub lived-short : (start : Eu4Date) (olds news : List ℕ) (k : ℕ) (keys : List ℕ) (c : Lives)
+pub lived-short : (start : Eu4Date) (olds news : List ℕ) (k : ℕ) (keys : List ℕ) (c : Walk)
     → length (lived_from start olds news k keys c).entries ≤ 2 * length keys
 unfolding lived_from
 lived-short start olds news k [] c = omega arith

@@ -126,13 +126,13 @@ module _ (w : Cells) where
           }
 
       -- It is written behind the others.
-      pub listing-more : Readable w → (r : Listed) → r ≡ listed_of here → (rows' entries' : List ℕ)
-          → Behind rows (rows_words first here) (nation_width * n) rows' → Behind entries (entry_words here) (entry_width * first) entries'
-          → Listing w rows₀ entries₀ (i + 1) (n + r.nations) (first + r.entries) rows' entries'
-      listing-more readable r e rows' entries' a b =
+      pub listing-more : Readable w → (r : Listed) → r ≡ listed_of here → (n' first' : ℕ) → n' ≡ n + r.nations → first' ≡ first + r.entries
+          → (rows' entries' : List ℕ) → Behind rows (rows_words first here) (nation_width * n) rows' → Behind entries (entry_words here) (entry_width * first) entries'
+          → Listing w rows₀ entries₀ (i + 1) n' first' rows' entries'
+      listing-more readable r e n' first' p q rows' entries' a b =
           let nations-more : nation_width * (n + length here) ≡ nation_width * n + length (rows_words first here) = omega (arith, length-rows-words first here) in
           let entries-more : entry_width * (first + length (all_entries here)) ≡ entry_width * first + length (entry_words here) = omega (arith, length-entry_words here) in
-          rw e
+          rw (p, q, e)
           (record {
             inside = omega arith;
             short = omega (arith, l.short, key-short w readable (get_or w.initials i 0));

@@ -1,25 +1,37 @@
 -- A country's switches by date, merged with its lives. No call of 01 is promised by these: they are how the nations are computed.
-use Rattle.std.specs.Prelude.{◌≡◌, Bool, true, false, List, [], ◌∷◌, map, ℕ, leb, length}
+use Rattle.std.specs.Prelude.{◌≡◌, Option, Some, None, Bool, true, false, List, [], ◌∷◌, map, ℕ, leb, length}
 use Rattle.lists.specs.Lists.{join_of, last_or}
 use Rattle.sorting.specs.Steps.{merge_by}
 use Rattle.format.specs.declared.tag.CountryTag.{CountryTag}
-use Rattle.nation_listing.specs.declared.lives.NextLife as NextLife
+use Rattle.chronicle_rows.specs.declared.rows.Entry as code
+use Rattle.chronicle_rows.specs.Cases.{entry_told}
+use Rattle.nation_listing.specs.declared.entries.Entries.{Entries}
 use Rattle.rules.specs.Chronicle.{Entry}
 use Rattle.rules.specs.Lent.{written}
 use Rattle.rules.specs.Nations.{targets}
 use Rattle.rules.specs.NationRows.{entry_row, entry_row_words}
 use Rattle.nation_tables.specs.Turning.{by_date}
 use Rattle.nation_tables.specs.Switches.{date_in, switch_in}
+use Rattle.nation_listing.specs.Lives.{lives_left}
 
 -- The entries of a run of keys, merged with others: at a tie the switch comes first.
 abbrev pub merged_entries : List ℕ → List ℕ → List Entry → List Entry
 merged_entries words run lives = merge_by by_date (map (switch_in words) run) lives
 
--- Whether the next entry is the first switch of a run, where the walk over the lives has told its next.
-abbrev pub switch_first : List ℕ → NextLife.NextLife → Bool
+-- Whether the next entry is the first switch of a run, where the lives have told their next.
+abbrev pub switch_first : List ℕ → Option code.Entry → Bool
 switch_first [] life = false
-switch_first (key ∷ run) (NextLife.TheVariants.Life date falls c) = leb (date_in key) date.0
-switch_first (key ∷ run) (NextLife.TheVariants.End held) = true
+switch_first (key ∷ run) (Some life) = leb (date_in key) life.date.0
+switch_first (key ∷ run) None = true
+
+-- The lives that are left, of which the first was told, if there is one.
+abbrev pub lives_told : Option code.Entry → List Entry → List Entry
+lives_told (Some life) lives = entry_told life ∷ lives
+lives_told None lives = []
+
+-- The entries that the iterator has left.
+abbrev pub entries_left : Entries → List Entry
+entries_left e = merged_entries e.targets.now e.run.now (lives_told e.life (lives_left e.lives))
 
 -- The words of entries, row behind row.
 abbrev pub entries_words : List Entry → List ℕ

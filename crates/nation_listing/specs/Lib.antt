@@ -1,4 +1,5 @@
 pub mod Walks
+pub mod Lives
 pub mod Entries
 pub mod Listing
 pub mod Reading

@@ -1,10 +1,10 @@
 -- The listed nations in the order of the keys of initials, as they are read from cells. No call of 01 is promised by these: they are how the
 -- nations are computed.
-use Rattle.std.specs.Prelude.{◌≡◌, Bool, cond, ◌&&◌, ◌||◌, List, [], ◌∷◌, ℕ, suc, ◌+◌, ◌-◌, ◌*◌, ◌≤◌, ◌<◌, leb, ltb, eqb, length, get_or, take, drop}
+use Rattle.std.specs.Prelude.{◌≡◌, Option, Some, None, Bool, cond, ◌&&◌, ◌||◌, List, [], ◌∷◌, ℕ, suc, ◌+◌, ◌-◌, ◌*◌, ◌≤◌, ◌<◌, leb, ltb, eqb, length, get_or, take, drop}
 use Rattle.lists.specs.Lists.{All, join_of}
 use Rattle.sorting.specs.Sort.{sort_by}
-use Rattle.nation_listing.specs.declared.lives.Lives.{Lives}
 use Rattle.nation_listing.specs.declared.listing.Listed.{Listed}
+use Rattle.nation_listing.specs.declared.tables.NationTables.{NationTables}
 use Rattle.rules.specs.Chronicle.{Entry, Nation}
 use Rattle.rules.specs.Lent.{written}
 use Rattle.rules.specs.NationRows.{nation_row_words, nation_rows_from, nation_words, entry_words}
@@ -12,34 +12,22 @@ use Rattle.nation_tables.specs.Layout.{key_rows, key_numbers, row_key_span, half
 use Rattle.nation_tables.specs.Keys.{word_in}
 use Rattle.nation_tables.specs.Lookup.{row_in, last_within}
 use Rattle.nation_tables.specs.Turning.{Lived}
-use Rattle.nation_listing.specs.Walks.{lived_left, first_lives, Chained}
+use Rattle.nation_listing.specs.Walks.{Walk, lived_left, first_lives, Chained}
 use Rattle.nation_tables.specs.Switches.{run_start}
-use Rattle.nation_tables.specs.Gathering.{Cells}
+use Rattle.nation_tables.specs.Gathering.{Cells, cells_from}
 use Rattle.nation_listing.specs.Entries.{merged_entries, latest_tag}
 
 -- ## What is read
 
--- The cells that are gathered, with other tags and targets.
-abbrev pub retold : Cells → List ℕ → List ℕ → Cells
-retold w tags targets =
-    record {
-      tags = tags;
-      initials = w.initials;
-      runs = w.runs;
-      targets = targets;
-      losses = w.losses;
-      gains = w.gains;
-      started = w.started;
-      keys = w.keys;
-      olds = w.olds;
-      news = w.news;
-      start = w.start;
-    }
+-- The cells of the tables that are lent.
+abbrev pub cells_of : NationTables → Cells
+cells_of t =
+    cells_from t.tag_words.now t.initial_keys.now t.runs.now t.targets.now t.firsts.now t.started.now t.keys.now t.turns.now t.start
 
 -- ## The nation of a key
 
 -- The walk over the lives of a row's country.
-abbrev pub walk_of : Cells → ℕ → Lives
+abbrev pub walk_of : Cells → ℕ → Walk
 walk_of w row = first_lives w.losses w.gains row (get_or w.started row 0)
 
 -- What it tells.
@@ -55,7 +43,7 @@ abbrev pub row_entries : Cells → ℕ → List Entry
 row_entries w row = merged_entries w.targets (run_of w.runs row) (lived_of w row).entries
 
 -- Of a key of an initial: it is the last one with that initial, and the walk holds a slot now or gains one later.
-abbrev pub is_listed : List ℕ → ℕ → Lives → Bool
+abbrev pub is_listed : List ℕ → ℕ → Walk → Bool
 is_listed initials key walk =
     eqb (last_within (word_in key * key_rows) (word_in key * key_rows + key_rows) initials) (row_in key)
     && (ltb 0 walk.held || ltb walk.gain no_change)
@@ -82,6 +70,11 @@ nations_at w keys = join_of (key_nations w) keys
 abbrev pub listed_of : List Nation → Listed
 listed_of ns = record { nations = length ns; entries = length (join_of (λ n. n.entries) ns) }
 
+-- Of one key: how many entries its nation has, if it is listed.
+abbrev pub one_listed : Option ℕ → Listed
+one_listed (Some n) = record { nations = 1; entries = n }
+one_listed None = record { nations = 0; entries = 0 }
+
 -- ## What the reading asks of the cells
 
 -- Chains that rise, keys in order, and rows that are countries'.
@@ -99,10 +92,6 @@ pub record Readable (w : Cells) : Type 0 where
   pub started : All (λ n. n ≤ half) w.started
 
 -- ## What the functions leave
-
--- The count does not hang on the tags, nor on the targets.
-pub record Counted (w : Cells) (r : Listed) : Type 0 where
-  pub listed : (tags targets : List ℕ) → r ≡ listed_of (nations_at (retold w tags targets) w.initials)
 
 -- Room for the rows of nations and of their entries.
 pub record NationsRoom (ns : List Nation) (rows₀ entries₀ : List ℕ) : Type 0 where

@@ -1,10 +1,12 @@
 -- The nations placed in two lent slices: by what they are counted and written, or left. No call of 01 is promised by these: they are how the nations
 -- are computed.
-use Rattle.std.specs.Prelude.{◌≡◌, Bool, true, false, ◌&&◌, List, ℕ, ◌*◌, leb, length}
+use Rattle.std.specs.Prelude as code
+use Rattle.std.specs.Prelude.{Ok, Err, ◌≡◌, Bool, true, false, ◌&&◌, List, ℕ, ◌*◌, leb, length}
+use Rattle.format.specs.declared.refused.Refusal.{Refusal}
+use Rattle.format.specs.declared.refused.Refusal.TheVariants.{NoRoom, NotShaped}
 use Rattle.rules.specs.Chronicle.{Nation}
 use Rattle.rules.specs.NationRows.{nation_width, entry_width}
 use Rattle.nation_listing.specs.declared.listing.Listed.{Listed}
-use Rattle.nation_listing.specs.declared.placing.Placed as Placed
 use Rattle.nation_listing.specs.Listing.{listed_of, NationsWritten}
 
 -- Slices of these lengths have room for so many nations and entries.
@@ -17,14 +19,19 @@ pub record PlacedRows (ns : List Nation) (r : Listed) (rows₀ rows₁ entries�
   pub room : nations_for (listed_of ns) (length rows₀) (length entries₀) ≡ true
   pub put : NationsWritten ns rows₀ rows₁ entries₀ entries₁
 
--- A slice is too short, and none is written.
-pub record PlacedShort (ns : List Nation) (rows₀ rows₁ entries₀ entries₁ : List ℕ) : Type 0 where
-  pub short : nations_for (listed_of ns) (length rows₀) (length entries₀) ≡ false
+-- Why none is written: the tables cannot be read, or they can and a slice is too short for what they tell. There is no other cause.
+abbrev pub refused_for : Refusal → Bool → List Nation → List ℕ → List ℕ → Type 0
+refused_for NotShaped readable _ _ _ = readable ≡ false
+refused_for NoRoom readable ns rows₀ entries₀ = (readable ≡ true) × (nations_for (listed_of ns) (length rows₀) (length entries₀) ≡ false)
+refused_for _ _ _ _ _ = ⊥
+
+-- None is written, and both slices are as they were.
+pub record NonePlaced (readable : Bool) (ns : List Nation) (e : Refusal) (rows₀ rows₁ entries₀ entries₁ : List ℕ) : Type 0 where
+  pub cause : refused_for e readable ns rows₀ entries₀
   pub rows : rows₁ ≡ rows₀
   pub entries : entries₁ ≡ entries₀
 
--- Which of these it was; tables that cannot be read leave all as it was.
-abbrev pub placed_told : Bool → List Nation → Placed.Placed → List ℕ → List ℕ → List ℕ → List ℕ → Type 0
-placed_told readable ns (Placed.TheVariants.Rows r) rows₀ rows₁ entries₀ entries₁ = (readable ≡ true) × PlacedRows ns r rows₀ rows₁ entries₀ entries₁
-placed_told readable ns Placed.TheVariants.Short rows₀ rows₁ entries₀ entries₁ = (readable ≡ true) × PlacedShort ns rows₀ rows₁ entries₀ entries₁
-placed_told readable ns Placed.TheVariants.Unread rows₀ rows₁ entries₀ entries₁ = (readable ≡ false) × (rows₁ ≡ rows₀) × (entries₁ ≡ entries₀)
+-- Which of these it was.
+abbrev pub placed_told : Bool → List Nation → code.Result Listed Refusal → List ℕ → List ℕ → List ℕ → List ℕ → Type 0
+placed_told readable ns (Ok r) rows₀ rows₁ entries₀ entries₁ = (readable ≡ true) × PlacedRows ns r rows₀ rows₁ entries₀ entries₁
+placed_told readable ns (Err e) rows₀ rows₁ entries₀ entries₁ = NonePlaced readable ns e rows₀ rows₁ entries₀ entries₁

@@ -1,6 +1,7 @@
 -- Whether tables can be read, as a test: no call of 01 is promised by it, and no table of a record fails it.
 use Rattle.std.specs.Prelude.{Bool, true, ◌&&◌, List, [], ◌∷◌, ℕ, suc, ◌/◌, ◌%◌, min, leb, ltb, eqb, length}
 use Rattle.lists.specs.Lists.{all_of}
+use Rattle.nation_listing.specs.declared.tables.NationTables.{NationTables}
 use Rattle.nation_tables.specs.Layout.{key_rows, key_numbers, row_key_span, half, no_change}
 use Rattle.nation_tables.specs.Lookup.{row_in}
 
@@ -39,3 +40,6 @@ readable_by words initials runs firsts started keys turns =
 -- Tables can be read.
 abbrev pub is_readable : List ℕ → List ℕ → List ℕ → List ℕ → List ℕ → List ℕ → List ℕ → Bool
 is_readable words initials runs firsts started keys turns = readable_by (length words) initials runs (length firsts) started (length keys) turns
+
+abbrev pub readable_of : NationTables → Bool
+readable_of t = is_readable t.tag_words.now t.initial_keys.now t.runs.now t.firsts.now t.started.now t.keys.now t.turns.now

@@ -6,6 +6,8 @@ mod listing;
 mod lives;
 mod placing;
 mod reading;
+mod tables;
 
 pub use listing::Listed;
-pub use placing::{Placed, place_nations};
+pub use placing::place_nations;
+pub use tables::NationTables;

@@ -1,23 +1,14 @@
 // The rows of the listed nations and of their entries, written once there is room for every one of them.
 ghost use Rattle.std.specs.Prelude.{◌≡◌, ◌<◌};
 ghost use Rattle.nation_tables.specs.Layout.{word_span};
-ghost use Rattle.nation_tables.specs.Gathering.{cells_from};
-ghost use Rattle.nation_listing.specs.Listing.{nations_at};
-ghost use Rattle.nation_listing.specs.Reading.{is_readable};
+ghost use Rattle.nation_listing.specs.Listing.{cells_of, nations_at};
+ghost use Rattle.nation_listing.specs.Reading.{readable_of};
 ghost use Rattle.nation_listing.specs.Placing.{nations_for, placed_told};
 
 use crate::listing::Listed;
-use crate::{listing, reading};
+use crate::tables::NationTables;
 use chronicle_rows::{ENTRY_WIDTH, NATION_WIDTH};
-use record::Eu4Date;
-
-// The nations and entries that are written, or that a slice is too short for them, or that the tables cannot be read.
-#[derive(Clone, Copy)]
-pub enum Placed {
-    Rows(Listed),
-    Short,
-    Unread,
-}
+use record::Refusal;
 
 // Whether slices of these lengths have room for so many nations and entries.
 fn nations_fit(listed: Listed, nations: usize, entries: usize) -> bool
@@ -27,44 +18,22 @@ fn nations_fit(listed: Listed, nations: usize, entries: usize) -> bool
     (NATION_WIDTH * listed.nations <= nations) & (ENTRY_WIDTH * listed.entries <= entries)
 }
 
-// Writes the rows of the nations that the tables tell, and of their entries, if both slices have room. Tables that cannot be read leave both as they
-// were.
+// Writes the rows of the nations that the tables tell, and of their entries. Tables that cannot be read are refused by `NotShaped`, either slice
+// that is too short by `NoRoom`; then both slices are left as they were.
 pub fn place_nations(
-    tag_words: &[u32],
-    initial_keys: &[u64],
-    runs: &[u64],
-    targets: &[u64],
-    firsts: &[u32],
-    started: &[u32],
-    keys: &[u64],
-    turns: &[u32],
-    start: Eu4Date,
+    tables: &NationTables,
     nations: &mut [u32],
     entries: &mut [u32],
-) -> Placed
-    ensures { placed_told (is_readable tag_words.now initial_keys.now runs.now firsts.now started.now keys.now turns.now) (nations_at (cells_from tag_words.now initial_keys.now runs.now targets.now firsts.now started.now keys.now turns.now start) initial_keys.now) result nations.old nations.new entries.old entries.new }
+) -> Result<Listed, Refusal>
+    ensures { placed_told (readable_of tables.now) (nations_at (cells_of tables.now) tables.now.initial_keys.now) result nations.old nations.new entries.old entries.new }
 {
-    let words = tag_words.len();
-    let heads = firsts.len();
-    if !reading::is_readable(words, initial_keys, runs, heads, started, keys.len(), turns) {
-        return Placed::Unread;
+    if !tables.is_readable() {
+        return Err(Refusal::NotShaped);
     }
-    let listed = listing::count_nations(initial_keys, runs, firsts, started, keys, turns, start);
+    let listed = tables.count_nations();
     if !nations_fit(listed, nations.len(), entries.len()) {
-        return Placed::Short;
+        return Err(Refusal::NoRoom);
     }
-    listing::write_nations(
-        tag_words,
-        initial_keys,
-        runs,
-        targets,
-        firsts,
-        started,
-        keys,
-        turns,
-        start,
-        nations,
-        entries,
-    );
-    Placed::Rows(listed)
+    tables.write_nations(nations, entries);
+    Ok(listed)
 }

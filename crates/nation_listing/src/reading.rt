@@ -3,12 +3,13 @@
 ghost use Rattle.std.specs.Prelude.{◌≡◌, ◌≤◌, length};
 ghost use Rattle.lists.specs.Lists.{all_of};
 ghost use Rattle.nation_tables.specs.Layout.{no_change};
-ghost use Rattle.nation_listing.specs.Reading.{counts_fit, leads_inside, few_slots, keys_rise, links_rise, readable_by};
+ghost use Rattle.nation_listing.specs.Reading.{counts_fit, leads_inside, few_slots, keys_rise, links_rise, readable_of};
 
-use lists::least;
+use crate::tables::NationTables;
 use nation_tables::{HALF, KEY_NUMBERS, KEY_ROWS, NO_CHANGE, ROW_KEY_SPAN};
 
-// Whether so many initials, switches and changes are few enough, with a link for each change.
+// Whether so many initials, switches and changes are few enough, with a link for each change. A change's number is below NO_CHANGE, which ends
+// chains in their cells.
 fn counts_fit(initials: usize, runs: usize, keys: usize, turns: usize) -> bool
     ensures { result ≡ counts_fit initials runs keys turns }
 {
@@ -24,11 +25,8 @@ fn lead_inside(keys: &[u64], rows: usize) -> bool
 {
     let most = rows as u64;
     let mut good = true;
-    let mut i = 0;
-    while i < keys.len() {
-        let key = keys[i];
-        good = good & ((key % KEY_ROWS < most) & (key < ROW_KEY_SPAN));
-        i += 1;
+    for key in keys {
+        good = good & ((*key % KEY_ROWS < most) & (*key < ROW_KEY_SPAN));
     }
     good
 }
@@ -38,10 +36,8 @@ fn few_slots(started: &[u32]) -> bool
     ensures { result ≡ all_of few_slots started.now }
 {
     let mut good = true;
-    let mut i = 0;
-    while i < started.len() {
-        good = good & (started[i] <= HALF);
-        i += 1;
+    for slots in started {
+        good = good & (*slots <= HALF);
     }
     good
 }
@@ -52,12 +48,9 @@ fn keys_rise(keys: &[u64]) -> bool
 {
     let mut good = true;
     let mut last = 0;
-    let mut i = 0;
-    while i < keys.len() {
-        let key = keys[i];
-        good = good & (last <= key);
-        last = key;
-        i += 1;
+    for key in keys {
+        good = good & (last <= *key);
+        last = *key;
     }
     good
 }
@@ -68,35 +61,36 @@ fn links_rise(turns: &[u32]) -> bool
     ensures { result ≡ links_rise 0 turns.now }
 {
     let mut good = true;
-    let mut k = 0;
-    while k < turns.len() {
-        let link = turns[k];
+    for (k, link) in turns.iter().enumerate() {
         let here = k as u32;
-        good = good & ((here < link / HALF) & (here < link % HALF));
-        k += 1;
+        good = good & ((here < *link / HALF) & (here < *link % HALF));
     }
     good
 }
 
-// Whether tables can be read; of three of them it takes the length alone.
-pub(crate) fn is_readable(
-    words: usize,
-    initial_keys: &[u64],
-    runs: &[u64],
-    firsts: usize,
-    started: &[u32],
-    keys: usize,
-    turns: &[u32],
-) -> bool
-    ensures { result ≡ readable_by words initial_keys.now runs.now firsts started.now keys turns.now }
-{
-    if !counts_fit(initial_keys.len(), runs.len(), keys, turns.len()) {
-        return false;
+impl NationTables<'_> {
+    // Whether the tables can be read.
+    pub(crate) fn is_readable(&self) -> bool
+        ensures { result ≡ readable_of self.now }
+    {
+        let NationTables {
+            initial_keys,
+            runs,
+            started,
+            turns,
+            ..
+        } = *self;
+        if !counts_fit(initial_keys.len(), runs.len(), self.keys.len(), turns.len()) {
+            return false;
+        }
+        let rows = self
+            .tag_words
+            .len()
+            .min(self.firsts.len().min(started.len()));
+        lead_inside(initial_keys, rows)
+            & few_slots(started)
+            & keys_rise(initial_keys)
+            & keys_rise(runs)
+            & links_rise(turns)
     }
-    let rows = least(words, least(firsts, started.len()));
-    lead_inside(initial_keys, rows)
-        & few_slots(started)
-        & keys_rise(initial_keys)
-        & keys_rise(runs)
-        & links_rise(turns)
 }

@@ -1,22 +1,24 @@
 -- The tables gathered one after the other: conditions and answers of the steps, and what all tables together say of a campaign. No promise of
 -- a call of 01 cites these: they are how the nations are computed.
-use Rattle.std.specs.Prelude.{◌≡◌, Bool, false, ◌&&◌, List, ℕ, suc, ◌≤◌, ◌<◌, leb, length, take}
+use Rattle.std.specs.Prelude as code
+use Rattle.std.specs.Prelude.{IfOk, ◌≡◌, Bool, false, ◌&&◌, List, ℕ, suc, ◌≤◌, ◌<◌, leb, length, take}
 use Rattle.lists.specs.Lists.{twice}
 use Rattle.sorting.specs.Sort.{sort_by}
 use Rattle.format.specs.declared.date.Eu4Date.{Eu4Date}
 use Rattle.format.specs.Sound.{Sound}
 use Rattle.format.specs.Refusal.{refusal}
 use Rattle.format.specs.Campaign.{Campaign, Country, campaign_of}
-use Rattle.record.specs.declared.cursors.Provinces.{Provinces}
+use Rattle.record.specs.declared.provinces.Provinces.{Provinces}
+use Rattle.format.specs.declared.refused.Refusal.{Refusal}
+use Rattle.format.specs.Refused.{number_of}
+use Rattle.record.specs.declared.opened.Record.{Record}
 use Rattle.record.specs.Cursors.{countries_left}
 use Rattle.rules.specs.Changes.{changes_of}
 use Rattle.rules.specs.Nations.{holders_of}
 use Rattle.change_keys.specs.ChangeSteps.{entered, most_changes, change_keys_from, AtFirstProvince}
-use Rattle.nation_tables.specs.declared.gathering.Origin.{Origin}
-use Rattle.nation_tables.specs.declared.gathering.Beginning as Beginning
 use Rattle.nation_tables.specs.declared.gathering.Sizes.{Sizes}
 use Rattle.nation_tables.specs.declared.gathering.TableSizes.{TableSizes}
-use Rattle.nation_tables.specs.declared.gathering.TablesGathered as TablesGathered
+use Rattle.nation_tables.specs.declared.gathering.TablesGathered.{TablesGathered}
 use Rattle.nation_tables.specs.Layout.{most_countries, most_switches, most_settling, most_slots, rows_within}
 use Rattle.nation_tables.specs.Countries.{words_of_tags, initial_words, row_keys, switch_keys_from, settling_keys_from, settling_keys, Keyed}
 use Rattle.nation_tables.specs.Turning.{high_halves, low_halves, Linked, TurnsLinked, Rowed, row_turns_of}
@@ -116,15 +118,11 @@ pub record CampaignCells (c : Campaign) (w : Cells) : Type 0 where
 
 -- ## All of it
 
--- An accepted record with its start date, and cursors at its first country and its first province.
-pub record Begun (xs : List ℕ) (from : Origin) : Type 0 where
+-- An accepted record with its start date, and iterators at its first country and its first province.
+pub record Begun (xs : List ℕ) (from : Record) : Type 0 where
   pub ready : AtFirstProvince xs from.provinces
-  pub countries : countries_left xs from.countries ≡ (campaign_of xs).countries
+  pub countries : countries_left from.countries ≡ (campaign_of xs).countries
   pub start : from.start ≡ (campaign_of xs).start
-
-abbrev pub beginning_told : List ℕ → Beginning.Beginning → Type 0
-beginning_told xs (Beginning.TheVariants.At from) = Begun xs from
-beginning_told xs (Beginning.TheVariants.Refused n) = (0 < n) × (n ≡ refusal xs)
 
 -- Room for the tables of any record of so many bytes.
 pub record TableRoom (bytes : ℕ) (words₀ initials₀ switches₀ keys₀ cells₀ slots₀ started₀ turns₀ firsts₀ : List ℕ) : Type 0 where
@@ -138,7 +136,12 @@ pub record TableRoom (bytes : ℕ) (words₀ initials₀ switches₀ keys₀ cel
   pub turns : rows_within most_changes bytes ≤ length turns₀
   pub firsts : most_countries ≤ length firsts₀
 
--- The same by lengths.
+-- An accepted record, and room for its tables.
+pub record FillAsked (xs : List ℕ) (from : Record) (words₀ initials₀ switches₀ keys₀ cells₀ slots₀ started₀ turns₀ firsts₀ : List ℕ) : Type 0 where
+  pub begun : Begun xs from
+  pub room : TableRoom (length xs) words₀ initials₀ switches₀ keys₀ cells₀ slots₀ started₀ turns₀ firsts₀
+
+-- The room by lengths.
 abbrev pub room_of : ℕ → ℕ → ℕ → ℕ → ℕ → ℕ → ℕ → ℕ → ℕ → ℕ → Bool
 room_of bytes words initials switches keys cells slots started turns firsts =
     leb most_countries words
@@ -164,7 +167,6 @@ pub record Gathered (xs : List ℕ) (z : TableSizes) (provinces₀ : Provinces) 
   pub slots : take z.slots slots₁ ≡ slot_cells (campaign_of xs) (holders_of (campaign_of xs))
 
 -- What is gathered of any bytes: the tables, or the number by which they are refused.
-abbrev pub gathered_told : List ℕ → TablesGathered.TablesGathered → List ℕ → List ℕ → List ℕ → List ℕ → List ℕ → List ℕ → List ℕ → List ℕ → List ℕ → Type 0
-gathered_told xs (TablesGathered.TheVariants.Tables z p) words initials runs keys targets slots started turns firsts =
-    Gathered xs z p words initials runs keys targets slots started turns firsts
-gathered_told xs (TablesGathered.TheVariants.Refused n) words initials runs keys targets slots started turns firsts = (0 < n) × (n ≡ refusal xs)
+pub record RightlyGathered (xs : List ℕ) (r : code.Result TablesGathered Refusal) (words₁ initials₁ runs₁ keys₁ targets₁ slots₁ started₁ turns₁ firsts₁ : List ℕ) : Type 0 where
+  pub number : number_of r ≡ refusal xs
+  pub tables : IfOk r (λ t. Gathered xs t.sizes t.provinces words₁ initials₁ runs₁ keys₁ targets₁ slots₁ started₁ turns₁ firsts₁)

@@ -1,17 +1,18 @@
 -- Who holds each slot, change by change, by rows. No call of 01 is promised by these: they are how the nations are computed.
-use Rattle.std.specs.Prelude.{◌≡◌, false, List, [], ◌∷◌, map, ℕ, suc, ◌+◌, ◌*◌, ◌/◌, ◌%◌, ◌≤◌, leb, eqb, length, get_or, set, take}
+use Rattle.std.specs.Prelude.{◌≡◌, false, List, [], ◌∷◌, map, ℕ, suc, ◌+◌, ◌*◌, ◌/◌, ◌%◌, ◌≤◌, ◌<◌, leb, eqb, length, get_or, set, take}
 use Rattle.std.proofs.Math.Option.{Option, none, some}
 use Rattle.lists.specs.Lists.{count_of, numbers_from, twice}
 use Rattle.sorting.specs.Sort.{sort_by}
 use Rattle.format.specs.declared.tag.CountryTag.{CountryTag}
 use Rattle.format.specs.declared.date.Eu4Date.{Eu4Date}
 use Rattle.format.specs.Campaign.{Campaign, Country, campaign_of}
+use Rattle.record.specs.declared.provinces.Provinces.{Provinces}
 use Rattle.rules.specs.Chronicle.{Change}
 use Rattle.rules.specs.Lent.{written}
 use Rattle.rules.specs.Changes.{changes_of}
 use Rattle.rules.specs.Nations.{matches, start_holders, all_switches, settles, holders_of}
-use Rattle.change_keys.specs.ChangeSteps.{entered, per_id, change_keys_from}
-use Rattle.nation_tables.specs.Layout.{most_slots, word_span, half, cell_rows, nobody_cell}
+use Rattle.change_keys.specs.ChangeSteps.{entered, per_id, change_keys_from, AtFirstProvince}
+use Rattle.nation_tables.specs.Layout.{most_slots, word_span, half, key_dates, key_tags, cell_rows, nobody_cell}
 use Rattle.nation_tables.specs.Countries.{words_of_tags, initial_words, row_keys, settling_keys, Keyed, OwnLast}
 use Rattle.nation_tables.specs.Turning.{high_halves, low_halves, key_date, row_among, RowTurn, row_turns_of, Rowed}
 
@@ -97,6 +98,26 @@ pub record Passed (keys cells slots₀ slots₁ turns₁ : List ℕ) : Type 0 wh
 
 -- ## All of it
 
+-- A change whose date and tag have room in the keys of switches.
+pub record Small (x : Change) : Type 0 where
+  pub date : x.date.0 < key_dates
+  pub to : x.to.0 < key_tags
+
+-- What is asked for the start: an accepted record at its first province, its tables, a cell for each slot and one for each country.
+pub record StartAsked (xs : List ℕ) (provinces : Provinces) (ws is slots₀ started₀ : List ℕ) : Type 0 where
+  pub ready : AtFirstProvince xs provinces
+  pub words : ws ≡ words_of_tags (campaign_of xs).countries
+  pub initials : is ≡ row_keys (initial_words (campaign_of xs).countries)
+  pub slots : length slots₀ ≡ suc (length (campaign_of xs).provinces)
+  pub started : length started₀ ≡ length (campaign_of xs).countries
+
+-- For the changes: its tables, and room for every change.
+pub record StepsAsked (xs : List ℕ) (provinces : Provinces) (ws ss keys₀ cells₀ : List ℕ) : Type 0 where
+  pub ready : AtFirstProvince xs provinces
+  pub settler : Settler (campaign_of xs).countries ws ss
+  pub keys : length (entered xs) ≤ length keys₀
+  pub cells : length (entered xs) ≤ length cells₀
+
 -- Room for every change, a cell for each slot, and one for each country.
 pub record HoldingRoom (xs keys₀ cells₀ slots₀ started₀ turns₀ : List ℕ) : Type 0 where
   pub keys : length (entered xs) ≤ length keys₀
@@ -104,6 +125,12 @@ pub record HoldingRoom (xs keys₀ cells₀ slots₀ started₀ turns₀ : List 
   pub turns : length (entered xs) ≤ length turns₀
   pub slots : length slots₀ ≡ suc (length (campaign_of xs).provinces)
   pub started : length started₀ ≡ length (campaign_of xs).countries
+
+-- For all of it: an accepted record at its first province, its tables, and room.
+pub record HoldingAsked (xs : List ℕ) (provinces : Provinces) (ws is ss keys₀ cells₀ slots₀ started₀ turns₀ : List ℕ) : Type 0 where
+  pub ready : AtFirstProvince xs provinces
+  pub tables : Tables (campaign_of xs).countries ws is ss
+  pub room : HoldingRoom xs keys₀ cells₀ slots₀ started₀ turns₀
 
 -- The slots that each country holds at the start.
 abbrev pub started_of : Campaign → List ℕ

@@ -1,8 +1,7 @@
 -- Keys of country rows and how they are looked up. No call of 01 is promised by these: they are how the nations are computed.
 -- A key ends with the row of a country.
-use Rattle.std.specs.Prelude.{◌≡◌, Bool, ◌&&◌, List, map, ℕ, ◌≤◌, leb, ltb, length, take}
+use Rattle.std.specs.Prelude.{Bool, ◌&&◌, List, map, ℕ, leb, ltb}
 use Rattle.lists.specs.Lists.{keep, first_or, last_or}
-use Rattle.sorting.specs.Sort.{sort_by}
 pub use Rattle.nation_tables.specs.Keys.{row_in}
 pub use Rattle.nation_tables.specs.Layout.{no_row}
 
@@ -20,8 +19,3 @@ first_within low high keys = first_or no_row (rows_between low high keys)
 
 unfoldable pub last_within : ℕ → ℕ → List ℕ → ℕ
 last_within low high keys = last_or no_row (rows_between low high keys)
-
--- The first n keys are there, and in order.
-pub record FirstSorted (n : ℕ) (keys : List ℕ) : Type 0 where
-  pub inside : n ≤ length keys
-  pub sorted : sort_by leb (take n keys) ≡ take n keys

@@ -5,7 +5,6 @@ use Rattle.format.specs.declared.tag.CountryTag.{CountryTag}
 use Rattle.format.specs.declared.rows.ProvinceId.{ProvinceId}
 use Rattle.format.specs.Tags.{NONE}
 use Rattle.format.specs.Campaign.{Campaign, Province}
-use Rattle.rules.specs.Lent.{written}
 use Rattle.format.specs.Rows.{same_id}
 use Rattle.rules.specs.Nations.{start_holders}
 use Rattle.nation_tables.specs.Layout.{key_rows}
@@ -29,8 +28,8 @@ pub record Slotted (slots : ℕ) (ps : List Province) : Type 0 where
   pub ids : all_of (λ p. ltb p.id.0 slots) ps ≡ true
   pub once : twice (map (λ p. p.id.0) ps) ≡ false
 
--- The slots' rows in front of a slice; with the keys of a campaign's initials these are its start holders.
-pub record Started (keys : List ℕ) (ps : List Province) (slots : ℕ) (before after : List ℕ) : Type 0 where
-  pub cells : after ≡ written (slot_rows keys ps slots) before
+-- The slots' rows; with the keys of a campaign's initials these are its start holders.
+pub record Started (keys : List ℕ) (ps : List Province) (slots : ℕ) (rows : List ℕ) : Type 0 where
+  pub cells : rows ≡ slot_rows keys ps slots
   pub holders : (c : Campaign) → c.provinces ≡ ps → slots ≡ suc (length ps) → length c.countries ≤ key_rows
       → keys ≡ row_keys (initial_words c.countries) → map (tag_at_row c.countries) (slot_rows keys ps slots) ≡ start_holders c

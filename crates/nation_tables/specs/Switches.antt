@@ -5,8 +5,6 @@ use Rattle.sorting.specs.Sort.{sort_by}
 use Rattle.format.specs.declared.tag.CountryTag.{CountryTag}
 use Rattle.format.specs.declared.rows.Switch.{Switch}
 use Rattle.format.specs.Campaign.{Country}
-use Rattle.nation_tables.specs.declared.switches.SwitchOrder.{SwitchOrder}
-use Rattle.nation_tables.specs.declared.switches.SwitchOrder.TheVariants.{ByFrom, ByRow}
 use Rattle.rules.specs.Chronicle.{switch, Entry}
 use Rattle.rules.specs.Nations.{last_target, switch_chain}
 use Rattle.rules.specs.NationRows.{target_word}
@@ -37,19 +35,23 @@ all_placed row k (x ∷ xs) = own_placed row k x.switches ++ all_placed (suc row
 
 -- ## Keys
 
--- The key of a switch: by the tag that was left, or by the row of its country.
-abbrev pub key_by : SwitchOrder → PlacedSwitch → ℕ
-key_by ByFrom x = settling_key x.made.from.0 x.made.date.0 x.row
-key_by ByRow x = run_key x.row x.made.date.0 x.number
+-- The key of a switch, by the tag that was left, and what is asked of it, beside its row, so that its key has room.
+abbrev pub from_key : PlacedSwitch → ℕ
+from_key x = settling_key x.made.from.0 x.made.date.0 x.row
 
--- What is asked of a switch, beside its row, so that its key has room.
-abbrev pub KeyFits : SwitchOrder → PlacedSwitch → Type 0
-KeyFits ByFrom x = x.made.from.0 < key_tags
-KeyFits ByRow x = x.number < key_numbers
+abbrev pub FromFits : PlacedSwitch → Type 0
+FromFits x = x.made.from.0 < key_tags
+
+-- The same, by the row of its country.
+abbrev pub place_key : PlacedSwitch → ℕ
+place_key x = run_key x.row x.made.date.0 x.number
+
+abbrev pub NumberFits : PlacedSwitch → Type 0
+NumberFits x = x.number < key_numbers
 
 -- The keys of all switches by row, country by country, rows and switches counted from numbers on.
 unfoldable pub runs_from : ℕ → ℕ → List Country → List ℕ
-runs_from row k ks = map (key_by ByRow) (all_placed row k ks)
+runs_from row k ks = map place_key (all_placed row k ks)
 
 -- The keys of all switches, in order.
 abbrev pub run_keys : List Country → List ℕ

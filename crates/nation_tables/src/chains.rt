@@ -6,7 +6,9 @@ ghost use Rattle.nation_tables.specs.Turning.{high_halves, low_halves, Fresh, Tu
 
 use crate::layout::{HALF, NO_CHANGE};
 
-// Puts change k before the losses of a row, and returns the one that was first there.
+// Puts change k before the losses of a row, and returns the one that was first there. Of `get_mut` a proof knows no cell afterwards: so the
+// row is tested, here and below. Both answer NO_CHANGE where there is no row: their answer is written into a link. One function for both halves
+// would be given the unit of its half, and its sums would no longer say which half stays.
 fn push_loss(firsts: &mut [u32], row: usize, k: u32) -> u32
     requires { k < half }
     ensures { LossPushed firsts.old row k result firsts.new }
@@ -39,9 +41,7 @@ pub(crate) fn link(turns: &mut [u32], firsts: &mut [u32])
     requires fresh { Fresh (high_halves firsts.old) × Fresh (low_halves firsts.old) }
     ensures { TurnsLinked turns.old turns.new firsts.new }
 {
-    let mut k = turns.len();
-    while 0 < k {
-        k -= 1;
+    for k in (0..turns.len()).rev() {
         let turn = turns[k];
         let loss = push_loss(firsts, (turn / HALF) as usize, k as u32);
         let gain = push_gain(firsts, (turn % HALF) as usize, k as u32);

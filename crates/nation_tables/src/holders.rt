@@ -1,188 +1,135 @@
 // Who holds each slot, change by change, by the rows of countries.
-ghost use Rattle.std.specs.Prelude.{◌≡◌, map, suc, ◌+◌, ◌*◌, ◌≤◌, length, get_or, take};
-ghost use Rattle.format.specs.Campaign.{campaign_of};
-ghost use Rattle.change_keys.specs.ChangeSteps.{entered, AtFirstProvince};
-ghost use Rattle.nation_tables.specs.Layout.{half, cell_rows};
-ghost use Rattle.nation_tables.specs.Countries.{words_of_tags, initial_words, row_keys};
+ghost use Rattle.std.specs.Prelude.{◌≡◌, List, ℕ, map, ◌+◌, ◌*◌, ◌≤◌, leb, length, get_or, unwrap_or};
+ghost use Rattle.lists.specs.Lists.{All};
+ghost use Rattle.sorting.specs.Sort.{sort_by};
+ghost use Rattle.format.specs.Campaign.{Country, campaign_of};
+ghost use Rattle.change_keys.specs.ChangeSteps.{changes_left};
+ghost use Rattle.nation_tables.specs.Layout.{half, cell_rows, nobody_cell};
 ghost use Rattle.nation_tables.specs.Turning.{low_halves};
-ghost use Rattle.nation_tables.specs.Holders.{Settler, Tables, row_cell, slot_counts, holder_cell};
-ghost use Rattle.nation_tables.specs.Holders.{Replaced, Passed, Began, Stepped, HoldingRoom, Held, cell_word, SlotsRoom, SlotsPut};
+ghost use Rattle.nation_tables.specs.Holders.{Settler, Small, StartAsked, StepsAsked, HoldingAsked, row_cell, slot_counts, holder_cell};
+ghost use Rattle.nation_tables.specs.Holders.{Replaced, Passed, Began, Stepped, Held, cell_word, SlotsRoom, SlotsPut};
 ghost use Rattle.rules.specs.Lent.{written};
 
-use crate::layout::{CELL_ROWS, MOST_SLOTS, NOBODY, WORD_SPAN};
+use crate::layout::{CELL_ROWS, MOST_SLOTS, NO_ROW, NOBODY, WORD_SPAN};
 use crate::settling::STARTS;
-use crate::{settling, starting};
-use change_keys::{NextChange, PER_ID};
+use crate::{lookup, settling, starting};
+use change_keys::{Changes, PER_ID};
 use record::{CountryTag, ProvinceId, Provinces};
 use spreading::spread_sort;
+use std::mem;
 
 // The word of the tag of a row's country, or of the given tag where there is none.
 fn word_of(tags: &[u32], row: u16, other: CountryTag) -> u32
     ensures { result ≡ get_or tags.now row other.0 }
 {
-    let i = row as usize;
-    if i < tags.len() {
-        tags[i]
-    } else {
-        other.word()
-    }
+    tags.get(usize::from(row))
+        .copied()
+        .unwrap_or(u32::from(other))
 }
 
 // The cell of a holder: that of a row's country, or with the given tag where there is none.
 fn cell_of(tags: &[u32], row: u16, other: CountryTag) -> u64
     ensures { result ≡ get_or tags.now row other.0 * cell_rows + row }
 {
-    word_of(tags, row, other) as u64 * CELL_ROWS + row as u64
+    u64::from(word_of(tags, row, other)) * CELL_ROWS + u64::from(row)
 }
 
-// Turns the row of each slot's holder into the holder's cell.
+// Turns the row of each slot's holder into the holder's cell. Where there is no row, there is no tag, which `kept` takes untested.
 fn start_cells(tags: &[u32], slots: &mut [u64])
     ensures { slots.new ≡ map (row_cell tags.now) (low_halves slots.old) }
 {
-    let mut i = 0;
-    while i < slots.len() {
-        slots[i] = cell_of(tags, (slots[i] % CELL_ROWS) as u16, CountryTag::kept(0));
-        i += 1;
+    for slot in slots.iter_mut() {
+        *slot = cell_of(tags, (*slot % CELL_ROWS) as u16, CountryTag::kept(0));
     }
 }
 
-// Sets every cell to x.
-pub(crate) fn set_all(cells: &mut [u32], x: u32)
-    ensures { cells.new ≡ map (λ _. x) cells.old }
-{
-    let mut i = 0;
-    while i < cells.len() {
-        cells[i] = x;
-        i += 1;
-    }
-}
-
-// Writes how many slots each country row has, by the cells of the slots. A number that is no row's counts nowhere.
+// Writes how many slots each country row has, by the cells of the slots. A number that is no row's counts nowhere. Of `get_mut` a proof knows
+// no cell afterwards: so the row is tested, and below the slot.
 fn count_slots(slots: &[u64], counts: &mut [u32])
     requires { length slots.now ≤ half }
     ensures { counts.new ≡ slot_counts (low_halves slots.now) (length counts.old) }
 {
-    set_all(counts, 0);
-    let mut i = 0;
-    while i < slots.len() {
-        let row = (slots[i] % CELL_ROWS) as usize;
+    counts.fill(0);
+    for slot in slots {
+        let row = (*slot % CELL_ROWS) as usize;
         if row < counts.len() {
             counts[row] += 1;
         }
-        i += 1;
     }
 }
 
-// Writes a cell for each change in entry order: the word of the tag that it settles to, and below it the row of that country.
+// Writes a cell for each change in entry order: the word of the tag that it settles to, and below it the row of that country. By index, as the
+// changes are walked.
 fn fill_holders(
-    s: &[u8],
-    provinces: Provinces,
+    changes: Changes,
     tag_words: &[u32],
     settling_keys: &[u64],
     starts: &[u16],
     cells: &mut [u64],
 )
-    requires at_first_province { AtFirstProvince s.now provinces }
-    requires s_len { length (entered s.now) ≡ length cells.old }
-    requires settler { Settler (campaign_of s.now).countries tag_words.now settling_keys.now }
-    ensures { cells.new ≡ map (holder_cell (campaign_of s.now).countries) (entered s.now) }
+    requires small { All Small (changes_left changes) }
+    requires changes_len { length (changes_left changes) ≡ length cells.old }
+    requires sorted { sort_by leb settling_keys.now ≡ settling_keys.now }
+    ensures { (ks : List Country) → Settler ks tag_words.now settling_keys.now → cells.new ≡ map (holder_cell ks) (changes_left changes.entry) }
 {
-    let mut at = provinces.next(s);
     let mut n = 0;
-    loop {
-        match change_keys::next_change(s, at) {
-            NextChange::Row(x, rest) => {
-                let to = x.to;
-                let row = settling::holder_row(settling_keys, starts, to, x.date);
-                cells[n] = cell_of(tag_words, row, to);
-                n += 1;
-                at = rest;
-            }
-            NextChange::End => {
-                return;
-            }
-        }
+    for x in changes {
+        let row = settling::holder_row(settling_keys, starts, x.to, x.date);
+        cells[n] = cell_of(tag_words, row.unwrap_or(NO_ROW), x.to);
+        n += 1;
     }
 }
 
-// Writes the cell of each of n changes.
-fn settle_changes(
-    s: &[u8],
-    provinces: Provinces,
-    tag_words: &[u32],
-    settling_keys: &[u64],
-    cells: &mut [u64],
-    n: usize,
-)
-    requires at_first_province { AtFirstProvince s.now provinces }
-    requires n_value { (n ≡ length (entered s.now)) × (n ≤ length cells.old) }
-    requires settler { Settler (campaign_of s.now).countries tag_words.now settling_keys.now }
-    ensures { take n cells.new ≡ map (holder_cell (campaign_of s.now).countries) (entered s.now) }
+// Writes the cell of each change, as many as there are cells.
+fn settle_changes(changes: Changes, tag_words: &[u32], settling_keys: &[u64], cells: &mut [u64])
+    requires small { All Small (changes_left changes) }
+    requires changes_len { length (changes_left changes) ≡ length cells.old }
+    requires sorted { sort_by leb settling_keys.now ≡ settling_keys.now }
+    ensures { (ks : List Country) → Settler ks tag_words.now settling_keys.now → cells.new ≡ map (holder_cell ks) (changes_left changes.entry) }
 {
     let mut starts = [0u16; STARTS];
-    settling::note_starts(settling_keys, n, &mut starts);
-    fill_holders(
-        s,
-        provinces,
-        tag_words,
-        settling_keys,
-        &starts,
-        &mut cells[0..n],
-    );
+    settling::note_starts(settling_keys, cells.len(), &mut starts);
+    fill_holders(changes, tag_words, settling_keys, &starts, cells);
 }
 
-// Puts a cell into a slot, and returns the one that was there: nobody's, where there is no such slot.
-fn replace(slots: &mut [u64], id: ProvinceId, cell: u64) -> u64
-    ensures { Replaced slots.old id.0 cell result slots.new }
+// Puts a cell into a slot, and returns the one that was there, if there is such a slot.
+fn replace(slots: &mut [u64], id: ProvinceId, cell: u64) -> Option<u64>
+    ensures { Replaced slots.old id.0 cell (unwrap_or result nobody_cell) slots.new }
 {
-    let slot = id.word() as usize;
+    let slot = u32::from(id) as usize;
     if slots.len() <= slot {
-        return NOBODY;
+        return None;
     }
-    let old = slots[slot];
-    slots[slot] = cell;
-    old
+    Some(mem::replace(&mut slots[slot], cell))
 }
 
 // Goes through the sorted changes: notes the row of the slot's holder before each change and after it, and keeps the cell of each slot.
+// Of keys and turns one is reached by index whichever is walked. An id out of a key is not tested again.
 fn pass(keys: &[u64], cells: &[u64], slots: &mut [u64], turns: &mut [u32])
     requires { length turns.old ≡ length keys.now }
     ensures { Passed keys.now cells.now slots.old slots.new turns.new }
 {
-    let mut k = 0;
-    while k < keys.len() {
-        let key = keys[k];
+    for (k, key) in keys.iter().enumerate() {
+        let key = *key;
         let id = ProvinceId::kept((key / PER_ID % PER_ID) as u32);
-        let cell = change_keys::cell(cells, (key % PER_ID) as usize);
-        let old = replace(slots, id, cell);
+        let cell = lookup::cell_at(cells, (key % PER_ID) as usize);
+        let old = replace(slots, id, cell).unwrap_or(NOBODY);
         turns[k] = (old % CELL_ROWS * CELL_ROWS + cell % CELL_ROWS) as u32;
-        k += 1;
     }
 }
 
 // Writes the cell of each slot's holder at the start, and how many slots each country holds then.
 fn start_slots(
-    s: &[u8],
     provinces: Provinces,
     tag_words: &[u32],
     initial_keys: &[u64],
     slots: &mut [u64],
     started: &mut [u32],
 )
-    requires at_first_province { AtFirstProvince s.now provinces }
-    requires tag_words_value { tag_words.now ≡ words_of_tags (campaign_of s.now).countries }
-    requires initial_keys_value { initial_keys.now ≡ row_keys (initial_words (campaign_of s.now).countries) }
-    requires slots_len { (length slots.old ≡ suc (length (campaign_of s.now).provinces)) × (length started.old ≡ length (campaign_of s.now).countries) }
-    ensures { Began (campaign_of s.now) slots.new started.new }
+    requires { (xs : List ℕ) × StartAsked xs provinces tag_words.now initial_keys.now slots.old started.old }
+    ensures { (xs : List ℕ) → StartAsked xs provinces.entry tag_words.now initial_keys.now slots.old started.old → Began (campaign_of xs) slots.new started.new }
 {
-    starting::start_rows(
-        s,
-        provinces,
-        initial_keys,
-        initial_keys.len(),
-        slots,
-        slots.len(),
-    );
+    starting::start_rows(provinces, initial_keys, slots);
     start_cells(tag_words, slots);
     count_slots(slots, started);
 }
@@ -190,28 +137,26 @@ fn start_slots(
 // Writes the sorted keys of all changes, and the cell of each change at its number. Returns how many there are. Until then the cells serve
 // the sort as scratch.
 fn sort_steps(
-    s: &[u8],
     provinces: Provinces,
     tag_words: &[u32],
     settling_keys: &[u64],
     keys: &mut [u64],
     cells: &mut [u64],
 ) -> usize
-    requires at_first_province { AtFirstProvince s.now provinces }
-    requires settler { Settler (campaign_of s.now).countries tag_words.now settling_keys.now }
-    requires s_in_bounds { (length (entered s.now) ≤ length keys.old) × (length (entered s.now) ≤ length cells.old) }
-    ensures { Stepped s.now result keys.new cells.new }
+    requires { (xs : List ℕ) × StepsAsked xs provinces tag_words.now settling_keys.now keys.old cells.old }
+    ensures { (xs : List ℕ) → StepsAsked xs provinces.entry tag_words.now settling_keys.now keys.old cells.old → Stepped xs result keys.new cells.new }
 {
-    let n = change_keys::fill_keys(s, provinces, keys);
+    let changes = Changes::of(provinces);
+    let n = change_keys::fill_keys(changes, keys);
     spread_sort(&mut keys[0..n], cells);
-    settle_changes(s, provinces, tag_words, settling_keys, cells, n);
+    settle_changes(changes, tag_words, settling_keys, &mut cells[0..n]);
     n
 }
 
 // From the start holders through all changes: their sorted keys, the row of the old and of the new holder of each, the cell of each slot
-// in the end, and how many slots each country holds at the start. Returns how many changes there are.
+// in the end, and how many slots each country holds at the start. Returns how many changes there are. The slices are lent one by one, for each
+// step takes others of them.
 pub(crate) fn hold_slots(
-    s: &[u8],
     provinces: Provinces,
     tag_words: &[u32],
     initial_keys: &[u64],
@@ -222,26 +167,22 @@ pub(crate) fn hold_slots(
     started: &mut [u32],
     turns: &mut [u32],
 ) -> usize
-    requires at_first_province { AtFirstProvince s.now provinces }
-    requires tables { Tables (campaign_of s.now).countries tag_words.now initial_keys.now settling_keys.now }
-    requires holding_room { HoldingRoom s.now keys.old cells.old slots.old started.old turns.old }
-    ensures { Held s.now result keys.new slots.new started.new turns.new }
+    requires { (xs : List ℕ) × HoldingAsked xs provinces tag_words.now initial_keys.now settling_keys.now keys.old cells.old slots.old started.old turns.old }
+    ensures { (xs : List ℕ) → HoldingAsked xs provinces.entry tag_words.now initial_keys.now settling_keys.now keys.old cells.old slots.old started.old turns.old → Held xs result keys.new slots.new started.new turns.new }
 {
-    start_slots(s, provinces, tag_words, initial_keys, slots, started);
-    let n = sort_steps(s, provinces, tag_words, settling_keys, keys, cells);
+    start_slots(provinces, tag_words, initial_keys, slots, started);
+    let n = sort_steps(provinces, tag_words, settling_keys, keys, cells);
     pass(&keys[0..n], &cells[0..n], slots, &mut turns[0..n]);
     n
 }
 
-// Writes the word of each slot's holder, 0 for nobody, into the front of a slice.
+// Writes the word of each slot's holder, 0 for nobody, into the front of a slice: by index, since a proof knows no cell that is written through a `zip` with `iter_mut`.
 fn put_holders(slots: &[u64], out: &mut [u32])
     requires { length slots.now ≤ length out.old }
     ensures { out.new ≡ written (map cell_word slots.now) out.old }
 {
-    let mut i = 0;
-    while i < slots.len() {
-        out[i] = (slots[i] / CELL_ROWS % WORD_SPAN) as u32;
-        i += 1;
+    for (i, slot) in slots.iter().enumerate() {
+        out[i] = (*slot / CELL_ROWS % WORD_SPAN) as u32;
     }
 }
 

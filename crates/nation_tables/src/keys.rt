@@ -11,7 +11,7 @@ pub(crate) fn row_key(tag: CountryTag, row: u64) -> u64
     requires { row < key_rows }
     ensures { result ≡ row_key tag.0 row }
 {
-    tag.word() as u64 * KEY_ROWS + row
+    u64::from(u32::from(tag)) * KEY_ROWS + row
 }
 
 // The row in a key that ends with one.
@@ -27,7 +27,7 @@ pub(crate) fn settling_key(from: CountryTag, date: Eu4Date, row: u64) -> u64
     requires { (from.0 < key_tags) × (row < key_rows) }
     ensures { result ≡ settling_key from.0 date.0 row }
 {
-    (from.word() as u64 * KEY_DATES + date.word() as u64) * KEY_ROWS + row
+    (u64::from(u32::from(from)) * KEY_DATES + u64::from(u32::from(date))) * KEY_ROWS + row
 }
 
 // The key of a switch by the row of its country. A country's switches stand together, by date, ties in the order of the record.
@@ -35,5 +35,5 @@ pub(crate) fn run_key(row: u64, date: Eu4Date, number: usize) -> u64
     requires { (row < key_rows) × (number < key_numbers) }
     ensures { result ≡ run_key row date.0 number }
 {
-    (row * KEY_DATES + date.word() as u64) * KEY_NUMBERS + number as u64
+    (row * KEY_DATES + u64::from(u32::from(date))) * KEY_NUMBERS + number as u64
 }

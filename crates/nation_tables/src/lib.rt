@@ -18,4 +18,4 @@ pub use layout::{
     HALF, KEY_DATES, KEY_NUMBERS, KEY_ROWS, MOST_COUNTRIES, MOST_SETTLING, MOST_SLOTS, NO_CHANGE,
     ROW_KEY_SPAN, ROW_SPAN, WORD_SPAN,
 };
-pub use lookup::last_within;
+pub use lookup::{cell_at, last_within};

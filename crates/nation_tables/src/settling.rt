@@ -1,7 +1,7 @@
 // Whom a change settles to, by the rows of countries.
-ghost use Rattle.std.specs.Prelude.{◌≡◌, ◌<◌, leb};
+ghost use Rattle.std.specs.Prelude.{◌≡◌, ◌<◌, leb, unwrap_or};
 ghost use Rattle.sorting.specs.Sort.{sort_by};
-ghost use Rattle.nation_tables.specs.Layout.{half, key_tags};
+ghost use Rattle.nation_tables.specs.Layout.{half, key_tags, no_row};
 ghost use Rattle.nation_tables.specs.Settling.{RowHolds};
 
 use crate::layout::TAG_SPAN;
@@ -11,7 +11,7 @@ use record::{CountryTag, Eu4Date};
 // Tags of one cell of the table begin with the same two bytes; the first byte tells one of so many cells.
 const SECOND_BYTES: u64 = 78;
 
-// How many cells of 16 bits such a table has: one for each cell of tags, and one behind the last.
+// How many cells of 16 bits such a table has: one for each cell of tags, and two behind the last.
 pub(crate) const STARTS: usize = 6086;
 
 // From so many changes on it takes less time to make the hints than to search without them.
@@ -29,29 +29,19 @@ fn start_cell(word: u64) -> usize
 
 // Notes behind each cell where the keys of its tags end. Of what the table holds nothing is promised: it is hints.
 fn note_ends(keys: &[u64], starts: &mut [u16]) {
-    let mut i = 0;
-    while i < keys.len() {
-        let next = start_cell(keys[i] / TAG_SPAN) + 1;
-        i += 1;
-        if next < starts.len() {
-            starts[next] = (i % 65536) as u16;
+    for (i, key) in keys.iter().enumerate() {
+        if let Some(start) = starts.get_mut(start_cell(*key / TAG_SPAN) + 1) {
+            *start = ((i + 1) % 65536) as u16;
         }
     }
-}
-
-// The larger of two numbers.
-fn larger(a: u16, b: u16) -> u16 {
-    if a < b { b } else { a }
 }
 
 // Has a cell without keys begin where the cell before it ends.
 fn raise_starts(starts: &mut [u16]) {
     let mut most = 0;
-    let mut i = 0;
-    while i < starts.len() {
-        most = larger(most, starts[i]);
-        starts[i] = most;
-        i += 1;
+    for start in starts.iter_mut() {
+        most = most.max(*start);
+        *start = most;
     }
 }
 
@@ -66,26 +56,22 @@ pub(crate) fn note_starts(keys: &[u64], changes: usize, starts: &mut [u16]) {
 
 // The hint in a cell, 0 where there is no such cell.
 fn hint(starts: &[u16], cell: usize) -> usize {
-    if starts.len() <= cell {
-        return 0;
-    }
-    starts[cell] as usize
+    usize::from(starts.get(cell).copied().unwrap_or(0))
 }
 
-// The row of the country that a change settles to, or NO_ROW where it settles to a tag that is no country's: by the keys of switches and
+// The row of the country that a change settles to, or none where it settles to a tag that is no country's: by the keys of switches and
 // countries, and hints where those of a cell of tags begin.
-pub(crate) fn holder_row(keys: &[u64], starts: &[u16], to: CountryTag, date: Eu4Date) -> u16
+pub(crate) fn holder_row(keys: &[u64], starts: &[u16], to: CountryTag, date: Eu4Date) -> Option<u16>
     requires { (sort_by leb keys.now ≡ keys.now) × (to.0 < key_tags) }
-    ensures { RowHolds keys.now to date result }
+    ensures { RowHolds keys.now to date (unwrap_or result no_row) }
 {
     let low = keys::settling_key(to, date, 0);
-    let word = to.word() as u64;
+    let word = u64::from(u32::from(to));
     let cell = start_cell(word);
     lookup::first_within(
         keys,
         low,
         (word + 1) * TAG_SPAN,
-        hint(starts, cell),
-        hint(starts, cell + 1),
+        hint(starts, cell)..hint(starts, cell + 1),
     )
 }

@@ -1,8 +1,11 @@
 -- The steps of `nation_events` one after the other. Conditions and answers of inner steps; no public promise cites them.
-use Rattle.std.specs.Prelude.{◌≡◌, Bool, true, ◌&&◌, List, ℕ, suc, ◌*◌, ◌≤◌, leb, length, take}
+use Rattle.std.specs.Prelude as code
+use Rattle.std.specs.Prelude.{Ok, Err, ◌≡◌, Bool, true, ◌&&◌, List, ℕ, suc, ◌*◌, ◌≤◌, leb, length, take}
 use Rattle.sorting.specs.Sort.{sort_by}
+use Rattle.format.specs.declared.refused.Refusal.{Refusal}
+use Rattle.format.specs.Refused.{refusal_number}
 use Rattle.format.specs.Campaign.{campaign_of}
-use Rattle.record.specs.declared.cursors.Provinces.{Provinces}
+use Rattle.record.specs.declared.provinces.Provinces.{Provinces}
 use Rattle.rules.specs.Lent.{written, refused}
 use Rattle.rules.specs.Changes.{change_width, changes_of, change_rows}
 use Rattle.rules.specs.Nations.{nations_of, holders_of}
@@ -14,21 +17,13 @@ use Rattle.nation_tables.specs.Holders.{slot_cells, SlotsPut}
 use Rattle.nation_tables.specs.Gathering.{fronts_of}
 use Rattle.nation_listing.specs.declared.listing.Listed.{Listed}
 use Rattle.chronicle_rows.specs.declared.counts.NationCounts.{NationCounts}
-use Rattle.nation_listing.specs.declared.placing.Placed as Placed
-use Rattle.nations.specs.declared.telling.NationsTold as NationsTold
+use Rattle.nations.specs.declared.telling.NationsTold.{NationsTold}
 use Rattle.nations.specs.Cases.{nation_cells}
 use Rattle.nation_listing.specs.Listing.{nations_at}
 use Rattle.nation_listing.specs.Reading.{is_readable}
 use Rattle.nation_listing.specs.Placing.{PlacedRows, placed_told}
 
 -- ## Cells for the tables
-
--- A record of no more bytes is small, and has at most so many changes, and keys that changes settle by.
-abbrev pub small_record : ℕ
-small_record = 16384
-
-abbrev pub few_rows : ℕ
-few_rows = 2341
 
 -- Room for the tables of changes and switches of any record of so many bytes.
 pub record RowsRoom (bytes : ℕ) (runs₀ keys₀ cells₀ turns₀ : List ℕ) : Type 0 where
@@ -62,7 +57,7 @@ fronts_readable z words initials runs firsts started keys turns =
     (take z.changes keys) (take z.changes turns)
 
 -- The nations that they tell, placed.
-abbrev pub fronts_placed : TableSizes → List ℕ → List ℕ → List ℕ → List ℕ → List ℕ → List ℕ → List ℕ → List ℕ → Placed.Placed → List ℕ → List ℕ → List ℕ → List ℕ → Type 0
+abbrev pub fronts_placed : TableSizes → List ℕ → List ℕ → List ℕ → List ℕ → List ℕ → List ℕ → List ℕ → List ℕ → code.Result Listed Refusal → List ℕ → List ℕ → List ℕ → List ℕ → Type 0
 fronts_placed z words initials runs targets firsts started keys turns r rows₀ rows₁ entries₀ entries₁ =
     placed_told (fronts_readable z words initials runs firsts started keys turns)
     (nations_at (fronts_of z words initials runs targets firsts started keys turns) (take z.countries initials)) r rows₀ rows₁ entries₀ entries₁
@@ -104,14 +99,9 @@ pub record RefusedBy (xs : List ℕ) (holders held changes n : ℕ) (rows₀ row
       → record { answer = refused n; memory = nation_cells rows₁ entries₁ holders₀ held₀ changes₀ }
       ≡ call_nation_events xs (nation_cells rows₀ entries₀ holders₀ held₀ changes₀)
 
--- What is told by what was placed; tables that cannot be read, which no record has, are told as too short a slice.
-abbrev pub placing_told : TableSizes → Provinces → Placed.Placed → NationsTold.NationsTold
-placing_told z p (Placed.TheVariants.Rows r) = NationsTold.TheVariants.Rows z p r
-placing_told z p Placed.TheVariants.Short = NationsTold.TheVariants.Refused 10
-placing_told z p Placed.TheVariants.Unread = NationsTold.TheVariants.Refused 10
-
-abbrev pub nations_told : List ℕ → ℕ → ℕ → ℕ → NationsTold.NationsTold → List ℕ → List ℕ → List ℕ → List ℕ → List ℕ → List ℕ → List ℕ → Type 0
-nations_told xs holders held changes (NationsTold.TheVariants.Rows z p r) slots keys cells rows₀ rows₁ entries₀ entries₁ =
-    NationsPlaced xs holders held changes z p r slots keys cells rows₀ rows₁ entries₀ entries₁
-nations_told xs holders held changes (NationsTold.TheVariants.Refused n) slots keys cells rows₀ rows₁ entries₀ entries₁ =
-    RefusedBy xs holders held changes n rows₀ rows₁ entries₀ entries₁
+-- What is told: the nations placed, or by what number the call refuses.
+abbrev pub nations_told : List ℕ → ℕ → ℕ → ℕ → code.Result NationsTold Refusal → List ℕ → List ℕ → List ℕ → List ℕ → List ℕ → List ℕ → List ℕ → Type 0
+nations_told xs holders held changes (Ok t) slots keys cells rows₀ rows₁ entries₀ entries₁ =
+    NationsPlaced xs holders held changes t.sizes t.provinces t.listed slots keys cells rows₀ rows₁ entries₀ entries₁
+nations_told xs holders held changes (Err e) slots keys cells rows₀ rows₁ entries₀ entries₁ =
+    RefusedBy xs holders held changes (refusal_number e) rows₀ rows₁ entries₀ entries₁

@@ -6,4 +6,4 @@ mod telling;
 mod writing;
 
 pub use chronicle_rows::NationCounts;
-pub use nations::{NationEvents, nation_events};
+pub use nations::nation_events;

@@ -1,5 +1,5 @@
 // The rest of the answer, written once there is room for all: who holds each slot, how many slots each country holds, and the changes.
-ghost use Rattle.std.specs.Prelude.{◌≡◌, ◌*◌, ◌≤◌, ◌<◌, length, take};
+ghost use Rattle.std.specs.Prelude.{◌≡◌, List, ℕ, ◌*◌, ◌≤◌, ◌<◌, length, take};
 ghost use Rattle.rules.specs.Changes.{change_width};
 ghost use Rattle.nation_tables.specs.Layout.{word_span};
 ghost use Rattle.nation_tables.specs.Holders.{SlotsRoom};
@@ -17,9 +17,9 @@ pub(crate) fn rest_fits(sizes: TableSizes, holders: usize, held: usize, changes:
     (sizes.slots <= holders) & (sizes.countries <= held) & (CHANGE_WIDTH * sizes.changes <= changes)
 }
 
-// Writes the holder of each slot, the slots held by each country, and the changes. The cells serve for the tags of the changes.
+// Writes the holder of each slot, the slots held by each country, and the changes. The cells serve for the tags of the changes. The
+// three slices of the caller and the three tables are lent one by one: two calls share them out.
 pub(crate) fn write_rest(
-    s: &[u8],
     provinces: Provinces,
     sizes: TableSizes,
     slots: &[u64],
@@ -29,12 +29,12 @@ pub(crate) fn write_rest(
     held: &mut [u32],
     changes: &mut [u32],
 )
-    requires rest_ready { RestReady s.now provinces sizes slots.now keys.now cells.old }
+    requires rest_ready { (xs : List ℕ) × RestReady xs provinces sizes slots.now keys.now cells.old }
     requires slots_room { SlotsRoom (take sizes.slots slots.now) sizes.countries holders.old held.old × (change_width * sizes.changes ≤ length changes.old) }
-    ensures { RestWritten s.now sizes slots.now holders.old holders.new held.old held.new changes.old changes.new }
+    ensures { (xs : List ℕ) → RestReady xs provinces.entry sizes slots.now keys.now cells.old → RestWritten xs sizes slots.now holders.old holders.new held.old held.new changes.old changes.new }
 {
     let p = sizes.slots;
     let n = sizes.changes;
     nation_tables::write_slots(&slots[0..p], sizes.countries, holders, held);
-    change_rows::write_sorted(s, provinces, &keys[0..n], &mut cells[0..n], changes);
+    change_rows::write_sorted(provinces, &keys[0..n], &mut cells[0..n], changes);
 }

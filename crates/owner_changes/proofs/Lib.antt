@@ -1,3 +1,3 @@
-pub mod OutcomeLaws
 pub mod CountLaws
+pub mod OutcomeLaws
 pub mod OwnerRowLaws

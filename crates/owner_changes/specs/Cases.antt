@@ -1,20 +1,22 @@
--- 01, Expected form: an answer that is an enum. For each of its cases 01's number and values, as an answer of Outcomes.
+-- 01, Expected form: what the code answers, as an answer of Outcomes.
+use Rattle.std.specs.Prelude as code
 use Rattle.std.specs.Prelude.{List, ℕ}
-use Rattle.owner_changes.specs.declared.answers.Owners as Owners
-use Rattle.owner_changes.specs.declared.answers.EventsOn as EventsOn
-use Rattle.rules.specs.Lent.{Answer, refused, gives, Outcome}
+use Rattle.format.specs.declared.refused.Refusal.{Refusal}
+use Rattle.owner_changes.specs.declared.answers.DateRun as code_run
+use Rattle.rules.specs.Lent.{Answer, answer_of, Outcome, outcome_of}
 use Rattle.rules.specs.Changes.{DateRun}
 
 -- `province_owners`: the number of changes.
-abbrev pub owners_answer : Owners.Owners → Answer ℕ
-owners_answer (Owners.TheVariants.Rows n) = gives n
-owners_answer (Owners.TheVariants.Refused n) = refused n
+abbrev pub owners_answer : code.Result ℕ Refusal → Answer ℕ
+owners_answer r = answer_of (λ n. n) r
 
 -- Its answer with the lent slice after the call.
-abbrev pub owners_outcome : Owners.Owners → List ℕ → Outcome ℕ (List ℕ)
-owners_outcome r after = record { answer = owners_answer r; memory = after }
+abbrev pub owners_outcome : code.Result ℕ Refusal → List ℕ → Outcome ℕ (List ℕ)
+owners_outcome r after = outcome_of (λ n. n) r after
 
 -- `events_on`: where the run begins, and its length.
-abbrev pub events_on_answer : EventsOn.EventsOn → Answer DateRun
-events_on_answer (EventsOn.TheVariants.Run first count) = gives (record { first = first; count = count })
-events_on_answer (EventsOn.TheVariants.Refused n) = refused n
+abbrev pub run_of : code_run.DateRun → DateRun
+run_of run = record { first = run.first; count = run.count }
+
+abbrev pub events_on_answer : code.Result code_run.DateRun Refusal → Answer DateRun
+events_on_answer r = answer_of run_of r

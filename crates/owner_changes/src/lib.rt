@@ -3,5 +3,5 @@
 
 mod answers;
 
-pub use answers::{EventsOn, Owners, events_on, province_owners};
+pub use answers::{DateRun, events_on, province_owners};
 pub use change_rows::write_sorted;

@@ -1,63 +1,76 @@
--- An outcome as the host gets it: the signed number, and the words of a run or of counts in a lent slice.
-use mathlib.Core.Path.{◌≡◌, refl, ap, ◌∙◌}
+-- An outcome as the host gets it: the signed number, and the words of counts in a lent slice.
+use mathlib.Core.Path.{◌≡◌, refl, ap, subst, ◌∙◌}
 use mathlib.Core.Bool.{Bool, true, false}
 use mathlib.Core.List.{List, [], ◌∷◌}
-use Prim.Native.Nat.{ℕ, zero, suc, ◌≤◌, ◌<◌}
+use Prim.Native.Nat.{ℕ, zero, suc, ◌%◌, ◌≤◌, ◌<◌, min}
 use native.Mathlib.Omega.{arith}
 use borrow.Author.Tests.{le-leb, lt-leb}
-use lib.IntN.{ℤ}
+use lib.IntN.{ℤ, pos}
+use lib.Signed.{mag}
 use lib.ListN.{length}
+use mir.Syntax.{w64}
+use mir.Val.{to_z, of_z}
+use mir.Facts.{to_z-of_z}
+use Rattle.std.specs.Prelude as code
+use Rattle.std.specs.Prelude.{Ok, Err}
+use Rattle.format.specs.declared.refused.Refusal.{Refusal}
 use Rattle.format.specs.Campaign.{campaign_of}
 use Rattle.format.specs.Refusal.{refusal, first_of}
-use Rattle.format.proofs.FirstLaws.{first-stop, first-pass, first_one}
 use Rattle.chronicle_rows.specs.declared.counts.NationCounts.{NationCounts}
-use Rattle.rules.specs.Lent.{refused, gives, written, fits, room_number, Outcome, outcome}
-use Rattle.rules.specs.Changes.{DateRun}
-use Rattle.rules.specs.Outcomes.{call_events_on, answers_of, NationCells, cells_of, all_fit, all_written, Counts, counts_of, call_nation_events}
+use Rattle.rules.specs.Lent.{Answer, refused, gives, answer_of, written, fits, room_number, Outcome, outcome, outcome_of}
+use Rattle.rules.specs.Outcomes.{answers_of, NationCells, cells_of, all_fit, all_written, Counts, counts_of, call_nation_events}
 use Rattle.chronicle_rows.specs.Cases.{counts_in}
-use Rattle.nations.proofs.answer.NationOutcomeLaws.{nations-given}
-use Rattle.host_answers.specs.Host.{returned, Returns, word_cells, run_words, in_cells, call_events_on_cells, count_words, NationSlices, nation_slices, with_counts, call_nation_events_cells}
-use Rattle.host_answers.specs.Inner.{FewCounts}
+use Rattle.nations.proofs.answer.NationOutcomeLaws.{SmallCounts, nations-given}
+use Rattle.host_answers.specs.Host.{returned, most_returned, Returns, word_cells, count_words, NationSlices, nation_slices, with_counts, call_nation_events_cells}
+use Rattle.host_answers.specs.Inner.{low_counts}
 
 -- ## The number
 
 pub returns_of : {M : Type 0} {o p : Outcome ℕ M} {r : ℤ} → p ≡ o → r ≡ returned p.answer → Returns o r p.memory
 returns_of e q = record { answer = q ∙ ap (λ x. returned x.answer) e; cells = ap (λ x. x.memory) e }
 
+-- A count is held at the largest number that can be told, which changes none that is not above it.
+held : (r : code.Result ℕ Refusal) → ((n : ℕ) → gives n ≡ answer_of (λ k. k) r → n ≤ most_returned)
+    → returned (answer_of (λ n. min n most_returned) r) ≡ returned (answer_of (λ n. n) r)
+held (Ok n) few = ap pos (omega (arith, few n refl))
+held (Err e) few = refl
+
+-- What `returned` gives of a call's answer.
+module _ (r : code.Result ℕ Refusal) (i : ℤ) (fits : mag i < 9223372036854775808) (e : i ≡ returned (answer_of (λ n. min n most_returned) r)) where
+  pub number-returned : (a : Answer ℕ) → answer_of (λ n. n) r ≡ a → ((n : ℕ) → gives n ≡ a → n ≤ most_returned) → to_z w64 (of_z w64 i) ≡ returned a
+  number-returned a told few = to_z-of_z {w = w64} (record { sfits = fits }) ∙ e ∙ held r (λ n g. few n (g ∙ told)) ∙ ap returned told
+
+  pub outcome-returned : {M : Type 0} (after : M) (o : Outcome ℕ M) → outcome_of (λ n. n) r after ≡ o → ((n : ℕ) → gives n ≡ o.answer → n ≤ most_returned)
+      → Returns o (to_z w64 (of_z w64 i)) after
+  outcome-returned after o told few =
+      record { answer = number-returned o.answer (ap (λ x. x.answer) told) few; cells = ap (λ x. x.memory) told }
+
 -- A number is given only where the answer has room.
 pub room-true : (b : Bool) → room_number b ≡ 0 → b ≡ true
 room-true true h = refl
 room-true false h = absurd (omega arith)
 
--- ## The run
-
-module _ (xs : List ℕ) (date : ℕ) (before : List ℕ) where
-  pub cells-refused : (n : ℕ) → refused n ≡ call_events_on xs date → record { answer = refused n; memory = before } ≡ call_events_on_cells xs date before
-  unfolding call_events_on_cells
-  cells-refused n e = ap (λ a. in_cells a before) e
-
-  -- What was written of a run is the call's.
-  pub cells-run : (run : DateRun) (r : ℤ) (after : List ℕ) → gives run ≡ call_events_on xs date → Returns (word_cells (run_words run) before) r after
-      → Returns (call_events_on_cells xs date before) r after
-  unfolding call_events_on_cells
-  cells-run run r after e x = rw (← e) x
-
 -- ## The counts of nations
 
 module _ (values : Counts) (after : NationCells) (before : NationSlices) (room : fits (count_words values) before.counts ≡ false) where
-  ten : first_of (0 ∷ 10 ∷ []) ≡ 10
-  ten = first-pass 0 (10 ∷ []) refl ∙ first_one 10
-
   -- Without room for the counts the record's number refuses, else 10, whether the other slices have room or not.
   short-counts : (number : ℕ) (fit : Bool) → (n : ℕ) → n ≡ first_of (number ∷ 10 ∷ [])
       → let called = outcome (first_of (number ∷ room_number fit ∷ [])) values after before.cells in
       record { answer = refused n; memory = before } ≡ with_counts called.answer called.memory before
-  short-counts zero true n e =
-      let passed : first_of (0 ∷ 0 ∷ []) ≡ 0 = first-pass 0 (0 ∷ []) refl ∙ first_one 0 in
-      rw (e ∙ ten, passed) (simp room)
-  short-counts zero false n e = rw (e ∙ ten, ten) refl
-  short-counts (suc m) fit n e =
-      rw (e ∙ first-stop (suc m) (10 ∷ []) (λ z. omega arith), first-stop (suc m) (room_number fit ∷ []) (λ z. omega arith)) refl
+  unfolding first_of
+  short-counts zero true n e = rw e (simp room)
+  short-counts zero false n e = rw e
+  short-counts (suc m) fit n e = rw e
+
+-- Counts so small are told by their lowest 32 bits.
+low-same : (r : NationCounts) → SmallCounts (counts_in r) → low_counts r ≡ count_words (counts_in r)
+low-same r small =
+    let a : r.nations % 4294967296 ≡ r.nations = omega (arith, small.nations) in
+    let b : r.entries % 4294967296 ≡ r.entries = omega (arith, small.entries) in
+    let c : r.slots % 4294967296 ≡ r.slots = omega (arith, small.slots) in
+    let d : r.countries % 4294967296 ≡ r.countries = omega (arith, small.countries) in
+    let f : r.changes % 4294967296 ≡ r.changes = omega (arith, small.changes) in
+    rw (a, b, c, d, f)
 
 module _ (xs : List ℕ) (before : NationSlices) where
   pub slices-short : (n : ℕ) → length before.counts < 5 → n ≡ first_of (refusal xs ∷ 10 ∷ [])
@@ -68,14 +81,8 @@ module _ (xs : List ℕ) (before : NationSlices) where
       short-counts (counts_of answers) (all_written (cells_of answers) before.cells) before (lt-leb 5 (length before.counts) h) (refusal xs)
       (all_fit (cells_of answers) before.cells) n e
 
-  -- What the call refuses is refused.
-  pub slices-refused : (n : ℕ) (after : NationCells) → record { answer = refused n; memory = after } ≡ call_nation_events xs before.cells
-      → record { answer = refused n; memory = nation_slices after before.counts } ≡ call_nation_events_cells xs before
-  unfolding call_nation_events_cells
-  slices-refused n after e = ap (λ (o : Outcome Counts NationCells). with_counts o.answer o.memory before) e
-
   -- What it gives is written, where the counts have room.
-  pub slices-given : 5 ≤ length before.counts → (r : Counts) (after : NationCells)
+  slices-given : 5 ≤ length before.counts → (r : Counts) (after : NationCells)
       → record { answer = gives r; memory = after } ≡ call_nation_events xs before.cells
       → record { answer = gives 5; memory = nation_slices after (written (count_words r) before.counts) } ≡ call_nation_events_cells xs before
   unfolding call_nation_events_cells
@@ -83,14 +90,12 @@ module _ (xs : List ℕ) (before : NationSlices) where
       let room : fits (count_words r) before.counts ≡ true = le-leb 5 (length before.counts) h in
       (simp room) ∙ ap (λ (o : Outcome Counts NationCells). with_counts o.answer o.memory before) e
 
--- What is counted has room in a word.
-pub counts-narrow : (xs : List ℕ) (before : NationCells) (r : NationCounts) → gives (counts_in r) ≡ (call_nation_events xs before).answer
-    → FewCounts r
-counts-narrow xs before r e =
-    let q = nations-given xs before (counts_in r) e in
-    let a = q.nations in
-    let b = q.entries in
-    let c = q.slots in
-    let d = q.countries in
-    let f = q.changes in
-    record { nations = omega arith; entries = omega arith; slots = omega arith; countries = omega arith; changes = omega arith }
+  -- So the counts that were put are the call's.
+  pub slices-put : 5 ≤ length before.counts → (r : NationCounts) (after : NationCells)
+      → record { answer = gives (counts_in r); memory = after } ≡ call_nation_events xs before.cells
+      → (i : ℤ) (counts : List ℕ) → Returns (word_cells (low_counts r) before.counts) i counts → Returns (call_nation_events_cells xs before) i (nation_slices after counts)
+  slices-put h r after e i counts put =
+      let same = low-same r (nations-given xs before.cells (counts_in r) (ap (λ (o : Outcome Counts NationCells). o.answer) e)) in
+      let room : fits (count_words (counts_in r)) before.counts ≡ true = le-leb 5 (length before.counts) h in
+      let told = rw room at (subst (λ (ws : List ℕ). Returns (word_cells ws before.counts) i counts) same put) in
+      rw told.cells (returns_of (slices-given h (counts_in r) after e) told.answer)

@@ -1,26 +1,25 @@
 -- Answers of the ledger as the host gets them. A slice that has room for rows of three words has more words than rows, so the number of
 -- rows has room in a signed word.
-use mathlib.Core.Path.{◌≡◌, sym, ap, ◌∙◌}
+use mathlib.Core.Path.{◌≡◌}
 use mathlib.Core.Bool.{◌&&◌}
 use mathlib.Core.List.{List, [], ◌∷◌}
 use Prim.Native.Nat.{ℕ, ◌*◌, ◌≤◌, min}
 use native.Mathlib.Omega.{arith}
 use borrow.Author.Tests.{leb-true}
-use lib.IntN.{ℤ}
 use lib.ListN.{length, get_elem?}
 use Rattle.lists.specs.Lists.{join_of}
 use Rattle.lists.proofs.BoolLaws.{and_left}
 use Rattle.format.specs.Campaign.{campaign_of}
 use Rattle.format.specs.Refusal.{refusal, first_of}
 use Rattle.format.proofs.FirstLaws.{all-zero}
-use Rattle.rules.specs.Lent.{Answer, gives, fits, room_number}
+use Rattle.rules.specs.Lent.{gives, fits, room_number}
 use Rattle.rules.specs.NationRows.{nations_in}
 use Rattle.rules.specs.Ledger.{nation_ledger, point_rows}
 use Rattle.rules.specs.Refusals.{chronicle_number, asked_nation_number}
 use Rattle.rules.specs.Outcomes.{asked_points, LedgerCells, ledger_cells_of, call_nation_ledger, call_nation_ledger_rows, call_nation_ledgers}
 use Rattle.rules.proofs.LentLaws.{answered-given}
 use Rattle.span_points.proofs.FillsLaws.{rows-length}
-use Rattle.host_answers.specs.Host.{returned, most_returned}
+use Rattle.host_answers.specs.Host.{most_returned}
 use Rattle.page.proofs.HostLaws.{room-true}
 
 pub ledger-given : (xs ws es : List ℕ) (number : ℕ) (before : List ℕ) (n : ℕ) → gives n ≡ (call_nation_ledger xs ws es number before).answer
@@ -49,17 +48,12 @@ ledgers-given xs ws es before n e =
     let fit = and_left room (fits cells.counts before.counts) (room-true both all.1.1.0) in
     omega (arith, g.1, rows-length points, leb-true (length cells.rows) (length before.rows) fit)
 
--- Rows are counted up to the largest number that can be given.
-module _ (xs ws es : List ℕ) (number most limit : ℕ) (l : limit ≡ min most most_returned) (a : Answer ℕ)
-    (e : a ≡ call_nation_ledger_rows xs ws es number limit) where
-  pub rows-given : (n : ℕ) → a ≡ gives n → n ≤ most_returned
-  unfolding call_nation_ledger_rows
-  rows-given n q =
-      let nation = get_elem? (nations_in ws es) number in
-      let g =
-      answered-given (first_of (refusal xs ∷ chronicle_number ws es ∷ asked_nation_number nation ∷ []))
-      (min (length (asked_points (campaign_of xs) nation)) limit) n (sym q ∙ e) in
-      omega (arith, g.1, l)
-
-  pub rows-returned : (r : ℤ) → r ≡ returned a → r ≡ returned (call_nation_ledger_rows xs ws es number (min most most_returned))
-  rows-returned r q = q ∙ ap returned e ∙ ap (λ k. returned (call_nation_ledger_rows xs ws es number k)) l
+-- Rows are counted up to the largest number that can be told.
+pub rows-given : (xs ws es : List ℕ) (number most n : ℕ) → gives n ≡ call_nation_ledger_rows xs ws es number (min most most_returned) → n ≤ most_returned
+unfolding call_nation_ledger_rows
+rows-given xs ws es number most n e =
+    let nation = get_elem? (nations_in ws es) number in
+    let g =
+    answered-given (first_of (refusal xs ∷ chronicle_number ws es ∷ asked_nation_number nation ∷ []))
+    (min (length (asked_points (campaign_of xs) nation)) (min most most_returned)) n e in
+    omega (arith, g.1)

@@ -1,4 +1,3 @@
 pub mod HostLaws
 pub mod LedgersLaws
 pub mod PlayingLaws
-pub mod ResolvingLaws

@@ -2,16 +2,12 @@
 ghost use Rattle.rules.specs.Outcomes.{call_war_participants};
 ghost use Rattle.host_answers.specs.Host.{Returns};
 
-use chronicle::Bookings;
-use host_answers::minus;
+use host_answers::returned;
 
 // Writes the bookings, three words each: a war's number, the tag that joins it, and its stored tag by the lent nation words and entry
 // words. Gives the number of rows, or minus the refusal number.
 pub fn war_participants(s: &[u8], nations: &[u32], entries: &[u32], out: &mut [u32]) -> i64
     ensures { Returns (call_war_participants s.now nations.now entries.now out.old) result out.new }
 {
-    match chronicle::war_participants(s, nations, entries, out) {
-        Bookings::Rows(n) => n as i64,
-        Bookings::Refused(number) => minus(number),
-    }
+    returned(chronicle::war_participants(s, nations, entries, out))
 }

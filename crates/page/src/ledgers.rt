@@ -4,8 +4,7 @@ ghost use Rattle.rules.specs.Outcomes.{call_nation_ledger, call_nation_ledger_ro
 ghost use Rattle.ledger.specs.Cases.{ledger_cells};
 ghost use Rattle.host_answers.specs.Host.{returned, Returns, most_returned};
 
-use chronicle::NationLedger;
-use host_answers::{can_return, minus};
+use host_answers::{can_return, returned};
 
 // Writes a nation's ledger, three words each: tag, year and value in two's complement. Gives the number of rows, or minus the refusal
 // number: 13 for a number that is no nation's.
@@ -18,10 +17,7 @@ pub fn nation_ledger(
 ) -> i64
     ensures { Returns (call_nation_ledger s.now nations.now entries.now nation out.old) result out.new }
 {
-    match chronicle::nation_ledger(s, nations, entries, nation, out) {
-        NationLedger::Rows(n) => n as i64,
-        NationLedger::Refused(number) => minus(number),
-    }
+    returned(chronicle::nation_ledger(s, nations, entries, nation, out))
 }
 
 // How many rows `nation_ledger` has to write, or `most` if there are more; else minus the refusal number. A `most` above
@@ -35,10 +31,8 @@ pub fn nation_ledger_rows(
 ) -> i64
     ensures { result ≡ returned (call_nation_ledger_rows s.now nations.now entries.now nation (min most most_returned)) }
 {
-    match chronicle::nation_ledger_rows(s, nations, entries, nation, can_return(most)) {
-        NationLedger::Rows(n) => n as i64,
-        NationLedger::Refused(number) => minus(number),
-    }
+    let most = can_return(most);
+    returned(chronicle::nation_ledger_rows(s, nations, entries, nation, most))
 }
 
 // Writes the ledgers of all nations, one behind the other, and into `counts` the number of rows of each. Gives the number of all rows, or
@@ -52,8 +46,5 @@ pub fn nation_ledgers(
 ) -> i64
     ensures { Returns (call_nation_ledgers s.now nations.now entries.now (ledger_cells out.old counts.old)) result (ledger_cells out.new counts.new) }
 {
-    match chronicle::nation_ledgers(s, nations, entries, out, counts) {
-        NationLedger::Rows(n) => n as i64,
-        NationLedger::Refused(number) => minus(number),
-    }
+    returned(chronicle::nation_ledgers(s, nations, entries, out, counts))
 }

@@ -14,10 +14,10 @@ ghost use Rattle.nations.specs.Cases.{nation_cells};
 ghost use Rattle.host_answers.specs.Host.{Returns, call_events_on_cells, nation_slices, call_nation_events_cells};
 
 pub use booking::war_participants;
-use chronicle::{EventsOn, NationEvents, Owners};
-use host_answers::{has_counts, minus, put_counts, put_two, room_number};
+use chronicle::DateRun;
+use host_answers::{has_counts, minus, put_counts, put_words, returned, room_refusal};
 pub use ledgers::{nation_ledger, nation_ledger_rows, nation_ledgers};
-pub use pages::{CampaignFile, PRINTED_BYTES, Paged, Printed, print_page, write_page};
+pub use pages::{PRINTED_BYTES, print_page, write_page};
 pub use paging::page;
 pub use playing::{player_histories, players, starting_country};
 use record::Eu4Date;
@@ -30,34 +30,36 @@ pub use resolving::{
 pub fn check(s: &[u8]) -> i64
     ensures { result ≡ pos (refusal s.now) }
 {
-    record::check(s) as i64
+    match record::check(s) {
+        Ok(()) => 0,
+        Err(refusal) => i64::from(refusal.number()),
+    }
 }
 
 // Writes the owner changes, four words each. Gives their number, or minus the refusal number.
 pub fn province_owners(s: &[u8], out: &mut [u32]) -> i64
     ensures { Returns (call_province_owners s.now out.old) result out.new }
 {
-    match chronicle::province_owners(s, out) {
-        Owners::Rows(n) => n as i64,
-        Owners::Refused(number) => minus(number),
-    }
+    returned(chronicle::province_owners(s, out))
 }
 
 // Writes where the changes of a date begin, and how many there are. Gives 2, or minus the refusal number: 12 for a word that is no
 // date, 10 where the slice has no two words.
+#[tactic(auto, unfolding(host_answers::specs::Host::call_events_on_cells))]
 pub fn events_on(s: &[u8], date: u32, out: &mut [u32]) -> i64
     ensures { Returns (call_events_on_cells s.now date out.old) result out.new }
 {
     // The word is tested by the call, behind the record.
     match chronicle::events_on(s, Eu4Date::kept(date)) {
-        EventsOn::Run(first, count) => put_two(first as u32, count as u32, out),
-        EventsOn::Refused(number) => minus(number),
+        Ok(DateRun { first, count }) => put_words([first as u32, count as u32], out),
+        Err(refusal) => minus(refusal),
     }
 }
 
 // Writes the listed nations, five words each, their entries, three words each, the holder of each slot and the slots held by each country
 // after the last change, the owner changes, four words each, and how many of each there are. Gives 5, the number of counts, or minus the
 // refusal number: 10 where any slice is too short.
+#[tactic(auto, unfolding(host_answers::specs::Host::call_nation_events_cells))]
 pub fn nation_events(
     s: &[u8],
     nations: &mut [u32],
@@ -70,13 +72,10 @@ pub fn nation_events(
     ensures { Returns (call_nation_events_cells s.now (nation_slices (nation_cells nations.old entries.old holders.old held.old changes.old) counts.old)) result (nation_slices (nation_cells nations.new entries.new holders.new held.new changes.new) counts.new) }
 {
     if !has_counts(counts) {
-        return minus(room_number(record::check(s)));
+        return minus(room_refusal(record::check(s)));
     }
     match chronicle::nation_events(s, nations, entries, holders, held, changes) {
-        NationEvents::Rows(n) => {
-            put_counts(n, counts);
-            5
-        }
-        NationEvents::Refused(number) => minus(number),
+        Ok(found) => put_counts(found, counts),
+        Err(refusal) => minus(refusal),
     }
 }

@@ -2,16 +2,12 @@
 ghost use Rattle.rules.specs.PageOutcomes.{call_page};
 ghost use Rattle.host_answers.specs.Host.{Returns};
 
-use host_answers::minus;
-use pages::Paged;
+use host_answers::returned;
 
 // Writes the page of a record for a selection of stored tags, each followed by a line feed. Gives the number of bytes, or minus the
 // refusal number.
 pub fn page(s: &[u8], selection: &[u8], out: &mut [u8]) -> i64
     ensures { Returns (call_page s.now selection.now out.old) result out.new }
 {
-    match pages::write_page(s, selection, out) {
-        Paged::Bytes(n) => n as i64,
-        Paged::Refused(number) => minus(number),
-    }
+    returned(pages::write_page(s, selection, out))
 }

@@ -4,17 +4,13 @@ ghost use Rattle.histories.specs.Cases.{history_cells};
 ghost use Rattle.host_answers.specs.Host.{Returns};
 ghost use Rattle.host_answers.specs.Playing.{call_player_histories_given, call_starting_country_cells};
 
-use chronicle::{PlayerHistories, Players};
-use host_answers::{minus, put_starting};
+use host_answers::{put_starting, returned};
 
 // Writes the players, two words each: the string number of the name, and the tag. Gives their number, or minus the refusal number.
 pub fn players(s: &[u8], out: &mut [u32]) -> i64
     ensures { Returns (call_players s.now out.old) result out.new }
 {
-    match chronicle::players(s, out) {
-        Players::Rows(n) => n as i64,
-        Players::Refused(number) => minus(number),
-    }
+    returned(chronicle::players(s, out))
 }
 
 // Writes the histories, seven words each, and the names that they point into, a word each. Gives the number of histories, or minus the
@@ -28,14 +24,13 @@ pub fn player_histories(
 ) -> i64
     ensures { Returns (call_player_histories_given s.now nations.now entries.now (history_cells histories.old names.old)) result (history_cells histories.new names.new) }
 {
-    match chronicle::player_histories(s, nations, entries, histories, names) {
-        PlayerHistories::Rows(n) => n.histories as i64,
-        PlayerHistories::Refused(number) => minus(number),
-    }
+    let answer = chronicle::player_histories(s, nations, entries, histories, names);
+    returned(answer.map(|counts| counts.histories))
 }
 
 // Writes the tag of the starting country, by lent history words, nation words and entry words, and gives 1; for none 0. Else minus the
 // refusal number: 10 only where there is a tag and no room for it.
+#[tactic(auto, unfolding(host_answers::specs::Playing::call_starting_country_cells))]
 pub fn starting_country(histories: &[u32], nations: &[u32], entries: &[u32], out: &mut [u32]) -> i64
     ensures { Returns (call_starting_country_cells histories.now nations.now entries.now out.old) result out.new }
 {

@@ -1,11 +1,11 @@
-// What C calls of the resolver. A tag, a date and a day are words; each is lent nation words and entry words.
+// What C calls of the resolver. A tag, a date and a day are words, which the calls test, each in its turn; each is lent nation words and
+// entry words.
 ghost use Rattle.rules.specs.Outcomes.{call_resolve, call_initial, call_resolve_on, call_initial_on};
 ghost use Rattle.rules.specs.Questions.{call_resolve_each};
 ghost use Rattle.host_answers.specs.Host.{Returns};
 ghost use Rattle.host_answers.specs.Resolving.{data_cells};
 
-use chronicle::Each;
-use host_answers::{minus, put_data};
+use host_answers::{put_data, returned};
 use record::{CountryTag, Eu4Date};
 
 // `resolve`.
@@ -72,8 +72,5 @@ pub fn resolver_resolve_each(
 ) -> i64
     ensures { Returns (call_resolve_each nations.now entries.now questions.now out.old) result out.new }
 {
-    match chronicle::resolve_each(nations, entries, questions, out) {
-        Each::Rows(n) => n as i64,
-        Each::Refused(number) => minus(number),
-    }
+    returned(chronicle::resolve_each(nations, entries, questions, out))
 }

@@ -1,4 +1,4 @@
-// libpage.a: the functions of crate page, exported for C. A slice is a pointer and then a length.
+// libpage.a: the functions of crate page, each exported for C under its name; what it does is told there. A slice is a pointer and then a length.
 #![tactic(auto)]
 
 ghost use Rattle.std.specs.Prelude.{min, pos, ◌≡◌};

@@ -1,4 +1,3 @@
 pub mod DecimalLaws
+pub mod StatusLaws
 pub mod SelectionLaws
-pub mod TailLaws
-pub mod PutLaws

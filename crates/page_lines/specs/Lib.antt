@@ -1,3 +1,2 @@
 pub mod Selecting
 pub mod Lines
-pub mod Numbers

@@ -28,3 +28,7 @@ absent_line t = tag_field t ++ ascii "absent\n"
 -- The first line, of so many tags.
 abbrev pub heading : ℕ → List ℕ
 heading count = ascii "selected " ++ (decimal count ++ (10 ∷ []))
+
+-- The line of a refusal.
+abbrev pub refused_line : ℕ → List ℕ
+refused_line n = ascii "refused " ++ (decimal n ++ (10 ∷ []))

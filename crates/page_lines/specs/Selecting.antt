@@ -1,22 +1,21 @@
 -- How the code reads a selection: inner steps, which no promise of a call of 01 cites.
-use Rattle.std.specs.Prelude.{◌≡◌, List, [], ◌∷◌, ℕ, ◌+◌, drop}
-use Rattle.std.proofs.Math.Option.{Option, none, some, map}
+use Rattle.std.specs.Prelude as code
+use Rattle.std.specs.Prelude.{◌≡◌, List, map, ℕ, MatchOption, Bool, eqb, get_or, ◌&&◌}
+use Rattle.std.proofs.Math.Option.{none, some}
 use Rattle.format.specs.declared.tag.CountryTag.{CountryTag}
-use Rattle.rules.specs.Page.{selection_of, tags_read}
-use Rattle.page_lines.specs.declared.selection.Selection as Selection
-use Rattle.page_lines.specs.declared.selection.NextTag as NextTag
+use Rattle.format.specs.Tags.{is_tag}
+use Rattle.format.specs.Bytes.{tag_at}
+use Rattle.rules.specs.Page.{selection_of}
+use Rattle.page_lines.specs.declared.selection.SelectedTags.{SelectedTags}
 
--- The tags from a place on: the one that stands there and those behind its line feed; none at the end; else they are no tags.
-abbrev pub tag_told : List ℕ → ℕ → NextTag.NextTag → Option (List CountryTag)
-tag_told xs at (NextTag.TheVariants.Row t) = map (λ ts. t ∷ ts) (selection_of (drop (at + 4) xs))
-tag_told xs at NextTag.TheVariants.End = some []
-tag_told xs at NextTag.TheVariants.NoTag = none
+-- A line of four bytes is a tag with a line feed behind it.
+unfoldable pub is_line : List ℕ → Bool
+is_line line = eqb (get_or line 3 0) 10 && is_tag (tag_at line 0)
 
--- How many tags were read, by case.
-abbrev pub selection_told : Selection.Selection → Option ℕ
-selection_told (Selection.TheVariants.Tags n) = some n
-selection_told Selection.TheVariants.NotTags = none
+-- The tags of the lines that are left.
+abbrev pub tags_left : SelectedTags → List CountryTag
+tags_left s = map (λ line. tag_at line 0) s.lines.now
 
--- The bytes are tags.
-abbrev pub IsTags : List ℕ → Type 0
-IsTags xs = selection_of xs ≡ some (tags_read (selection_of xs))
+-- The bytes are those tags, or none.
+abbrev pub IsTags : List ℕ → code.Option SelectedTags → Type 0
+IsTags xs r = MatchOption r (selection_of xs ≡ none) (λ s. selection_of xs ≡ some (tags_left s))

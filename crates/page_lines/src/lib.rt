@@ -1,14 +1,8 @@
-// The lines of the page, one by one, and the selection that says which: tags read, and numbers, fields and lines written.
+// The lines of the page, one by one, and the selection that says which.
 #![tactic(auto)]
 
-mod decimal;
-mod fields;
-mod heading;
 mod lines;
 mod selection;
 
-pub use decimal::put_number;
-pub use fields::LINE_FEED;
-pub use heading::{heading_length, put_heading};
-pub use lines::{ABSENT_LENGTH, put_nobody, put_row, row_length};
-pub use selection::{NextTag, Selection, TAG_LINE, next_tag, read_selection};
+pub use lines::{LONGEST_LINE, Line, absent_line, heading, refused_line, row_line};
+pub use selection::{SelectedTags, read_selection};

@@ -1,94 +1,89 @@
-// The line of a nation, and of a tag that no nation is stored under.
-ghost use Rattle.std.specs.Prelude.{◌≡◌, ◌≤◌, length};
-ghost use Rattle.rules.specs.Lent.{written};
+// The lines of the page, each as its bytes. A tag of a lent row may be any three bytes, which may be no text: so a line is bytes, and not written by `write!`.
+ghost use Rattle.std.specs.Prelude.{◌≡◌, ◌++◌, ◌+◌, ◌≤◌, ◌^◌, ◌<◌, length};
+ghost use Rattle.arrayvec.specs.ArrayVec.{array_vec_len};
+ghost use Rattle.rules.specs.Page.{decimal};
 ghost use Rattle.chronicle_rows.specs.Cases.{nation_told};
-ghost use Rattle.page_lines.specs.Numbers.{PutsText};
-ghost use Rattle.page_lines.specs.Lines.{status_field, count_field, row_line, absent_line};
+ghost use Rattle.page_lines.specs.Lines.{tag_field, status_field, row_line, absent_line, heading, refused_line};
 
-use crate::fields::TAG_FIELD;
-use crate::{decimal, fields};
+use arrayvec::ArrayVec;
 use chronicle_rows::Nation;
 use format::CountryTag;
+use itoa::Buffer;
 
-// How many bytes the line of a tag without a nation has.
-pub const ABSENT_LENGTH: usize = 11;
+// No line has more bytes than a nation's: three tags with a space behind each, a count of ten digits, and its status.
+pub const LONGEST_LINE: usize = 31;
 
-// How many bytes a status takes with its space and its line feed.
-fn status_length(living: bool) -> usize
-    ensures { result ≡ length (status_field living) }
+// The bytes of a line, in an array of their own.
+pub type Line = ArrayVec<u8, LONGEST_LINE>;
+
+// Puts bytes behind a line that has room for them.
+fn put(line: &mut Line, bytes: &[u8])
+    requires { array_vec_len line.old + length bytes.now ≤ 31 }
+    ensures { line.new.items ≡ line.old.items ++ bytes.now }
 {
-    if living { 8 } else { 9 }
+    line.try_extend_from_slice(bytes).unwrap();
 }
 
-// Writes a status between a space and a line feed, and gives how many bytes these are.
-fn put_status(living: bool, out: &mut [u8]) -> usize
-    requires { length (status_field living) ≤ length out.old }
-    ensures { (result ≡ length (status_field living)) × (out.new ≡ written (status_field living) out.old) }
+// Puts a tag's three bytes, and a space.
+fn put_tag(line: &mut Line, tag: CountryTag)
+    requires { array_vec_len line.old + 4 ≤ 31 }
+    ensures { line.new.items ≡ line.old.items ++ tag_field tag }
 {
-    if living {
-        fields::put_living(out);
-        return 8;
-    }
-    fields::put_annexed(out);
-    9
+    let [_, a, b, c] = u32::from(tag).to_be_bytes();
+    put(line, &[a, b, c, b' ']);
 }
 
-// Writes an entry count and the status behind it.
-fn put_count(count: u32, living: bool, out: &mut [u8]) -> usize
-    requires { length (count_field count living) ≤ length out.old }
-    ensures { (result ≡ length (count_field count living)) × (out.new ≡ written (count_field count living) out.old) }
+// A status between a space and a line feed.
+fn status(living: bool) -> &'static [u8]
+    ensures { result.now ≡ status_field living }
 {
-    let k = decimal::write_decimal(count as u64, out);
-    k + put_status(living, &mut out[k..])
+    if living { b" living\n" } else { b" annexed\n" }
 }
 
-// How many bytes a nation's line has.
-pub fn row_length(row: Nation, living: bool) -> usize
-    ensures { result ≡ length (row_line (nation_told row) living) }
+// The first line of the page: how many tags were selected.
+#[tactic(auto, using(crate::proofs::DecimalLaws::decimal_same))]
+pub fn heading(count: usize) -> Line
+    ensures { result.items ≡ heading count }
 {
-    3 * TAG_FIELD + decimal::decimal_length(row.count as u64) + status_length(living)
+    let mut line = Line::new();
+    put(&mut line, b"selected ");
+    put(&mut line, Buffer::new().format(count).as_bytes());
+    put(&mut line, b"\n");
+    line
 }
 
-// Writes a nation's line, which has room, and gives how many bytes it has.
-fn write_row(row: Nation, living: bool, out: &mut [u8]) -> usize
-    requires { length (row_line (nation_told row) living) ≤ length out.old }
-    ensures { (result ≡ length (row_line (nation_told row) living)) × (out.new ≡ written (row_line (nation_told row) living) out.old) }
+// The line of a nation: its tags, its entries counted, and whether it lives.
+#[tactic(auto, using(crate::proofs::DecimalLaws::decimal_same))]
+pub fn row_line(row: Nation, living: bool) -> Line
+    ensures { result.items ≡ row_line (nation_told row) living }
 {
-    let stored = row.stored;
-    let initial = row.initial;
-    let latest = row.latest;
-    fields::put_tag(stored, out);
-    fields::put_tag(initial, &mut out[4..]);
-    fields::put_tag(latest, &mut out[8..]);
-    12 + put_count(row.count, living, &mut out[12..])
+    let mut line = Line::new();
+    put_tag(&mut line, row.stored);
+    put_tag(&mut line, row.initial);
+    put_tag(&mut line, row.latest);
+    put(&mut line, Buffer::new().format(row.count).as_bytes());
+    put(&mut line, status(living));
+    line
 }
 
-// Writes the line of a tag without a nation, which has room.
-fn write_nobody(tag: CountryTag, out: &mut [u8])
-    requires { 11 ≤ length out.old }
-    ensures { out.new ≡ written (absent_line tag) out.old }
+// The line of a tag that no nation is stored under.
+pub fn absent_line(tag: CountryTag) -> Line
+    ensures { result.items ≡ absent_line tag }
 {
-    fields::put_tag(tag, out);
-    fields::put_absent(&mut out[4..]);
+    let mut line = Line::new();
+    put_tag(&mut line, tag);
+    put(&mut line, b"absent\n");
+    line
 }
 
-// Writes a nation's line, and gives how many bytes it has; nothing is written, and 0 given, where it has no room.
-pub fn put_row(row: Nation, living: bool, out: &mut [u8]) -> usize
-    ensures { PutsText (row_line (nation_told row) living) result out.old out.new }
+// The line of a refusal, by its number.
+#[tactic(auto, using(crate::proofs::DecimalLaws::decimal_same))]
+pub fn refused_line(number: u32) -> Line
+    ensures { result.items ≡ refused_line number }
 {
-    if out.len() < row_length(row, living) {
-        return 0;
-    }
-    write_row(row, living, out)
-}
-
-// The same of the line of a tag without a nation.
-pub fn put_nobody(tag: CountryTag, out: &mut [u8]) -> usize
-    ensures { PutsText (absent_line tag) result out.old out.new }
-{
-    if out.len() < ABSENT_LENGTH {
-        return 0;
-    }
-    write_nobody(tag, out);
-    ABSENT_LENGTH
+    let mut line = Line::new();
+    put(&mut line, b"refused ");
+    put(&mut line, Buffer::new().format(number).as_bytes());
+    put(&mut line, b"\n");
+    line
 }

@@ -1,66 +1,78 @@
 // The selection: tags, each with a line feed behind it.
-ghost use Rattle.std.specs.Prelude.{◌≡◌, length, drop};
-ghost use Rattle.std.proofs.Math.Option.{map};
-ghost use Rattle.rules.specs.Page.{selection_of};
-ghost use Rattle.page_lines.specs.Selecting.{tag_told, selection_told};
+ghost use Rattle.std.specs.Prelude.{◌≡◌, length, map, All, MatchOption};
+ghost use Rattle.std.specs.List.{list_all};
+ghost use Rattle.std.specs.Iterator.{YieldsFirst, item_count};
+ghost use Rattle.format.specs.Bytes.{tag_at};
+ghost use Rattle.page_lines.specs.Selecting.{is_line, tags_left, IsTags};
 
-use crate::fields::LINE_FEED;
-use format::{CountryTag, Created};
+use format::CountryTag;
 
 // How many bytes a tag takes with its line feed.
-pub const TAG_LINE: usize = 4;
+const TAG_LINE: usize = 4;
 
-// How many tags were read, or that the bytes are anything else.
+// The tags of a selection, one by one, each on a line of its own.
 #[derive(Clone, Copy)]
-pub enum Selection {
-    Tags(usize),
-    NotTags,
+pub struct SelectedTags<'a> {
+    lines: &'a [[u8; TAG_LINE]],
 }
 
-#[derive(Clone, Copy)]
-pub enum NextTag {
-    Row(CountryTag),
-    End,
-    NoTag,
-}
-
-// The tag that stands at a place of the selection with its line feed, the end, or anything else.
-pub fn next_tag(selection: &[u8], at: usize) -> NextTag
-    ensures { selection_of (drop at selection.now) ≡ tag_told selection.now at result }
+// Whether a line is a tag with a line feed behind it.
+#[tactic(auto, unfolding(crate::specs::Selecting::is_line))]
+fn is_tag_line(line: &[u8; TAG_LINE]) -> bool
+    ensures { result ≡ is_line line.now }
 {
-    if selection.len() <= at {
-        return NextTag::End;
+    (line[3] == b'\n') & tag_of(line).good()
+}
+
+// The three bytes of a line, as a tag.
+#[tactic(auto, unfolding(format::specs::Bytes::tag_at))]
+fn tag_of(line: &[u8; TAG_LINE]) -> CountryTag
+    ensures { result ≡ tag_at line.now 0 }
+{
+    CountryTag::read(line[0], line[1], line[2])
+}
+
+// Whether each of them is.
+fn are_tag_lines(lines: &[[u8; TAG_LINE]]) -> bool
+    ensures { result ≡ list_all is_line lines.now }
+{
+    lines.iter().all(is_tag_line)
+}
+
+// The tags of the bytes, if these are tags, each with a line feed behind it.
+pub fn read_selection(selection: &[u8]) -> Option<SelectedTags<'_>>
+    ensures { IsTags selection.now result }
+{
+    let (lines, rest) = selection.as_chunks();
+    if 0 < rest.len() {
+        return None;
     }
-    if selection.len() - at < TAG_LINE {
-        return NextTag::NoTag;
-    }
-    if selection[at + 3] != LINE_FEED {
-        return NextTag::NoTag;
-    }
-    match CountryTag::create(&selection[at..at + 3]) {
-        Created::Tag(tag) => NextTag::Row(tag),
-        Created::NoTag => NextTag::NoTag,
+    if are_tag_lines(lines) {
+        Some(SelectedTags { lines })
+    } else {
+        None
     }
 }
 
-// How many tags the bytes are, each with a line feed behind it.
-pub fn read_selection(selection: &[u8]) -> Selection
-    ensures { selection_told result ≡ map length (selection_of selection.now) }
-{
-    let mut at = 0;
-    let mut count = 0;
-    loop {
-        match next_tag(selection, at) {
-            NextTag::Row(_) => {
-                count += 1;
-            }
-            NextTag::End => {
-                return Selection::Tags(count);
-            }
-            NextTag::NoTag => {
-                return Selection::NotTags;
-            }
-        }
-        at += TAG_LINE;
+impl SelectedTags<'_> {
+    // How many tags are left.
+    pub fn len(&self) -> usize
+        ensures { result ≡ length (tags_left self.now) }
+    {
+        self.lines.len()
+    }
+}
+
+impl Iterator for SelectedTags<'_> {
+    type Item = CountryTag;
+
+    ghost next_gives = { YieldsFirst tags_left };
+
+    ghost remaining = { item_count tags_left };
+
+    fn next(&mut self) -> Option<CountryTag> {
+        let (line, rest) = self.lines.split_first()?;
+        self.lines = rest;
+        Some(tag_of(line))
     }
 }

@@ -2,3 +2,4 @@ pub mod StatusLaws
 pub mod StoredLaws
 pub mod PageLaws
 pub mod OutcomeLaws
+pub mod PutLaws

@@ -10,7 +10,10 @@ use native.Mathlib.Omega.{arith}
 use lib.Dec.{leb}
 use lib.ListN.{length, take, drop, get_or, length-map, length-append, length-drop}
 use lib.Seq.{take_at}
+use Rattle.std.specs.Prelude as code
+use Rattle.std.specs.Prelude.{Some, None}
 use Rattle.lists.specs.Lists.{numbers_from}
+use Rattle.lists.specs.Options.{option_of}
 use Rattle.lists.proofs.ListLaws.{length-numbers}
 use Rattle.lists.proofs.FillLaws.{Filling, filling-new}
 use Rattle.sorting.specs.Sort.{sort_by, Sorts}
@@ -20,8 +23,7 @@ use Rattle.format.specs.declared.tag.CountryTag.{CountryTag}
 use Rattle.rules.specs.Lent.{written}
 use Rattle.rules.specs.NationRows.{NationRow, nation_rows_in}
 use Rattle.chronicle_rows.specs.RowAt.{nation_row_at, stored_tags, tags_stored}
-use Rattle.search.specs.declared.places.Place as Place
-use Rattle.search.specs.Places.{tag_key, tag_keys_from, place_from, place_told}
+use Rattle.search.specs.Places.{tag_key, tag_keys_from, place_from}
 use Rattle.search.proofs.PlaceLaws.{tag-keys-nil, tag-keys-cons, length-tag-keys, place_inside}
 use Rattle.page_lines.specs.Lines.{row_line, absent_line}
 use Rattle.page_text.specs.Stored.{KeysSorted, LineTables, line_at, line_of}
@@ -94,24 +96,24 @@ module _ (ws : List ℕ) where
 
 -- ## A tag's line
 
-module _ {ws keys : List ℕ} {cells : List Bool} (x : LineTables ws keys cells) (tag : CountryTag) (r : Place.Place)
-    (told : (ts : List CountryTag) → length ts ≤ 65536 → keys ≡ sort_by leb (tag_keys_from 0 ts) → place_told r ≡ place_from 0 tag ts) where
+module _ {ws keys : List ℕ} {cells : List Bool} (x : LineTables ws keys cells) (tag : CountryTag) (r : code.Option ℕ)
+    (told : (ts : List CountryTag) → length ts ≤ 65536 → keys ≡ sort_by leb (tag_keys_from 0 ts) → option_of r ≡ place_from 0 tag ts) where
   length-tags : length (tags_stored ws) ≡ length (nation_rows_in ws)
   length-tags = length-numbered (λ (i : ℕ). (nation_row_at ws i).stored) 0 (length (nation_rows_in ws))
 
-  placed : place_told r ≡ place_from 0 tag (tags_stored ws)
+  placed : option_of r ≡ place_from 0 tag (tags_stored ws)
   placed = told (tags_stored ws) (omega (arith, length-tags, x.few)) x.sorted
 
-  line-placed : {o : Option ℕ} → place_told r ≡ o → line_of ws cells tag ≡ line_at ws cells tag o
+  line-placed : {o : Option ℕ} → option_of r ≡ o → line_of ws cells tag ≡ line_at ws cells tag o
   unfolding line_of
   line-placed e = ap (line_at ws cells tag) (sym placed ∙ e)
 
-  pub line-nowhere : r ≡ Place.TheVariants.Nowhere → line_of ws cells tag ≡ absent_line tag
-  line-nowhere e = line-placed (ap place_told e)
+  pub line-nowhere : r ≡ None → line_of ws cells tag ≡ absent_line tag
+  line-nowhere e = line-placed (ap option_of e)
 
-  module _ {i : ℕ} (e : r ≡ Place.TheVariants.At i) where
+  module _ {i : ℕ} (e : r ≡ Some i) where
     pub place-within : i < length cells
-    place-within = omega (arith, place_inside tag (tags_stored ws) i (sym placed ∙ ap place_told e), length-tags, x.long)
+    place-within = omega (arith, place_inside tag (tags_stored ws) i (sym placed ∙ ap option_of e), length-tags, x.long)
 
     pub line-there : (n : NationRow) → n ≡ nation_row_at ws i → line_of ws cells tag ≡ row_line n (get_or cells i false)
-    line-there n q = line-placed (ap place_told e) ∙ ap (λ (m : NationRow). row_line m (get_or cells i false)) (sym q)
+    line-there n q = line-placed (ap option_of e) ∙ ap (λ (m : NationRow). row_line m (get_or cells i false)) (sym q)

@@ -2,22 +2,18 @@
 use Rattle.std.specs.Prelude.{Bool, ◌&&◌, List, [], ◌∷◌, ◌++◌, ℕ, leb, length}
 use Rattle.format.specs.declared.tag.CountryTag.{CountryTag}
 use Rattle.format.specs.Refusal.{first_of}
-use Rattle.rules.specs.Lent.{Answer, refused, gives, written, fits, room_number, Outcome, outcome}
+use Rattle.rules.specs.Lent.{outcome_of, written, fits, room_number, Outcome, outcome}
 use Rattle.rules.specs.NationRows.{nation_rows_in}
 use Rattle.rules.specs.Page.{selection_of, tags_read}
 use Rattle.rules.specs.PageOutcomes.{selection_number}
-use Rattle.page_text.specs.declared.text.PageText as PageText
+use Rattle.std.specs.Prelude as code
+use Rattle.format.specs.declared.refused.Refusal.{Refusal}
 use Rattle.page_lines.specs.Lines.{heading}
 use Rattle.page_text.specs.Stored.{lines_of}
 
--- How many bytes were written, or the number of the refusal.
-abbrev pub text_answer : PageText.PageText → Answer ℕ
-text_answer (PageText.TheVariants.Bytes n) = gives n
-text_answer (PageText.TheVariants.Refused n) = refused n
-
--- The answer with the lent output after the call.
-abbrev pub text_outcome : PageText.PageText → List ℕ → Outcome ℕ (List ℕ)
-text_outcome r after = record { answer = text_answer r; memory = after }
+-- How many bytes were written, or the refusal, with the lent output after the call.
+abbrev pub text_outcome : code.Result ℕ Refusal → List ℕ → Outcome ℕ (List ℕ)
+text_outcome r after = outcome_of (λ n. n) r after
 
 -- Bytes are written where they have room, and counted.
 abbrev pub call_lines : List ℕ → List ℕ → Outcome ℕ (List ℕ)

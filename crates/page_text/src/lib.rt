@@ -3,9 +3,8 @@
 
 mod status;
 mod stored;
-mod tag_lines;
 mod text;
 
 pub use status::is_living;
 pub use stored::MOST_NATIONS;
-pub use text::{PageText, write_text};
+pub use text::write_text;

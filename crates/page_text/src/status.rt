@@ -21,14 +21,10 @@ fn lives_on(living: bool, kind: Kind) -> bool
 pub fn is_living(entries: &[u32], nation: Nation) -> bool
     ensures { result ≡ is_living (nation_with entries.now (nation_told nation)) }
 {
-    let mut at = nation.first as usize;
-    let end = at + nation.count as usize;
+    let first = nation.first as usize;
     let mut living = true;
-    while at < end {
-        let e = entry_at(entries, at);
-        let kind = e.kind;
-        living = lives_on(living, kind);
-        at += 1;
+    for i in first..first + nation.count as usize {
+        living = lives_on(living, entry_at(entries, i).kind);
     }
     living
 }

@@ -1,121 +1,96 @@
 // The text of the page: held against the room first, then written.
-ghost use Rattle.std.specs.Prelude.{◌≡◌, ◌++◌, ◌≤◌, leb, length};
+ghost use Rattle.std.specs.Prelude.{◌≡◌, ◌++◌, ◌+◌, ◌≤◌, leb, length, take, drop};
 ghost use Rattle.rules.specs.Lent.{written};
-ghost use Rattle.rules.specs.Page.{selection_of, tags_read};
-ghost use Rattle.page_lines.specs.Selecting.{IsTags};
 ghost use Rattle.page_lines.specs.Lines.{heading};
-ghost use Rattle.page_text.specs.Stored.{LineTables, lines_of};
+ghost use Rattle.page_lines.specs.Selecting.{tags_left};
+ghost use Rattle.page_text.specs.Stored.{lines_of};
 ghost use Rattle.page_text.specs.Texts.{text_outcome, call_lines, call_text};
 
-use crate::stored::MOST_NATIONS;
-use crate::{stored, tag_lines};
+use crate::stored::{MOST_NATIONS, StoredNations, sort_stored};
 use chronicle_rows::nation_count;
-use page_lines::{
-    NextTag, Selection, TAG_LINE, heading_length, next_tag, put_heading, read_selection,
-};
-
-// How many bytes were written, or the number of the refusal.
-#[derive(Clone, Copy)]
-pub enum PageText {
-    Bytes(usize),
-    Refused(u32),
-}
+use format::Refusal;
+use page_lines::{SelectedTags, heading, read_selection};
 
 // Whether the lines of all tags have room.
-fn lines_fit(nations: &[u32], keys: &[u64], living: &[bool], selection: &[u8], room: usize) -> bool
-    requires { (LineTables nations.now keys.now living.now) × (IsTags selection.now) }
-    ensures { result ≡ leb (length (lines_of nations.now living.now (tags_read (selection_of selection.now)))) room }
+fn lines_fit(stored: StoredNations, tags: SelectedTags, room: usize) -> bool
+    ensures { result ≡ leb (length (lines_of stored.entry.nations.now stored.entry.living.now (tags_left tags.entry))) room }
 {
-    let mut at = 0;
     let mut left = room;
-    loop {
-        match next_tag(selection, at) {
-            NextTag::Row(tag) => {
-                let need = tag_lines::tag_length(nations, keys, living, tag);
-                if left < need {
-                    return false;
-                }
-                left -= need;
-            }
-            NextTag::End => {
-                return true;
-            }
-            NextTag::NoTag => {
-                return true;
-            }
+    for tag in tags {
+        let need = stored.line(tag).len();
+        if left < need {
+            return false;
         }
-        at += TAG_LINE;
+        left -= need;
     }
+    true
 }
 
-// Writes the lines of all tags, and gives how many bytes they have.
-fn put_lines(
-    nations: &[u32],
-    keys: &[u64],
-    living: &[bool],
-    selection: &[u8],
-    out: &mut [u8],
-) -> usize
-    requires { (LineTables nations.now keys.now living.now) × (IsTags selection.now) × (length (lines_of nations.now living.now (tags_read (selection_of selection.now))) ≤ length out.old) }
-    ensures { (result ≡ length (lines_of nations.now living.now (tags_read (selection_of selection.now)))) × (out.new ≡ written (lines_of nations.now living.now (tags_read (selection_of selection.now))) out.old) }
+// Writes a text at a place that has room for it.
+fn put_at(out: &mut [u8], k: usize, text: &[u8])
+    requires { k + length text.now ≤ length out.old }
+    ensures { out.new ≡ take k out.old ++ (text.now ++ drop (k + length text.now) out.old) }
 {
-    let mut at = 0;
+    let end = k + text.len();
+    out[k..end].copy_from_slice(text);
+}
+
+// Writes the lines of all tags, which have room, and gives how many bytes they have.
+fn put_lines(stored: StoredNations, tags: SelectedTags, out: &mut [u8]) -> usize
+    requires { length (lines_of stored.nations.now stored.living.now (tags_left tags)) ≤ length out.old }
+    ensures count { result ≡ length (lines_of stored.entry.nations.now stored.entry.living.now (tags_left tags.entry)) }
+    ensures text { out.new ≡ written (lines_of stored.entry.nations.now stored.entry.living.now (tags_left tags.entry)) out.old }
+{
     let mut k = 0;
-    loop {
-        match next_tag(selection, at) {
-            NextTag::Row(tag) => {
-                k += tag_lines::put_line(nations, keys, living, tag, &mut out[k..]);
-            }
-            NextTag::End => {
-                return k;
-            }
-            NextTag::NoTag => {
-                return k;
-            }
-        }
-        at += TAG_LINE;
+    for tag in tags {
+        let line = stored.line(tag);
+        put_at(out, k, line.as_slice());
+        k += line.len();
     }
+    k
 }
 
-// The page from tables of the nations, for a selection that is so many tags.
-fn write_tabled(
-    nations: &[u32],
-    keys: &[u64],
-    living: &[bool],
-    selection: &[u8],
-    count: usize,
-    out: &mut [u8],
-) -> PageText
-    requires { (LineTables nations.now keys.now living.now) × (IsTags selection.now) }
-    ensures { text_outcome result out.new ≡ call_lines (heading count ++ lines_of nations.now living.now (tags_read (selection_of selection.now))) out.old }
+// The page of stored nations for tags, with a first line that counts them.
+fn write_lines(stored: StoredNations, tags: SelectedTags, out: &mut [u8]) -> Result<usize, Refusal>
+    ensures { text_outcome result out.new ≡ call_lines (heading (length (tags_left tags.entry)) ++ lines_of stored.entry.nations.now stored.entry.living.now (tags_left tags.entry)) out.old }
 {
-    let first = heading_length(count);
+    let heading = heading(tags.len());
+    let first = heading.len();
     if out.len() < first {
-        return PageText::Refused(10);
+        return Err(Refusal::NoRoom);
     }
-    if !lines_fit(nations, keys, living, selection, out.len() - first) {
-        return PageText::Refused(10);
+    if !lines_fit(stored, tags, out.len() - first) {
+        return Err(Refusal::NoRoom);
     }
-    put_heading(count, out);
-    let rest = put_lines(nations, keys, living, selection, &mut out[first..]);
-    PageText::Bytes(first + rest)
+    out[..first].copy_from_slice(heading.as_slice());
+    let rest = put_lines(stored, tags, &mut out[first..]);
+    Ok(first + rest)
 }
 
 // The page of nation rows, with a status cell for each, for a selection: its first line, then a line for each tag read; held against the
-// room before anything is written. Refused by 10 for more than 2,000 rows, cells too few or no room, by 12 for a selection that is not tags.
-pub fn write_text(nations: &[u32], living: &[bool], selection: &[u8], out: &mut [u8]) -> PageText
+// room before anything is written. Refused is want of room, for more than 2,000 rows and for too few cells too, and a selection that is not tags.
+pub fn write_text(
+    nations: &[u32],
+    living: &[bool],
+    selection: &[u8],
+    out: &mut [u8],
+) -> Result<usize, Refusal>
     ensures { text_outcome result out.new ≡ call_text nations.now living.now selection.now out.old }
 {
     let n = nation_count(nations);
     if (MOST_NATIONS < n) | (living.len() < n) {
-        return PageText::Refused(10);
+        return Err(Refusal::NoRoom);
     }
-    match read_selection(selection) {
-        Selection::Tags(count) => {
-            let mut keys = [0u64; MOST_NATIONS];
-            stored::sort_stored(nations, &mut keys);
-            write_tabled(nations, &keys[0..n], living, selection, count, out)
-        }
-        Selection::NotTags => PageText::Refused(12),
-    }
+    let Some(tags) = read_selection(selection) else {
+        return Err(Refusal::BadQuestion);
+    };
+    // No heap: an array for the most nations, of which the front is used.
+    let mut keys = [0u64; MOST_NATIONS];
+    sort_stored(nations, &mut keys);
+    let stored = StoredNations {
+        nations,
+        living,
+        keys: &keys[0..n],
+    };
+    write_lines(stored, tags, out)
 }

@@ -1,13 +1,15 @@
 -- The outcome of a page, by case.
 use mathlib.Core.Path.{◌≡◌, refl, sym, ap, ◌∙◌}
 use mathlib.Core.List.{List, [], ◌∷◌}
-use mathlib.Core.Option.{some}
 use Prim.Native.Nat.{ℕ, ◌≤◌, ◌<◌}
 use native.Mathlib.Omega.{arith}
 use lib.ListN.{length}
 use Rattle.format.specs.Campaign.{campaign_of}
+use Rattle.format.specs.declared.refused.Refusal.{Refusal}
 use Rattle.format.specs.Refusal.{refusal, first_of}
+use Rattle.format.specs.Refused.{refusal_number}
 use Rattle.format.proofs.FirstLaws.{first-stop, first-pass, first_one}
+use Rattle.record.proofs.ToldLaws.{refusal_above}
 use Rattle.rules.specs.Lent.{refused, gives, written, fits, room_number, outcome}
 use Rattle.rules.specs.Page.{selection_of}
 use Rattle.rules.specs.PageOutcomes.{bytes_number, selection_number, limits_number, page_number, page_of, call_page}
@@ -49,12 +51,12 @@ module _ (xs selection before : List ℕ) where
   page-many e = refused-by 10 (omega arith) (first-stop (bytes_number xs selection) _ (λ z. omega (arith, z, e)) ∙ e)
 
   module _ (few : bytes_number xs selection ≡ 0) where
-    pub page-bad : (n : ℕ) → (n ≡ 0 → ⊥) → n ≡ refusal xs → record { answer = refused n; memory = before } ≡ call_page xs selection before
+    pub page-bad : (e : Refusal) → refusal_number e ≡ refusal xs → record { answer = refused (refusal_number e); memory = before } ≡ call_page xs selection before
     unfolding page_number
-    page-bad n p e =
-        let some : 0 < n = omega (arith, p) in
-        refused-by n some
-        (first-pass (bytes_number xs selection) _ few ∙ first-stop (refusal xs) _ (λ z. omega (arith, z, e, some)) ∙ sym e)
+    page-bad e h =
+        let some = refusal_above e in
+        refused-by (refusal_number e) some
+        (first-pass (bytes_number xs selection) _ few ∙ first-stop (refusal xs) _ (λ z. omega (arith, z, h, some)) ∙ sym h)
 
     pub page-no-tags : refusal xs ≡ 0 → selection_number (selection_of selection) ≡ 12
         → record { answer = refused 12; memory = before } ≡ call_page xs selection before

@@ -50,12 +50,6 @@ digits-four = digits_more 1000 3 (digits_more 100 2 (digits_more 10 1 digits-one
 digits-five : FewDigits 100000 5
 digits-five = digits_more 10000 4 digits-four
 
--- A number of 32 bits has ten digits at most.
-pub word-digits : (n : ℕ) → n < 4294967296 → length (decimal n) ≤ 10
-word-digits n h =
-    let ten : FewDigits 10000000000 10 = digits_more 1000000000 9 (digits_more 100000000 8 (digits_more 10000000 7 (digits_more 1000000 6 (digits_more 100000 5 digits-five)))) in
-    ten (n + 1) n (omega (arith, h))
-
 -- ## Lines
 
 line-one : (f : List ℕ) → length (line (f ∷ [])) ≡ length f + 1

@@ -65,9 +65,6 @@ module _ {xs : List ℕ} {cells : List Bool} (n : ℕ) (ws : List ℕ) where
   pub listed-front : NationsListed xs (take (n - 0) ws) cells → NationsListed xs (take n ws) cells
   listed-front l = subst (λ (k : ℕ). NationsListed xs (take k ws) cells) (sub-zero n) l
 
-  pub listed-part : NationsListed xs (take n ws) cells → NationsListed xs (take (n - 0) ws) cells
-  listed-part l = subst (λ (k : ℕ). NationsListed xs (take k ws) cells) (sym (sub-zero n)) l
-
 module _ (xs selection before : List ℕ) (begun : PageBegun xs selection) {ws : List ℕ} {cells : List Bool} (l : NationsListed xs ws cells) where
   abbrev ns : List Nation
   ns = nations_of (campaign_of xs)

@@ -2,16 +2,18 @@
 use Rattle.std.specs.Prelude.{List, [], ◌∷◌, ℕ, leb, length}
 use Rattle.std.proofs.Math.Option.{Option, none, some}
 use Rattle.lists.specs.Text.{ascii}
-use Rattle.rules.specs.Lent.{Answer, refused, gives, written, room_number, Outcome, outcome}
+use Rattle.rules.specs.Lent.{written, room_number, Outcome, outcome, outcome_of}
 use Rattle.rules.specs.Page.{decimal, line}
 use Rattle.rules.specs.PageOutcomes.{call_program}
-use Rattle.pages.specs.declared.printing.CampaignFile as CampaignFile
-use Rattle.pages.specs.declared.printing.Printed as Printed
+use Rattle.std.specs.Prelude as code
+use Rattle.std.specs.Prelude.{Some, None}
+use Rattle.std.specs.Borrow.{Bor}
+use Rattle.format.specs.declared.refused.Refusal.{Refusal}
 
--- The file with the bytes that were read of it.
-abbrev pub file_read : CampaignFile.CampaignFile → List ℕ → Option (List ℕ)
-file_read CampaignFile.TheVariants.Readable xs = some xs
-file_read CampaignFile.TheVariants.Unreadable xs = none
+-- The bytes that were read of the file, if it could be read.
+abbrev pub file_read : code.Option (Bor (List ℕ)) → Option (List ℕ)
+file_read (Some xs) = some xs.now
+file_read None = none
 
 -- The most bytes that the program prints: 15 for the first line, and 25 for each of 16,384 tags.
 abbrev pub most_printed : ℕ
@@ -23,13 +25,9 @@ call_print file selection before =
     let text = call_program file selection in
     outcome (room_number (leb most_printed (length before))) (length text) (written text before) before
 
-abbrev pub printed_answer : Printed.Printed → Answer ℕ
-printed_answer (Printed.TheVariants.Bytes n) = gives n
-printed_answer (Printed.TheVariants.Refused n) = refused n
-
--- The answer with the lent slice after the call.
-abbrev pub printed_outcome : Printed.Printed → List ℕ → Outcome ℕ (List ℕ)
-printed_outcome r after = record { answer = printed_answer r; memory = after }
+-- How many bytes are to be printed, with the lent slice after the call.
+abbrev pub printed_outcome : code.Result ℕ Refusal → List ℕ → Outcome ℕ (List ℕ)
+printed_outcome r after = outcome_of (λ n. n) r after
 
 -- The line of a refusal.
 abbrev pub refused_line : ℕ → List ℕ

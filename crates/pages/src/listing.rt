@@ -6,44 +6,37 @@ ghost use Rattle.pages.specs.Listing.{PageNationsTold};
 use crate::status::fill_living;
 use chronicle_rows::{ENTRY_WIDTH, NATION_WIDTH};
 use nation_tables::{MOST_COUNTRIES, MOST_SLOTS};
-use nations::{NationEvents, nation_events};
+use nations::nation_events;
 
-// Words of the most entries and changes of a page.
+// Words of the most entries of a page.
 const ENTRY_WORDS: usize = 15000;
 
+// Words of the most changes of a page.
 const CHANGE_WORDS: usize = 16000;
 
-// How many words the nation rows have, or that the record is past the page's limits.
-#[derive(Clone, Copy)]
-pub(crate) enum PageNations {
-    Words(usize),
-    OverLimits,
-}
-
-// Lists the nations of an accepted record, and marks those that are living. Nations are given room for just as many entries and changes as a
-// page may have: so they are refused if there are more.
-pub(crate) fn list_nations(s: &[u8], nations: &mut [u32], living: &mut [bool]) -> PageNations
+// Lists the nations of an accepted record, marks those that are living, and gives how many words the rows have; nothing where the record is past the
+// page's limits. Nations are given room for just as many entries and changes as a page
+// may have: so they are refused if there are more.
+pub(crate) fn list_nations(s: &[u8], nations: &mut [u32], living: &mut [bool]) -> Option<usize>
     requires { (refusal s.now ≡ 0) × (length nations.old ≡ 10000) × (length living.old ≡ 2000) }
     ensures { PageNationsTold s.now result nations.new living.new }
 {
+    // No heap: arrays as long as a page's limits, of which the fronts are used.
     let mut entries = [0u32; ENTRY_WORDS];
     let mut holders = [0u32; MOST_SLOTS];
     let mut held = [0u32; MOST_COUNTRIES];
     let mut changes = [0u32; CHANGE_WORDS];
-    match nation_events(
+    let listed = nation_events(
         s,
         nations,
         &mut entries,
         &mut holders,
         &mut held,
         &mut changes,
-    ) {
-        NationEvents::Rows(counts) => {
-            let n = NATION_WIDTH * counts.nations;
-            let m = ENTRY_WIDTH * counts.entries;
-            fill_living(&nations[0..n], &entries[0..m], living);
-            PageNations::Words(n)
-        }
-        NationEvents::Refused(_) => PageNations::OverLimits,
-    }
+    );
+    let Ok(counts) = listed else { return None };
+    let n = NATION_WIDTH * counts.nations;
+    let m = ENTRY_WIDTH * counts.entries;
+    fill_living(&nations[0..n], &entries[0..m], living);
+    Some(n)
 }

@@ -6,15 +6,13 @@ ghost use Rattle.pages.specs.LivingCells.{living_cells};
 use chronicle_rows::{nation_at, nation_count};
 use page_text::is_living;
 
-// Marks the nations that are living, a cell for each row.
+// Marks the nations that are living, a cell for each row: by index, since a proof knows no cell that is written through a `zip` with `iter_mut`.
 pub(crate) fn fill_living(nations: &[u32], entries: &[u32], cells: &mut [bool])
     requires { length (nation_rows_in nations.now) ≤ length cells.old }
     ensures { cells.new ≡ living_cells nations.now entries.now 0 (length (nation_rows_in nations.now)) ++ drop (length (nation_rows_in nations.now)) cells.old }
 {
     let n = nation_count(nations);
-    let mut i = 0;
-    while i < n {
+    for i in 0..n {
         cells[i] = is_living(entries, nation_at(nations, i));
-        i += 1;
     }
 }

@@ -1,4 +1,4 @@
--- The walk over players, pair by pair; how many they are; and the outcome of `players`, by case.
+-- How many players there are, the words of their rows, and the outcome of `players`, by case.
 use mathlib.Core.Path.{◌≡◌, refl, sym, ap, ◌∙◌}
 use mathlib.Core.Bool.{Bool, true, false}
 use mathlib.Core.List.{List, [], ◌∷◌, ◌++◌}
@@ -7,56 +7,29 @@ use Prim.Native.Nat.{ℕ, ◌+◌, ◌*◌, ◌<◌, ◌≤◌}
 use native.Mathlib.Omega.{arith}
 use borrow.Author.Tests.{le-leb, lt-leb}
 use lib.ListN.{length}
+use Rattle.std.specs.Prelude.{Ok, Err}
 use Rattle.lists.specs.Lists.{join_of}
 use Rattle.lists.proofs.BoolLaws.{cases}
 use Rattle.lists.proofs.EachLaws.{all-each}
-use Rattle.lists.proofs.FillLaws.{Filling}
 use Rattle.lists.proofs.ListLaws.{join-short, length-join}
 use Rattle.format.specs.declared.tag.CountryTag.{CountryTag}
-use Rattle.format.specs.declared.tag.Created.{Created}
-use Rattle.format.specs.declared.tag.Created.TheVariants.{Tag, NoTag}
-use Rattle.record.specs.declared.opened.Record.{Record}
-use Rattle.format.specs.Tags.{created_tag, created}
+use Rattle.format.specs.Tags.{created}
 use Rattle.format.specs.Campaign.{campaign_of}
-use Rattle.record.specs.Opened.{Tells}
 use Rattle.format.specs.Refusal.{refusal, first_of}
+use Rattle.format.specs.Refused.{refusal_number}
+use Rattle.format.specs.declared.refused.Refusal.{Refusal}
+use Rattle.format.specs.declared.refused.Refusal.TheVariants.{NoRoom}
 use Rattle.format.proofs.FirstLaws.{first-stop, first-pass, first_one}
 use Rattle.format.proofs.SoundLaws.{sound}
-use Rattle.rules.specs.Lent.{refused, gives, written, fits, room_number}
+use Rattle.record.specs.declared.opened.Record.{Record}
+use Rattle.record.specs.Opened.{RightlyOpened}
+use Rattle.record.proofs.ToldLaws.{refusal_above}
+use Rattle.record.specs.Cursors.{strings_left}
+use Rattle.rules.specs.Lent.{written, fits, room_number}
 use Rattle.rules.specs.Players.{Pair, pairs_from, Player, is_anonymous, tagged_player, player_of, players_of, player_words, player_rows}
 use Rattle.rules.specs.PlayerOutcomes.{call_players}
 use Rattle.rules.proofs.LentLaws.{outcome-refused, outcome-gives}
-use Rattle.players.specs.declared.pairs.Pairs.{Pairs}
-use Rattle.players.specs.PairSteps.{pairs_left}
-use Rattle.players.specs.PlayerSteps.{players_left, PlayersReady}
-use Rattle.players.proofs.PairLaws.{pairs-numbered, pairs-short}
-
--- ## The player of a pair
-
-module _ (multiplayer : Bool) (p : Pair) where
-  pub made-nobody : is_anonymous multiplayer p ≡ true → [] ≡ player_of multiplayer p
-  unfolding player_of
-  made-nobody h = rw h
-
-  -- The pair is not skipped, and its text was tested.
-  module _ {r : Created} (named : is_anonymous multiplayer p ≡ false) (told : created_tag r ≡ created p.text) where
-    pub made_one : (t : CountryTag) → r ≡ Tag t → record { name = p.number; tag = t } ∷ [] ≡ player_of multiplayer p
-    unfolding player_of
-    made_one t e = rw named (ap (tagged_player p.number) (sym (ap created_tag e) ∙ told))
-
-    pub made_none : r ≡ NoTag → [] ≡ player_of multiplayer p
-    unfolding player_of
-    made_none e = rw named (ap (tagged_player p.number) (sym (ap created_tag e) ∙ told))
-
--- ## One step of the walk
-
-module _ (xs : List ℕ) (multiplayer : Bool) (at rest : Pairs) (p : Pair) (more : pairs_left xs at ≡ p ∷ pairs_left xs rest)
-    {made : List Player} (m : made ≡ player_of multiplayer p) where
-  pub walk-player : (x : Player) → made ≡ x ∷ [] → players_left xs multiplayer at ≡ x ∷ players_left xs multiplayer rest
-  walk-player x e = let f : player_of multiplayer p ≡ x ∷ [] = sym m ∙ e in rw (more, f)
-
-  pub walk-skip : made ≡ [] → players_left xs multiplayer at ≡ players_left xs multiplayer rest
-  walk-skip e = let f : player_of multiplayer p ≡ [] = sym m ∙ e in rw (more, f)
+use Rattle.players.specs.Cases.{players_outcome}
 
 -- ## How many players
 
@@ -69,17 +42,29 @@ player-few multiplayer p =
     go none = omega arith
     go (some t) = omega arith
 
+pairs-short : (n : ℕ) (ss : List (List ℕ)) → length (pairs_from n ss) ≤ length ss
+unfolding pairs_from
+pairs-short n [] = omega arith
+pairs-short n (name ∷ []) = omega arith
+pairs-short n (name ∷ text ∷ rest) = omega (arith, pairs-short (n + 2) rest)
+
+-- No more than there are strings.
+pub players-short : (multiplayer : Bool) (n : ℕ) (ss : List (List ℕ)) → length (join_of (player_of multiplayer) (pairs_from n ss)) ≤ length ss
+players-short multiplayer n ss =
+    let ps : List Pair = pairs_from n ss in
+    omega (
+      arith,
+      join-short (player_of multiplayer) 1 ps (all-each {P = λ p. length (player_of multiplayer p) ≤ 1} (player-few multiplayer) ps),
+      pairs-short n ss,
+    )
+
 pub players-few : (xs : List ℕ) → refusal xs ≡ 0 → length (players_of (campaign_of xs)) ≤ 1000
 unfolding players_of
 players-few xs z =
     let c = campaign_of xs in
-    let ps : List Pair = pairs_from 0 c.strings in
-    omega (
-      arith,
-      join-short (player_of c.multiplayer) 1 ps (all-each {P = λ p. length (player_of c.multiplayer p) ≤ 1} (player-few c.multiplayer) ps),
-      pairs-short 0 c.strings,
-      (sound xs z).few_strings,
-    )
+    omega (arith, players-short c.multiplayer 0 c.strings, (sound xs z).few_strings)
+
+-- ## Their rows
 
 pub length-player_rows : (ps : List Player) → length (player_rows ps) ≡ 2 * length ps
 unfolding player_rows
@@ -93,26 +78,20 @@ pub rows_none : player_rows [] ≡ []
 unfolding player_rows
 rows_none = refl
 
--- Where the slice is full nothing is left to be written.
-pub filling-full : (all rest before : List ℕ) (k : ℕ) (now : List ℕ) → Filling all rest before k now → length now ≤ k → rest ≡ []
-filling-full all rest before k now f h = go rest (omega (arith, f.fits, f.long))
-  where
-    go : (l : List ℕ) → length l ≤ 0 → l ≡ []
-    go [] e = refl
-    go (x ∷ l) e = absurd (omega arith)
-
 -- ## `players`
 
--- An opened record has all its players before its first string.
-pub walk-ready : (xs : List ℕ) (r : Record) → refusal xs ≡ 0 → Tells xs r → PlayersReady xs r.multiplayer (record { number = 0; strings = r.strings })
+-- The players of an accepted record are left.
+pub record PlayersTold (xs : List ℕ) (left : List Player) : Type 0 where
+  pub accepted : refusal xs ≡ 0
+  pub all : left ≡ players_of (campaign_of xs)
+  pub few : length left ≤ 1000
+
+pub players-told : (xs : List ℕ) (r : Record) (left : List Player) → RightlyOpened xs (Ok r)
+    → left ≡ join_of (player_of r.multiplayer) (pairs_from 0 (strings_left r.strings)) → PlayersTold xs left
 unfolding players_of
-walk-ready xs r z t =
-    record {
-      accepted = z;
-      all =
-          rw (t.multiplayer, t.strings)
-          (ap (join_of (player_of (campaign_of xs).multiplayer)) (pairs-numbered 0 (campaign_of xs).strings (omega (arith, (sound xs z).few_strings))));
-    }
+players-told xs r left o e =
+    let all : left ≡ players_of (campaign_of xs) = e ∙ rw (o.rows.multiplayer, o.rows.strings) in
+    record { accepted = sym o.number; all = all; few = omega (arith, ap length all, players-few xs (sym o.number)) }
 
 module _ (xs before : List ℕ) where
   players : List Player
@@ -126,28 +105,27 @@ module _ (xs before : List ℕ) where
   unfolding rows players
   number = first_of (refusal xs ∷ room_number (fits rows before) ∷ [])
 
-  pub players-refused : (n : ℕ) → 0 < n → n ≡ refusal xs → record { answer = refused n; memory = before } ≡ call_players xs before
+  pub players_refused : (e : Refusal) → refusal_number e ≡ refusal xs → players_outcome (Err e) before ≡ call_players xs before
   unfolding call_players number rows players
-  players-refused n p e =
-      let first : number ≡ n = first-stop (refusal xs) _ (λ z. omega arith) ∙ sym e in
-      sym (rw first (outcome-refused n (length players) (written rows before) before p))
+  players_refused e t =
+      let above = refusal_above e in
+      let first : number ≡ refusal_number e = first-stop (refusal xs) _ (λ z. omega arith) ∙ sym t in
+      sym (rw first (outcome-refused (refusal_number e) (length players) (written rows before) before above))
 
-  -- The walk has all players left, and counted n.
-  module _ (left : List Player) (n : ℕ) (z : refusal xs ≡ 0) (all : left ≡ players_of (campaign_of xs)) (counted : n ≡ length left) where
+  module _ (left : List Player) (n : ℕ) (told : PlayersTold xs left) (counted : n ≡ length left) where
     size : n ≡ length (players_of (campaign_of xs))
-    size = counted ∙ ap length all
+    size = counted ∙ ap length told.all
 
-    pub players-short : length before < 2 * n → record { answer = refused 10; memory = before } ≡ call_players xs before
+    pub players_short : length before < 2 * n → players_outcome (Err NoRoom) before ≡ call_players xs before
     unfolding call_players number rows players
-    players-short h =
+    players_short h =
         let short : fits rows before ≡ false = lt-leb (length rows) (length before) (omega (arith, length-player_rows players, size)) in
-        let first : number ≡ 10 = first-pass (refusal xs) _ z ∙ first_one _ ∙ ap room_number short in
+        let first : number ≡ 10 = first-pass (refusal xs) _ told.accepted ∙ first_one _ ∙ ap room_number short in
         sym (rw first (outcome-refused 10 (length players) (written rows before) before (omega arith)))
 
-    pub players-rows : (after : List ℕ) → 2 * n ≤ length before → after ≡ written (player_rows left) before
-        → record { answer = gives n; memory = after } ≡ call_players xs before
+    pub players_rows : (after : List ℕ) → 2 * n ≤ length before → after ≡ written (player_rows left) before → players_outcome (Ok n) after ≡ call_players xs before
     unfolding call_players number rows players
-    players-rows after h e =
+    players_rows after h e =
         let room : fits rows before ≡ true = le-leb (length rows) (length before) (omega (arith, length-player_rows players, size)) in
-        let first : number ≡ 0 = first-pass (refusal xs) _ z ∙ first_one _ ∙ ap room_number room in
-        sym (rw (size, e, all) (outcome-gives number (length players) (written rows before) before first))
+        let first : number ≡ 0 = first-pass (refusal xs) _ told.accepted ∙ first_one _ ∙ ap room_number room in
+        sym (rw (size, e, told.all) (outcome-gives number (length players) (written rows before) before first))

@@ -1,13 +1,12 @@
--- 01, Expected form: an answer that is an enum. For each of its cases 01's number and values, as an answer of PlayerOutcomes.
+-- 01, Expected form: what `players` answers, the number of players or the number of a refusal, as an answer of PlayerOutcomes.
+use Rattle.std.specs.Prelude as code
 use Rattle.std.specs.Prelude.{List, ℕ}
-use Rattle.players.specs.declared.answers.Players as Players
-use Rattle.rules.specs.Lent.{Answer, refused, gives, Outcome}
+use Rattle.format.specs.declared.refused.Refusal.{Refusal}
+use Rattle.rules.specs.Lent.{Answer, answer_of, Outcome, outcome_of}
 
--- `players`: the number of players.
-abbrev pub players_answer : Players.Players → Answer ℕ
-players_answer (Players.TheVariants.Rows n) = gives n
-players_answer (Players.TheVariants.Refused n) = refused n
+abbrev pub players_answer : code.Result ℕ Refusal → Answer ℕ
+players_answer r = answer_of (λ n. n) r
 
 -- Its answer with the lent slice after the call.
-abbrev pub players_outcome : Players.Players → List ℕ → Outcome ℕ (List ℕ)
-players_outcome r after = record { answer = players_answer r; memory = after }
+abbrev pub players_outcome : code.Result ℕ Refusal → List ℕ → Outcome ℕ (List ℕ)
+players_outcome r after = outcome_of (λ n. n) r after

@@ -1,54 +1,59 @@
 // Strings in pairs: the name of a player, and behind it a text that may be a tag.
-ghost use Rattle.std.specs.Prelude.{◌≡◌};
-ghost use Rattle.players.specs.PairSteps.{pairs_left, pair_told};
+ghost use Rattle.std.specs.Prelude.{◌+◌, ◌≤◌, length};
+ghost use Rattle.record.specs.Cursors.{strings_left};
 
-use record::{NextString, Strings, Text};
-
-// No record has as many strings: their number takes 16 bits.
-const STRING_NUMBERS: u32 = 65536;
+use record::Strings;
 
 // How many strings a pair takes.
 const PAIR_WIDTH: u32 = 2;
 
-// Where name and text stand, and the string number of the name.
+// A name and a text, and the string number of the name.
 #[derive(Clone, Copy)]
-pub(crate) struct Pair {
+pub(crate) struct Pair<'a> {
     pub(crate) number: u32,
-    pub(crate) name: Text,
-    pub(crate) text: Text,
+    pub(crate) name: &'a [u8],
+    pub(crate) text: &'a [u8],
 }
 
-// A cursor over pairs: the strings left, and the number of the first of them.
+// An iterator over pairs: the strings left, and the number of the first of them.
 #[derive(Clone, Copy)]
-pub struct Pairs {
-    pub number: u32,
-    pub strings: Strings,
+pub(crate) struct Pairs<'a> {
+    number: u32,
+    strings: Strings<'a>,
+    ghost numbered: { number + length (strings_left strings) ≤ 4294967295 },
 }
 
-#[derive(Clone, Copy)]
-pub(crate) enum NextPair {
-    Row(Pair, Pairs),
-    End,
+#[tactic(auto, using(crate::proofs::PairLaws::few_strings))]
+impl<'a> Pairs<'a> {
+    ghost use Rattle.std.specs.Prelude.{◌≡◌};
+    ghost use Rattle.rules.specs.Players.{pairs_from};
+    ghost use Rattle.players.specs.PairSteps.{pairs_left};
+
+    // The pairs of all these strings.
+    pub(crate) fn of(strings: Strings<'a>) -> Self
+        ensures { pairs_left result ≡ pairs_from 0 (strings_left strings.entry) }
+    {
+        Pairs { number: 0, strings }
+    }
 }
 
-// The next pair and where to go on, or the end. A last name with nothing behind it is the end too.
-pub(crate) fn next_pair(s: &[u8], at: Pairs) -> NextPair
-    ensures { pairs_left s.now at ≡ pair_told s.now result }
-{
-    let number = at.number % STRING_NUMBERS;
-    let strings = at.strings;
-    match strings.next(s) {
-        NextString::Row(name, behind) => match behind.next(s) {
-            NextString::Row(text, rest) => {
-                let pair = Pair { number, name, text };
-                let pairs = Pairs {
-                    number: number + PAIR_WIDTH,
-                    strings: rest,
-                };
-                NextPair::Row(pair, pairs)
-            }
-            NextString::End => NextPair::End,
-        },
-        NextString::End => NextPair::End,
+#[tactic(auto, using(crate::proofs::PairLaws::pairs))]
+impl<'a> Iterator for Pairs<'a> {
+    ghost use Rattle.std.specs.Iterator.{YieldsFirstBy, item_count};
+    ghost use Rattle.players.specs.PairSteps.{pair_of, pairs_left};
+
+    type Item = Pair<'a>;
+
+    ghost next_gives = { YieldsFirstBy pair_of pairs_left };
+
+    ghost remaining = { item_count pairs_left };
+
+    // A last name with nothing behind it is left out.
+    fn next(&mut self) -> Option<Pair<'a>> {
+        let name = self.strings.next()?;
+        let text = self.strings.next()?;
+        let number = self.number;
+        self.number = number + PAIR_WIDTH;
+        Some(Pair { number, name, text })
     }
 }

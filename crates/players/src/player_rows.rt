@@ -1,95 +1,48 @@
 // The players of a campaign: counted first, then written.
-ghost use Rattle.std.specs.Prelude.{◌≡◌, ◌++◌, ◌*◌, ◌≤◌, length, drop};
+ghost use Rattle.std.specs.Prelude.{◌≡◌, ◌*◌, ◌≤◌, ◌++◌, length, drop};
 ghost use Rattle.rules.specs.Lent.{written};
 ghost use Rattle.rules.specs.Players.{player_words, player_rows};
 ghost use Rattle.rules.specs.PlayerOutcomes.{call_players};
 ghost use Rattle.players.specs.Cases.{players_outcome};
-ghost use Rattle.players.specs.PlayerSteps.{player_in, players_left, PlayersReady};
+ghost use Rattle.players.specs.PlayerSteps.{player_in, players_left};
 
-use crate::answers::Players;
-use crate::pairs::Pairs;
-use crate::walk;
-use crate::walk::{NextPlayer, Player};
-use record::Opened;
+use crate::walk::{Player, PlayersOf};
+use format::Refusal;
 
 // How many words a player row has.
 const PLAYER_WIDTH: usize = 2;
 
-// How many players there are.
-fn count_players(s: &[u8], start: Pairs, multiplayer: bool) -> usize
-    requires { PlayersReady s.now multiplayer start }
-    ensures { result ≡ length (players_left s.now multiplayer start) }
-{
-    let mut at = start;
-    let mut n = 0;
-    loop {
-        match walk::next_player(s, at, multiplayer) {
-            NextPlayer::Row(_, rest) => {
-                n += 1;
-                at = rest;
-            }
-            NextPlayer::End => {
-                return n;
-            }
-        }
-    }
-}
-
 // Writes the row of a player: name, tag.
-fn put_player(x: Player, out: &mut [u32])
+fn put_player(player: Player, out: &mut [u32])
     requires { 2 ≤ length out.old }
-    ensures { out.new ≡ player_words (player_in x) ++ drop 2 out.old }
+    ensures { out.new ≡ player_words (player_in player) ++ drop 2 out.old }
 {
-    let tag = x.tag;
-    out[0] = x.name;
-    out[1] = tag.word();
+    out[0] = player.name;
+    out[1] = u32::from(player.tag);
 }
 
-// Writes the rows of all players, until the slice is full or nobody is left.
-fn write_players(s: &[u8], start: Pairs, multiplayer: bool, out: &mut [u32])
-    requires { 2 * length (players_left s.now multiplayer start) ≤ length out.old }
-    ensures { out.new ≡ written (player_rows (players_left s.now multiplayer start)) out.old }
+// Writes the rows of all players.
+fn write_players(players: PlayersOf, out: &mut [u32])
+    requires { 2 * length (players_left players) ≤ length out.old }
+    ensures { out.new ≡ written (player_rows (players_left players.entry)) out.old }
 {
-    let mut at = start;
-    let mut k = 0;
-    while k < out.len() {
-        match walk::next_player(s, at, multiplayer) {
-            NextPlayer::Row(player, rest) => {
-                put_player(player, &mut out[k..]);
-                at = rest;
-            }
-            NextPlayer::End => {
-                return;
-            }
-        }
-        k += PLAYER_WIDTH;
+    let mut at = 0;
+    for player in players {
+        put_player(player, &mut out[at..]);
+        at += PLAYER_WIDTH;
     }
 }
 
-// Counts the players before the first cell is written.
-fn rows_of(s: &[u8], start: Pairs, multiplayer: bool, out: &mut [u32]) -> Players
-    requires { PlayersReady s.now multiplayer start }
+// All players in string order, with a row of two words each; returns how many. Refused are a bad record, by its refusal, and by `NoRoom` a slice that is too short.
+pub fn players(s: &[u8], out: &mut [u32]) -> Result<usize, Refusal>
     ensures { players_outcome result out.new ≡ call_players s.now out.old }
 {
-    let n = count_players(s, start, multiplayer);
+    let record = record::open_record(s)?;
+    let players = PlayersOf::of(record.strings, record.multiplayer);
+    let n = players.count();
     if out.len() < PLAYER_WIDTH * n {
-        return Players::Refused(10);
+        return Err(Refusal::NoRoom);
     }
-    write_players(s, start, multiplayer, out);
-    Players::Rows(n)
-}
-
-// All players in string order, with a row of two words each; returns how many. A bad record is refused by its number, a slice that is
-// too short by 10.
-pub fn players(xs: &[u8], out: &mut [u32]) -> Players
-    ensures { players_outcome result out.new ≡ call_players xs.now out.old }
-{
-    match record::open_record(xs) {
-        Opened::Accepted(rows) => {
-            let strings = rows.strings;
-            let start = Pairs { number: 0, strings };
-            rows_of(xs, start, rows.multiplayer, out)
-        }
-        Opened::Refused(number) => Players::Refused(number),
-    }
+    write_players(players, out);
+    Ok(n)
 }

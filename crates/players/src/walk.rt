@@ -1,89 +1,79 @@
 // A walk over the players of a campaign: the pairs that name somebody and a tag.
 ghost use Rattle.std.specs.Prelude.{◌≡◌};
-ghost use Rattle.lists.specs.Lists.{same_numbers};
+ghost use Rattle.std.specs.Iterator.{YieldsFirstBy, item_count};
+ghost use Rattle.lists.specs.Lists.{same_numbers, join_of};
 ghost use Rattle.lists.specs.Text.{ascii};
-ghost use Rattle.rules.specs.Players.{player_of};
+ghost use Rattle.record.specs.Cursors.{strings_left};
+ghost use Rattle.rules.specs.Players.{pairs_from, player_of};
 ghost use Rattle.players.specs.PairSteps.{pair_of};
-ghost use Rattle.players.specs.PlayerSteps.{made_of, players_left, player_told};
+ghost use Rattle.players.specs.PlayerSteps.{player_in, players_made, players_left};
 
-use crate::pairs;
-use crate::pairs::{NextPair, Pair, Pairs};
-use record::{CountryTag, Created};
-
-// How many bytes `Player` has.
-const NAMELESS_LEN: usize = 6;
+use crate::pairs::{Pair, Pairs};
+use record::{CountryTag, Strings};
 
 // A player: the string number of the name, and the tag.
-#[derive(Clone, Copy)]
+#[derive(Clone, Copy, Debug, PartialEq, Eq)]
 pub struct Player {
     pub name: u32,
     pub tag: CountryTag,
 }
 
+// An iterator over players, in string order.
 #[derive(Clone, Copy)]
-pub(crate) enum Made {
-    One(Player),
-    Nobody,
-}
-
-#[derive(Clone, Copy)]
-pub enum NextPlayer {
-    Row(Player, Pairs),
-    End,
+pub struct PlayersOf<'a> {
+    pairs: Pairs<'a>,
+    multiplayer: bool,
 }
 
 // Whether a name is `Player`, which the game gives to somebody without one.
+#[tactic(auto, using(crate::proofs::PairLaws::same_bytes))]
 fn is_nameless(name: &[u8]) -> bool
     ensures { result ≡ same_numbers name.now (ascii "Player") }
 {
-    if name.len() != NAMELESS_LEN {
-        return false;
-    }
-    (name[0] == b'P')
-        & (name[1] == b'l')
-        & (name[2] == b'a')
-        & (name[3] == b'y')
-        & (name[4] == b'e')
-        & (name[5] == b'r')
+    name == b"Player".as_slice()
 }
 
 // The player of a pair. In a campaign of one player nobody in particular is called `Player`.
-fn made_of(s: &[u8], pair: Pair, multiplayer: bool) -> Made
-    ensures { made_of result ≡ player_of multiplayer (pair_of s.now pair) }
+#[tactic(auto, unfolding(rules::specs::Players::player_of))]
+fn player_of(pair: Pair, multiplayer: bool) -> Option<Player>
+    ensures { players_made result ≡ player_of multiplayer (pair_of pair.entry) }
 {
-    let name = pair.name;
-    let text = pair.text;
-    if is_nameless(name.bytes(s)) & !multiplayer {
-        return Made::Nobody;
+    if is_nameless(pair.name) & !multiplayer {
+        return None;
     }
-    match CountryTag::create(text.bytes(s)) {
-        Created::Tag(tag) => Made::One(Player {
-            name: pair.number,
-            tag,
-        }),
-        Created::NoTag => Made::Nobody,
+    let tag = CountryTag::create(pair.text).ok()?;
+    Some(Player {
+        name: pair.number,
+        tag,
+    })
+}
+
+impl<'a> PlayersOf<'a> {
+    // The players that these strings tell.
+    pub fn of(strings: Strings<'a>, multiplayer: bool) -> Self
+        ensures { players_left result ≡ join_of (player_of multiplayer) (pairs_from 0 (strings_left strings.entry)) }
+    {
+        PlayersOf {
+            pairs: Pairs::of(strings),
+            multiplayer,
+        }
     }
 }
 
-// The next player in string order, and where to go on.
-pub fn next_player(s: &[u8], start: Pairs, multiplayer: bool) -> NextPlayer
-    ensures { players_left s.now multiplayer start ≡ player_told s.now multiplayer result }
-{
-    let mut at = start;
-    loop {
-        match pairs::next_pair(s, at) {
-            NextPair::Row(pair, rest) => {
-                at = rest;
-                match made_of(s, pair, multiplayer) {
-                    Made::One(player) => {
-                        return NextPlayer::Row(player, at);
-                    }
-                    Made::Nobody => {}
-                }
-            }
-            NextPair::End => {
-                return NextPlayer::End;
+impl Iterator for PlayersOf<'_> {
+    type Item = Player;
+
+    ghost next_gives = { YieldsFirstBy player_in players_left };
+
+    ghost remaining = { item_count players_left };
+
+    // Not by `for` over `by_ref()`: what that leaves of the pairs, a proof does not know.
+    fn next(&mut self) -> Option<Player> {
+        while let Some(pair) = self.pairs.next() {
+            if let Some(player) = player_of(pair, self.multiplayer) {
+                return Some(player);
             }
         }
+        None
     }
 }

@@ -1,17 +1,25 @@
 -- A block is filled claim by claim: keys and nation numbers of those taken stand in front, and the walk has the others left.
 use mathlib.Core.Path.{◌≡◌, refl, sym, ap, ◌∙◌}
+use mathlib.Core.Bool.{not}
 use mathlib.Core.List.{List, [], ◌∷◌, ◌++◌, map}
 use Prim.Native.Nat.{ℕ, suc, ◌+◌, ◌-◌, ◌<◌, ◌≤◌, min}
 use native.Mathlib.Nat.{sub-zero}
 use native.Mathlib.Omega.{arith}
+use borrow.Author.Tests.{eqb-true, eqb-false}
+use lib.Dec.{eqb}
 use lib.ListN.{length, take, drop, set, length-map, length-take, length-set, length-append}
 use lib.Seq.{length-take-le, drop-drop, drop-nil, take-nil}
+use Rattle.std.specs.Prelude as code
+use Rattle.std.specs.Prelude.{IfSome}
+use Rattle.std.specs.Bool.{then_some}
+use Rattle.lists.proofs.BoolLaws.{cases}
 use Rattle.lists.proofs.FillLaws.{Filling, filling-new, filling-one, filling-put, filling-count, filling-written}
 use Rattle.sorting.specs.Sort.{Sorts}
 use Rattle.sorting.proofs.SortedKeyLaws.{sorted_front}
 use Rattle.claims.specs.declared.claims.Claim.{Claim}
 use Rattle.questions.specs.Layout.{claim_numbers}
-use Rattle.questions.specs.Keys.{lowest_key, keys_from, Fills, SortsBlock}
+use Rattle.questions.specs.Keys.{lowest_key, keys_from, Fills, SortsBlock, block_room}
+use Rattle.questions.specs.Holding.{taken_told}
 
 abbrev nations : List Claim → List ℕ
 nations cs = map (λ c. c.nation) cs
@@ -104,13 +112,20 @@ module _ (left rest : List Claim) (room count : ℕ) (keys₀ keys owners₀ own
       let e : count ≡ room = omega arith in
       taken (drop room left) (rw z) (t.behind ∙ ap (λ (n : ℕ). drop n left) e) refl
 
+-- What was filled, by the room that the slices have and by what is left.
+pub block-told : (left rest rest' : List Claim) (m room count count' : ℕ) (keys₀ keys₁ owners₀ owners₁ : List ℕ) → Fills left rest room count keys₀ keys₁ owners₀ owners₁
+    → m ≡ min (length keys₀) (length owners₀) → room ≡ min m claim_numbers → rest ≡ rest' → count ≡ count' → Fills left rest' (block_room keys₀ owners₀) count' keys₀ keys₁ owners₀ owners₁
+block-told left rest rest' m room count count' keys₀ keys₁ owners₀ owners₁ f p q r s =
+    let e : room ≡ block_room keys₀ owners₀ = q ∙ ap (λ (n : ℕ). min n claim_numbers) p in rw (← r, ← s, ← e) f
+
 -- ## The sort
 
 -- What was filled has been sorted in its place, with a scratch.
 pub block-sorted : (left rest : List Claim) (room count : ℕ) (keys₀ keys₁ sorted owners₀ owners₁ scratch₀ scratch₁ : List ℕ) → Fills left rest room count keys₀ keys₁ owners₀ owners₁
-    → count ≤ length keys₁ → Sorts (take (count - 0) keys₁) sorted scratch₀ scratch₁
-    → SortsBlock left rest room count keys₀ (sorted ++ drop (count - 0) keys₁) owners₀ owners₁ scratch₀ scratch₁
-block-sorted left rest room count keys₀ keys₁ sorted owners₀ owners₁ scratch₀ scratch₁ f h s =
+    → count ≤ length keys₁ → Sorts (take (count - 0) keys₁) sorted scratch₀ scratch₁ → (told : ℕ) → told ≡ count
+    → SortsBlock left rest room told keys₀ (sorted ++ drop (count - 0) keys₁) owners₀ owners₁ scratch₀ scratch₁
+block-sorted left rest room count keys₀ keys₁ sorted owners₀ owners₁ scratch₀ scratch₁ f h s told t =
+    rw t
     record {
       counted = f.counted;
       behind = f.behind;
@@ -118,6 +133,13 @@ block-sorted left rest room count keys₀ keys₁ sorted owners₀ owners₁ scr
       owners = f.owners;
       scratch = rw (sub-zero count, length-take-le count keys₁ h) at s.scratch;
     }
+
+-- How many were taken: nothing in place of none.
+pub taken-some : (count : ℕ) (r : code.Option ℕ) → r ≡ then_some (not (eqb count 0)) count → (taken_told r ≡ count) × IfSome r (λ n. 0 < n)
+taken-some count r e =
+    cases (eqb count 0)
+    (λ h. rw (e, h) (sym (eqb-true count 0 h), tt))
+    (λ h. let some : ¬ (count ≡ 0) = eqb-false count 0 h in rw (e, h) (refl, omega arith))
 
 -- The block lies inside its keys.
 pub block_inside : (left rest : List Claim) (room count : ℕ) (keys₀ keys₁ owners₀ owners₁ : List ℕ) → Fills left rest room count keys₀ keys₁ owners₀ owners₁ → count ≤ length keys₁

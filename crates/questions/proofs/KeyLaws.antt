@@ -16,14 +16,6 @@ use Rattle.claims.specs.Claims.{is_asked, claim_day}
 use Rattle.questions.specs.Layout.{one_byte, two_bytes, one_letter, two_letters, claim_dates, claim_numbers, claim_span}
 use Rattle.questions.specs.Keys.{tag_bits, lowest_key, is_asked_key, key_day, key_number}
 
-pub bits-told : (t : CountryTag) (w : ℕ) → w ≡ t.0 → w / two_bytes % one_letter * two_letters + w / one_byte % one_letter * one_letter + w % one_letter ≡ tag_bits t
-unfolding tag_bits
-bits-told t w e = rw e
-
-pub key-told : (t : CountryTag) (d : Eu4Date) (p w : ℕ) → p ≡ tag_bits t → w ≡ d.0 → p * claim_span + w % claim_dates * claim_numbers ≡ lowest_key t d
-unfolding lowest_key
-key-told t d p w e f = rw (e, f)
-
 -- ## Tags are told apart by their bits
 
 low_part : (w : ℕ) → w % one_byte < one_letter → w % one_letter ≡ w % one_byte

@@ -8,5 +8,5 @@ pub mod PassLaws
 pub mod BestLaws
 pub mod GoodLaws
 pub mod RowsLaws
-pub mod BetweenLaws
+pub mod HoldingLaws
 pub mod ResolveEachLaws

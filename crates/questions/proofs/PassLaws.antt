@@ -2,9 +2,9 @@
 use mathlib.Core.Path.{◌≡◌, refl, sym, ap, ◌∙◌}
 use mathlib.Core.List.{List, [], ◌∷◌, ◌++◌, append_assoc, append-nil}
 use mathlib.Core.Option.{Option, map}
-use Prim.Native.Nat.{ℕ, zero, suc, ◌+◌, ◌*◌, ◌<◌, ◌≤◌}
+use Prim.Native.Nat.{ℕ, zero, suc, ◌+◌, ◌-◌, ◌*◌, ◌<◌, ◌≤◌}
 use native.Mathlib.Omega.{arith}
-use lib.ListN.{length, set, drop, get_or, length-append, length-set}
+use lib.ListN.{length, replicate, set, drop, get_or, length-append, length-set}
 use lib.Seq.{drop-cons, set_at, get_or-append-add, get_or-drop}
 use Rattle.lists.specs.Lists.{join_of, numbers_from}
 use Rattle.lists.proofs.ListLaws.{join-append}
@@ -13,7 +13,7 @@ use Rattle.claims.specs.declared.claims.Claim.{Claim}
 use Rattle.claims.specs.Claims.{claims_in, best_of, plain_of}
 use Rattle.questions.specs.Asked.{question_at}
 use Rattle.questions.specs.Keys.{last_asked}
-use Rattle.questions.specs.Passes.{row_set, updated, finished, rows_with, block_row, finished_row, claim_row}
+use Rattle.questions.specs.Passes.{row_set, updated, finished, rows_with, block_row, best_row, finished_row, claim_row}
 
 numbers-behind : (a n : ℕ) → numbers_from a (n + 1) ≡ numbers_from a n ++ ((a + n) ∷ [])
 numbers-behind a zero = let e : a + 0 ≡ a = omega arith in rw e
@@ -28,6 +28,12 @@ join-next row i =
     ap (join_of row) (numbers-behind 0 i)
     ∙ (join-append row (numbers_from 0 i) ((0 + i) ∷ [])
     ∙ rw e (ap (λ (l : List ℕ). join_of row (numbers_from 0 i) ++ l) (append-nil (row i))))
+
+-- Words of zeros, as the library fills them, are rows with the best of no claims.
+pub zeros-rows : (qs : List ℕ) (a n m : ℕ) → m ≡ 2 * n → replicate m 0 ≡ join_of (best_row qs []) (numbers_from a n)
+zeros-rows qs a zero m e = let z : m ≡ 0 = omega arith in rw z refl
+zeros-rows qs a (suc n) m e =
+    let z : m ≡ suc (suc (m - 2)) = omega arith in rw z (ap (λ (l : List ℕ). 0 ∷ 0 ∷ l) (zeros-rows qs (suc a) n (m - 2) (omega arith)))
 
 pub record Passing (row : ℕ → List ℕ) (before : List ℕ) (i : ℕ) (out : List ℕ) : Type 0 where
   pub cells : out ≡ rows_with row i before
@@ -87,8 +93,11 @@ module _ (row : ℕ → List ℕ) (before : List ℕ) (i : ℕ) (out : List ℕ)
       }
 
   -- The same, as the code leaves the slice.
-  pub passing-put : (a b : ℕ) (new : List ℕ) → new ≡ row_set out i (a ∷ b ∷ []) → 2 * i + 1 < length before → a ∷ b ∷ [] ≡ row i → Passing row before (i + 1) new
-  passing-put a b new w h e = rw w (passing-next a b h e)
+  pub passing-put : (words new : List ℕ) → length words ≡ 2 → new ≡ row_set out i words → 2 * i + 1 < length before → words ≡ row i → Passing row before (i + 1) new
+  passing-put (a ∷ b ∷ []) new l w h e = rw w (passing-next a b h e)
+  passing-put [] new l w h e = absurd (omega arith)
+  passing-put (a ∷ []) new l w h e = absurd (omega arith)
+  passing-put (a ∷ b ∷ c ∷ words) new l w h e = absurd (omega arith)
 
 -- ## The rows of the passes, as the code has worked them out
 

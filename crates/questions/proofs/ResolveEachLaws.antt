@@ -3,7 +3,7 @@ use mathlib.Core.Path.{◌≡◌, refl, sym, ap, ap₂, ◌∙◌}
 use mathlib.Core.Bool.{Bool, true, false, cond, not, ◌&&◌}
 use mathlib.Core.List.{List, [], ◌∷◌, ◌++◌}
 use mathlib.Core.Option.{Option, none, some}
-use Prim.Native.Nat.{ℕ, ◌+◌, ◌*◌, ◌/◌, ◌≤◌, ◌<◌}
+use Prim.Native.Nat.{ℕ, ◌*◌, ◌/◌, ◌≤◌, ◌<◌}
 use native.Mathlib.Omega.{arith}
 use borrow.Author.Tests.{le-leb, lt-leb, not-true, not-false}
 use lib.ListN.{length, drop}
@@ -19,7 +19,7 @@ use Rattle.rules.specs.Refusals.{chronicle_number}
 use Rattle.rules.specs.Questions.{question_width, questions_in, question_shaped, questions_number, answer_words, answer_rows, call_resolve_each}
 use Rattle.rules.proofs.LentLaws.{answered-given, outcome-refused, outcome-gives}
 use Rattle.questions.specs.Passes.{rows_with, claim_row}
-use Rattle.questions.proofs.AskedLaws.{questions-count}
+use Rattle.questions.proofs.AskedLaws.{questions_count}
 use Rattle.questions.proofs.RowsLaws.{answer-rows}
 
 length-answers : (ws es qs : List ℕ) → length (answer_rows (nations_in ws es) (questions_in qs)) ≡ 2 * length (questions_in qs)
@@ -96,4 +96,4 @@ module _ (ws es qs before : List ℕ) where
 -- How many rows are given: half as many as the questions have words.
 pub each-few : (ws es qs before : List ℕ) (n : ℕ) → gives n ≡ (call_resolve_each ws es qs before).answer → n ≡ length qs / 2
 unfolding call_resolve_each number rows
-each-few ws es qs before n e = (answered-given (number ws es qs before) (length (questions_in qs)) n e).1 ∙ sym (questions-count qs)
+each-few ws es qs before n e = (answered-given (number ws es qs before) (length (questions_in qs)) n e).1 ∙ sym (questions_count qs)

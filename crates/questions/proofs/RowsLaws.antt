@@ -4,7 +4,7 @@ use mathlib.Core.Bool.{true}
 use mathlib.Core.List.{List, [], ◌∷◌, ◌++◌, map}
 use mathlib.Core.Option
 use mathlib.Core.Option.{Option, none, some}
-use Prim.Native.Nat.{ℕ, zero, suc, ◌+◌, ◌-◌, ◌*◌, ◌<◌, ◌≤◌}
+use Prim.Native.Nat.{ℕ, zero, suc, ◌+◌, ◌*◌, ◌<◌, ◌≤◌}
 use native.Mathlib.Nat.{mod-eq_of_lt}
 use native.Mathlib.Numerals.{add-one}
 use native.Mathlib.Omega.{arith}
@@ -30,7 +30,7 @@ use Rattle.claims.proofs.ResolvedLaws.{claim_nation, map-twice, claim-resolved}
 use Rattle.questions.specs.Layout.{claim_dates, claim_numbers, row_owners}
 use Rattle.questions.specs.Asked.{question_at}
 use Rattle.questions.specs.Keys.{keys_from, last_asked}
-use Rattle.questions.specs.Passes.{claim_words, updated, finished, rows_with, blank_row, block_row, best_row, finished_row, claim_row}
+use Rattle.questions.specs.Passes.{claim_words, updated, finished, rows_with, block_row, best_row, finished_row, claim_row}
 use Rattle.questions.proofs.KeyLaws.{GoodClaim}
 use Rattle.questions.proofs.AskedLaws.{questions-next}
 use Rattle.questions.proofs.AnsweredLaws.{block_words, greatest-has, Has}
@@ -110,13 +110,6 @@ module _ (qs : List ℕ) (good : all_of question_shaped (questions_in qs) ≡ tr
           let second : get_or out (2 * i + 1) 0 ≡ get_or (best_row qs xs i) 1 0 = rw e (row_word (best_row qs xs) n before (best-wide qs xs) i 1 h (omega arith)) in
           rw (first, second, k, o)
           (block-updated q.tag q.date (and_left (is_tag q.tag) (good_date q.date) s) (date-small q.date (and_right (is_tag q.tag) (good_date q.date) s)) xs ys back g few)
-
--- Before the first block.
-pub blank-rows : (qs : List ℕ) (n : ℕ) (before out : List ℕ) → out ≡ rows_with blank_row n before → out ≡ rows_with (best_row qs []) n out
-blank-rows qs n before out e = e ∙ sym (ap (rows_with (best_row qs []) n) e ∙ rows-again (best_row qs []) blank_row n before (λ i. refl))
-
-pub rows-over : (qs : List ℕ) (cs : List Claim) (n : ℕ) (before out new : List ℕ) → out ≡ rows_with blank_row n before → new ≡ rows_with (best_row qs cs) n out → new ≡ rows_with (best_row qs cs) n before
-rows-over qs cs n before out new e w = w ∙ (ap (rows_with (best_row qs cs) n) e ∙ rows-again (best_row qs cs) blank_row n before (λ i. refl))
 
 -- ## In the end
 

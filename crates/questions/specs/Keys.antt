@@ -1,14 +1,13 @@
 -- Claims as keys. A key holds a claim's tag in 21 bits, its date in 27 and its number in the block in 16: so keys in order hold the
 -- claims to a tag together, by date, and those of one date in list order.
 use Rattle.std.specs.Prelude.{◌≡◌, Bool, ◌&&◌, List, [], ◌∷◌, map, ℕ, ◌+◌, ◌*◌, ◌/◌, ◌%◌, min, leb, ltb, length, take, drop}
-use Rattle.std.proofs.Math.Option.{Option, none, some}
+use Rattle.std.proofs.Math.Option.{Option}
 use Rattle.lists.specs.Lists.{keep, last}
 use Rattle.sorting.specs.Sort.{sort_by, cleared}
 use Rattle.format.specs.declared.tag.CountryTag.{CountryTag}
 use Rattle.format.specs.declared.date.Eu4Date.{Eu4Date}
 use Rattle.rules.specs.Lent.{written}
 use Rattle.claims.specs.declared.claims.Claim.{Claim}
-use Rattle.questions.specs.declared.blocks.Looked as Looked
 use Rattle.questions.specs.Layout.{one_byte, two_bytes, one_letter, two_letters, claim_dates, claim_numbers, claim_span}
 
 -- A tag in 21 bits, seven for each byte.
@@ -50,11 +49,6 @@ is_asked_key t d k = leb (lowest_key t (record { 0 = 0 })) k && ltb k (lowest_ke
 -- The last of them.
 abbrev pub last_asked : CountryTag → Eu4Date → List ℕ → Option ℕ
 last_asked t d keys = last (keep (is_asked_key t d) keys)
-
--- The key that was found, by case.
-abbrev pub looked_told : Looked.Looked → Option ℕ
-looked_told (Looked.TheVariants.Key k) = some k
-looked_told Looked.TheVariants.Nothing = none
 
 -- A key's date and number.
 abbrev pub key_day : ℕ → ℕ

@@ -3,3 +3,4 @@ pub mod Asked
 pub mod Layout
 pub mod Keys
 pub mod Passes
+pub mod Holding

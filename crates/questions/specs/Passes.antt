@@ -45,10 +45,6 @@ rows_with row n before = join_of row (numbers_from 0 n) ++ drop (2 * n) before
 
 -- ## The rows of each pass, by the number of a question
 
--- Before the first block.
-abbrev pub blank_row : ℕ → List ℕ
-blank_row i = 0 ∷ 0 ∷ []
-
 -- After a block of sorted keys, from the rows before it.
 abbrev pub block_row : List ℕ → List ℕ → List ℕ → List ℕ → ℕ → List ℕ
 block_row qs keys owners before i =

@@ -1,23 +1,45 @@
 // Question rows: a tag and a date, a word each.
 ghost use Rattle.std.specs.Prelude.{◌≡◌, ◌&&◌, length};
+ghost use Rattle.std.proofs.Common.{lit<};
 ghost use Rattle.lists.specs.Lists.{all_of, is_whole};
-ghost use Rattle.rules.specs.Questions.{question_width, questions_in, question_shaped};
+ghost use Rattle.rules.specs.Questions.{question_width, question_of, questions_in, question_shaped};
 ghost use Rattle.questions.specs.Cases.{question_told};
 ghost use Rattle.questions.specs.Asked.{question_at};
 
-use chronicle_rows::{is_date, is_tag};
+use chronicle_rows::{Row, row_at};
 use format::{CountryTag, Eu4Date};
 
-// How many words a question has, and its answer.
+// How many words a question has.
 pub(crate) const QUESTION_WIDTH: usize = 2;
 
-#[derive(Clone, Copy)]
+// Which tag is asked about, and on which date.
+#[derive(Clone, Copy, Debug, PartialEq, Eq)]
 pub struct Question {
     pub tag: CountryTag,
     pub date: Eu4Date,
 }
 
+// What a question's words ask, whatever they are: `questions_good` tests tag and date.
+impl From<[u32; QUESTION_WIDTH]> for Question {
+    ghost from_gives = { λ row question. question_told question ≡ question_of row };
+
+    fn from(row: [u32; QUESTION_WIDTH]) -> Question {
+        let [tag, date] = row;
+        Question {
+            tag: CountryTag::kept(tag),
+            date: Eu4Date::kept(date),
+        }
+    }
+}
+
+impl Row<QUESTION_WIDTH> for Question {
+    ghost some = { lit< tt };
+
+    ghost narrow = { lit< tt };
+}
+
 // How many questions the words make.
+#[tactic(auto, using(crate::proofs::AskedLaws::questions_count))]
 pub fn question_count(questions: &[u32]) -> usize
     ensures { result ≡ length (questions_in questions.now) }
 {
@@ -25,43 +47,25 @@ pub fn question_count(questions: &[u32]) -> usize
 }
 
 // Question number i, untested; past the last one zeros.
+#[tactic(auto, using(crate::proofs::AskedLaws::question_here))]
 pub fn question_at(questions: &[u32], i: usize) -> Question
     ensures { question_told result ≡ question_at questions.now i }
 {
-    if questions.len() / QUESTION_WIDTH <= i {
-        return Question {
-            tag: CountryTag::kept(0),
-            date: Eu4Date::kept(0),
-        };
-    }
-    let at = QUESTION_WIDTH * i;
-    Question {
-        tag: CountryTag::kept(questions[at]),
-        date: Eu4Date::kept(questions[at + 1]),
-    }
+    row_at(questions, i)
 }
 
 // Whether a question's tag and date are good.
-fn question_good(q: Question) -> bool
-    ensures { result ≡ question_shaped (question_told q) }
+fn question_good(row: &[u32; QUESTION_WIDTH]) -> bool
+    ensures { result ≡ question_shaped (question_of row.now) }
 {
-    is_tag(q.tag) & is_date(q.date)
+    let question = Question::from(*row);
+    question.tag.good() & question.date.good()
 }
 
 // Whether the words are whole rows, and every question is good.
 pub(crate) fn questions_good(questions: &[u32]) -> bool
     ensures { result ≡ (is_whole question_width questions.now && all_of question_shaped (questions_in questions.now)) }
 {
-    if questions.len() % QUESTION_WIDTH != 0 {
-        return false;
-    }
-    let n = question_count(questions);
-    let mut i = 0;
-    while i < n {
-        if !question_good(question_at(questions, i)) {
-            return false;
-        }
-        i += 1;
-    }
-    true
+    let (rows, over) = questions.as_chunks::<QUESTION_WIDTH>();
+    over.is_empty() && rows.iter().all(question_good)
 }

@@ -1,125 +1,97 @@
 // Blocks of claims as sorted keys. A key holds a claim's tag, date and number in the block, so that the claims to a tag stand together
 // in the order of their dates, those of one date in list order.
-ghost use Rattle.std.specs.Prelude.{◌≡◌, ◌+◌, ◌<◌, ◌≤◌, leb};
+ghost use Rattle.std.specs.Prelude.{◌≡◌, ◌+◌, ◌<◌, ◌≤◌, leb, IfSome};
 ghost use Rattle.sorting.specs.Sort.{sort_by};
+ghost use Rattle.lists.specs.Options.{option_of};
 ghost use Rattle.search.specs.Halving.{CountsBelow};
 ghost use Rattle.claims.specs.Claims.{claims_left};
 ghost use Rattle.questions.specs.Layout.{three_letters, claim_numbers, key_span};
-ghost use Rattle.questions.specs.Keys.{tag_bits, lowest_key, Fills, SortsBlock, block_room, last_asked, looked_told};
+ghost use Rattle.questions.specs.Keys.{tag_bits, lowest_key, Fills, SortsBlock, block_room, last_asked};
+ghost use Rattle.questions.specs.Holding.{taken_told};
 
 use crate::layout::{
     CLAIM_DATES, CLAIM_NUMBERS, CLAIM_SPAN, LAST_NUMBER, MOST_CLAIMS, ONE_BYTE, ONE_LETTER,
     TWO_BYTES, TWO_LETTERS,
 };
-use claims::{NextClaim, Walk};
+use claims::Claims;
 use format::{CountryTag, Eu4Date};
-use lists::least;
 use search::count_near;
 use spreading::spread_sort;
 
 // How many claims are sorted at a time: a chronicle at 01's limits is one block.
-pub const BLOCK: usize = 24576;
+pub(crate) const BLOCK: usize = 24576;
 
 // A tag's 21 bits, seven for each byte.
+#[tactic(auto, unfolding(crate::specs::Keys::tag_bits))]
 fn tag_bits(tag: CountryTag) -> u64
     ensures { (result ≡ tag_bits tag) × (result < three_letters) }
 {
-    let w = tag.word() as u64;
+    let w = u64::from(u32::from(tag));
     w / TWO_BYTES % ONE_LETTER * TWO_LETTERS
         + w / ONE_BYTE % ONE_LETTER * ONE_LETTER
         + w % ONE_LETTER
 }
 
 // The lowest key of a tag and a date: the tag's 21 bits, the date's 27, and 16 for a number.
+#[tactic(auto, unfolding(crate::specs::Keys::lowest_key))]
 fn lowest_key(tag: CountryTag, date: Eu4Date) -> u64
     ensures { (result ≡ lowest_key tag date) × (result + claim_numbers ≤ key_span) }
 {
-    tag_bits(tag) * CLAIM_SPAN + date.word() as u64 % CLAIM_DATES * CLAIM_NUMBERS
+    tag_bits(tag) * CLAIM_SPAN + u64::from(u32::from(date)) % CLAIM_DATES * CLAIM_NUMBERS
 }
 
-// How many claims were taken, and where to go on.
-#[derive(Clone, Copy)]
-pub struct Block {
-    pub count: usize,
-    pub rest: Walk,
-}
-
-// Takes as many claims as there is room for, and writes the key and the nation number of each.
-fn fill_block(
-    nations: &[u32],
-    entries: &[u32],
-    walk: Walk,
-    keys: &mut [u64],
-    owners: &mut [u64],
-) -> Block
-    ensures { Fills (claims_left nations.now entries.now walk) (claims_left nations.now entries.now result.rest) (block_room keys.old owners.old) result.count keys.old keys.new owners.old owners.new }
+// Takes as many claims as there is room for, and writes the key and the nation number of each. Gives how many were taken.
+fn fill_block(claims: &mut Claims, keys: &mut [u64], owners: &mut [u64]) -> usize
+    ensures { Fills (claims_left claims.old) (claims_left claims.new) (block_room keys.old owners.old) result keys.old keys.new owners.old owners.new }
 {
-    let room = least(least(keys.len(), owners.len()), MOST_CLAIMS);
-    let mut rest = walk;
-    let mut count = 0;
-    while count < room {
-        match rest.next_claim(nations, entries) {
-            NextClaim::Row(claim, behind) => {
-                let tag = claim.tag;
-                let date = claim.date;
-                keys[count] = lowest_key(tag, date) + count as u64;
-                owners[count] = claim.nation as u64;
-                count += 1;
-                rest = behind;
-            }
-            NextClaim::End => {
-                return Block { count, rest };
-            }
-        }
+    let room = keys.len().min(owners.len()).min(MOST_CLAIMS);
+    for count in 0..room {
+        let Some(claim) = claims.next() else {
+            return count;
+        };
+        keys[count] = lowest_key(claim.tag, claim.date) + count as u64;
+        owners[count] = claim.nation as u64;
     }
-    Block { count, rest }
+    room
 }
 
-// Takes as many claims as there is room for, and gives their sorted keys and, by their numbers, the numbers of their nations. The scratch
-// is for the sort.
-pub fn sort_block(
-    nations: &[u32],
-    entries: &[u32],
-    walk: Walk,
+// Takes as many claims as there is room for, and gives their number, their sorted keys and, by their numbers, the numbers of their nations; nothing once
+// no claim is left. The scratch is for the sort.
+pub(crate) fn sort_block(
+    claims: &mut Claims,
     keys: &mut [u64],
     owners: &mut [u64],
     scratch: &mut [u64],
-) -> Block
-    ensures { SortsBlock (claims_left nations.now entries.now walk) (claims_left nations.now entries.now result.rest) (block_room keys.old owners.old) result.count keys.old keys.new owners.old owners.new scratch.old scratch.new }
+) -> Option<usize>
+    ensures sorts { SortsBlock (claims_left claims.old) (claims_left claims.new) (block_room keys.old owners.old) (taken_told result) keys.old keys.new owners.old owners.new scratch.old scratch.new }
+    ensures some { IfSome result (λ taken. 0 < taken) }
 {
-    let block = fill_block(nations, entries, walk, keys, owners);
-    let n = block.count;
-    spread_sort(&mut keys[0..n], scratch);
-    block
+    let taken = fill_block(claims, keys, owners);
+    spread_sort(&mut keys[0..taken], scratch);
+    (taken != 0).then_some(taken)
 }
 
-// The key of a block's claim that answers a question.
-#[derive(Clone, Copy)]
-pub enum Looked {
-    Key(u64),
-    Nothing,
-}
-
-// The last key of the tag that is not after the date, which stands before key number i.
-fn key_before(keys: &[u64], i: usize, tag: CountryTag, date: Eu4Date) -> Looked
+// The last key of the tag that is not after the date, which stands before key number i. Its keys begin at date 0, which is before every date.
+fn key_before(keys: &[u64], i: usize, tag: CountryTag, date: Eu4Date) -> Option<u64>
     requires { CountsBelow keys.now (lowest_key tag date + claim_numbers) i }
-    ensures { sort_by leb keys.now ≡ keys.now → looked_told result ≡ last_asked tag date keys.now }
+    ensures { sort_by leb keys.now ≡ keys.now → option_of result ≡ last_asked tag date keys.now }
 {
-    if i == 0 {
-        return Looked::Nothing;
-    }
-    let key = keys[i - 1];
+    let key = keys[i.checked_sub(1)?];
     if key < lowest_key(tag, Eu4Date::kept(0)) {
-        Looked::Nothing
-    } else {
-        Looked::Key(key)
+        return None;
     }
+    Some(key)
 }
 
 // The last key of the tag that is not after the date, among keys that are in order: found fast with the starts that `index_block` sets for
 // them, and found all the same with any others.
-pub fn look_up_near(keys: &[u64], starts: &[u64], tag: CountryTag, date: Eu4Date) -> Looked
-    ensures { sort_by leb keys.now ≡ keys.now → looked_told result ≡ last_asked tag date keys.now }
+pub(crate) fn look_up_near(
+    keys: &[u64],
+    starts: &[u64],
+    tag: CountryTag,
+    date: Eu4Date,
+) -> Option<u64>
+    ensures { sort_by leb keys.now ≡ keys.now → option_of result ≡ last_asked tag date keys.now }
 {
     let i = count_near(keys, starts, lowest_key(tag, date) + LAST_NUMBER);
     key_before(keys, i, tag, date)

@@ -25,7 +25,7 @@ pub(crate) const CLAIM_SPAN: u64 = CLAIM_DATES * CLAIM_NUMBERS;
 pub(crate) const MOST_CLAIMS: usize = CLAIM_NUMBERS as usize;
 
 // A row holds the number of a nation plus 1 in a word: numbers below this have room.
-pub const ROW_OWNERS: usize = 4294967295;
+pub(crate) const ROW_OWNERS: usize = 4294967295;
 
 // The same number, as wide as the owners of a block.
 pub(crate) const OWNER_NUMBERS: u64 = ROW_OWNERS as u64;

@@ -5,11 +5,10 @@
 mod asked;
 mod blocks;
 mod each;
+mod holding;
 mod layout;
 mod words;
 
 pub use asked::{Question, question_at, question_count};
-pub use blocks::{BLOCK, Block, Looked, look_up_near, sort_block};
-pub use each::{Each, resolve_each};
-pub use layout::ROW_OWNERS;
-pub use words::{Words, updated_row};
+pub use each::resolve_each;
+pub use holding::{BlockPass, ClaimBlock, fit_in_rows, hold_blocks};

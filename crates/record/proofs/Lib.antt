@@ -1,7 +1,7 @@
+pub mod CountLaws
 pub mod RunLaws
-pub mod StepLaws
 pub mod OpenedLaws
-pub mod ToldLaws
-pub mod PointLaws
-pub mod SharedLaws
+pub mod TextLaws
 pub mod NarrowLaws
+pub mod ToldLaws
+pub mod SharedLaws

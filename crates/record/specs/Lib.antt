@@ -1,4 +1,3 @@
-pub mod Inside
-pub mod Runs
+pub mod Narrow
 pub mod Cursors
 pub mod Opened

@@ -1,35 +1,26 @@
--- An opened record: refused by its number exactly when its check refuses it, else its campaign, through cursors.
-use Rattle.std.specs.Prelude.{◌≡◌, List, ℕ, ◌<◌}
-use Rattle.record.specs.declared.opened.Record.{Record}
-use Rattle.record.specs.declared.opened.Opened.{Opened}
-use Rattle.record.specs.declared.opened.Opened.TheVariants.{Accepted, Refused}
+-- An opened record: refused by its number exactly when its check refuses it, else its campaign, through iterators.
+use Rattle.std.specs.Prelude as code
+use Rattle.std.specs.Prelude.{◌≡◌, List, ℕ, IfOk}
+use Rattle.format.specs.declared.refused.Refusal.{Refusal}
 use Rattle.format.specs.Campaign.{campaign_of}
-use Rattle.record.specs.Cursors.{countries_left, provinces_left, wars_left, ledgers_left, strings_left}
+use Rattle.format.specs.Refused.{number_of}
 use Rattle.format.specs.Refusal.{refusal}
+use Rattle.record.specs.declared.opened.Record.{Record}
+use Rattle.record.specs.Cursors.{countries_left, provinces_left, wars_left, ledgers_left, strings_left}
 
--- 01's number for each case of the answer.
-abbrev pub opened_number : Opened → ℕ
-opened_number (Accepted r) = 0
-opened_number (Refused n) = n
-
--- The record tells its campaign: flags, dates, and of each section a cursor that has left exactly the campaign's rows.
+-- The record tells its campaign: flags, dates, and of each section an iterator that has left exactly the campaign's rows.
 pub record Tells (xs : List ℕ) (r : Record) : Type 0 where
   pub ironman : r.ironman ≡ (campaign_of xs).ironman
   pub multiplayer : r.multiplayer ≡ (campaign_of xs).multiplayer
   pub start : r.start ≡ (campaign_of xs).start
   pub current : r.current ≡ (campaign_of xs).current
-  pub countries : countries_left xs r.countries ≡ (campaign_of xs).countries
-  pub provinces : provinces_left xs r.provinces ≡ (campaign_of xs).provinces
-  pub wars : wars_left xs r.wars ≡ (campaign_of xs).wars
-  pub ledgers : ledgers_left xs r.ledgers ≡ (campaign_of xs).ledgers
-  pub strings : strings_left xs r.strings ≡ (campaign_of xs).strings
+  pub countries : countries_left r.countries ≡ (campaign_of xs).countries
+  pub provinces : provinces_left r.provinces ≡ (campaign_of xs).provinces
+  pub wars : wars_left r.wars ≡ (campaign_of xs).wars
+  pub ledgers : ledgers_left r.ledgers ≡ (campaign_of xs).ledgers
+  pub strings : strings_left r.strings ≡ (campaign_of xs).strings
 
--- What an accepted record's rows are; a refused one has none, and a number above 0.
-abbrev pub Rows : List ℕ → Opened → Type 0
-Rows xs (Accepted r) = Tells xs r
-Rows xs (Refused n) = 0 < n
-
--- What `open_record` promises.
-pub record RightlyOpened (xs : List ℕ) (r : Opened) : Type 0 where
-  pub number : opened_number r ≡ refusal xs
-  pub rows : Rows xs r
+-- What `open_record` promises: the record's number, 0 where it is accepted, and an accepted record's rows.
+pub record RightlyOpened (xs : List ℕ) (r : code.Result Record Refusal) : Type 0 where
+  pub number : number_of r ≡ refusal xs
+  pub rows : IfOk r (Tells xs)

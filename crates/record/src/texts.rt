@@ -1,60 +1,30 @@
-// Strings vary in width: a cursor over them, and where the bytes of one stand.
-ghost use Rattle.std.specs.Prelude.{◌≡◌};
-ghost use Rattle.record.specs.Cursors.{strings_left, string_told, text_of};
+// An iterator over the strings, which vary in width.
+ghost use Rattle.std.specs.Iterator.{YieldsFirstRef, item_count};
+ghost use Rattle.record.specs.Cursors.{strings_left};
 
-use crate::runs::Run;
-use crate::{bytes, runs};
-use lists::least;
-
-// A string's place; `bytes` gives its bytes.
+// So many strings, and the bytes that they stand in.
 #[derive(Clone, Copy)]
-pub struct Text {
-    start: usize,
-    len: usize,
+pub struct Strings<'a> {
+    pub(crate) bytes: &'a [u8],
+    pub(crate) left: u32,
 }
 
-impl Text {
-    // The bytes of the string, of the slice that it was found in.
-    pub fn bytes(self, s: &[u8]) -> &[u8]
-        ensures { result.now ≡ text_of s.now self }
-    {
-        let start = self.start;
-        if s.len() < start {
-            return &s[0..0];
-        }
-        let len = least(self.len, s.len() - start);
-        let end = start + len;
-        &s[start..end]
-    }
-}
+#[tactic(auto, using(crate::proofs::TextLaws::texts))]
+impl<'a> Iterator for Strings<'a> {
+    type Item = &'a [u8];
 
-#[derive(Clone, Copy)]
-pub struct Strings(pub(crate) Run);
+    ghost next_gives = { YieldsFirstRef strings_left };
 
-#[derive(Clone, Copy)]
-pub enum NextString {
-    Row(Text, Strings),
-    End,
-}
+    ghost remaining = { item_count strings_left };
 
-impl Strings {
-    // The next string and where to go on, or the end.
-    pub fn next(self, s: &[u8]) -> NextString
-        ensures { strings_left s.now self ≡ string_told s.now result }
-    {
-        let run = self.0;
-        if !run.has(s, 1) {
-            return NextString::End;
+    fn next(&mut self) -> Option<&'a [u8]> {
+        if self.left == 0 {
+            return None;
         }
-        let at = run.at;
-        let len = bytes::byte(s, at) as usize;
-        if s.len() - (at + 1) < len {
-            return NextString::End;
-        }
-        let rest = Strings(Run {
-            at: at + 1 + len,
-            left: runs::difference(run.left, 1),
-        });
-        NextString::Row(Text { start: at + 1, len }, rest)
+        let (len, behind) = self.bytes.split_first()?;
+        let (text, rest) = behind.split_at_checked(usize::from(*len))?;
+        self.left -= 1;
+        self.bytes = rest;
+        Some(text)
     }
 }

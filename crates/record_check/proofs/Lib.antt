@@ -1,1 +1,4 @@
 pub mod RepeatLaws
+pub mod TotalLaws
+pub mod StringLaws
+pub mod VerdictLaws

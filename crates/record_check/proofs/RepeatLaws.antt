@@ -1,28 +1,34 @@
 -- A pass over numbers that marks the place of each finds a repeat exactly where there is one, if no two numbers share a place.
-use mathlib.Core.Path.{◌≡◌, refl, sym, ap, ap₂, ◌∙◌}
+use mathlib.Core.Path.{◌≡◌, refl, sym, ap, subst, ◌∙◌}
 use mathlib.Core.Bool.{Bool, true, false, ◌||◌}
 use mathlib.Core.List.{List, [], ◌∷◌, map}
-use Prim.Native.Nat.{ℕ, zero, suc, ◌+◌, ◌-◌, ◌*◌, ◌/◌, ◌%◌, ◌<◌, ◌≤◌}
+use Prim.Native.Nat.{ℕ, ◌+◌, ◌-◌, ◌*◌, ◌/◌, ◌%◌, ◌<◌}
 use native.Mathlib.Decide.{dec_lt}
 use native.Mathlib.Omega.{arith}
 use borrow.Author.Tests.{eqb-true, eq-eqb, ne_eqb}
-use lib.Dec.{eqb, ltb, leb}
-use lib.ListN.{length, get_or, set}
+use lib.Dec.{eqb, ltb}
+use lib.ListN.{length, get_or, set, drop}
 use lib.Seq.{get_or-set_same, get_or-set_other}
-use Rattle.lists.specs.Lists.{any_of, all_of, twice}
-use Rattle.lists.proofs.BoolLaws.{cases, clash, and_left, and_right}
+use Rattle.std.proofs.lemmas.List.{length-map, at_drop_more}
+use Rattle.lists.specs.Lists.{All, any_of, twice}
+use Rattle.lists.proofs.BoolLaws.{cases, clash}
+use Rattle.lists.proofs.ListLaws.{all_map, all_of_map, all_take, all-unmap, any-map, map-then}
 use Rattle.bitset.specs.Bitset.{is_marked, marking}
 use Rattle.bitset.proofs.BitsetLaws.{marked-after}
-use Rattle.format.specs.Tags.{is_tag}
-use Rattle.format.proofs.TagLaws.{Range, Bytes, word-parts, tag-bytes}
 use Rattle.format.specs.declared.head.Head.{Head}
-use Rattle.format.specs.Bytes.{tag_at, id_at}
-use Rattle.format.specs.Head.{head_of, countries_at, provinces_at}
-use Rattle.format.specs.Rows.{rows_at, country_at, province_at, PackedCountry, PackedProvince}
+use Rattle.format.specs.declared.packed.PackedCountry.{PackedCountry}
+use Rattle.format.specs.declared.packed.PackedProvince.{PackedProvince}
+use Rattle.format.specs.Tags.{is_tag}
+use Rattle.format.specs.Head.{head_of, provinces_at}
+use Rattle.format.specs.Rows.{country_at, province_at}
 use Rattle.format.specs.Campaign.{country_rows, province_rows}
-use Rattle.format.specs.Refusal.{first_of, first_in, country_number, fields_number, tag_twice, id_twice_or_above}
-use Rattle.format.proofs.RowLaws.{rows_more, map_rows}
-use Rattle.format.proofs.FirstLaws.{first-zero}
+use Rattle.format.specs.Refusal.{first_in, tag_number, country_number, head_number, fields_number, tag_twice, id_twice_or_above}
+use Rattle.format.proofs.TagLaws.{Range, Bytes, word-parts, tag-bytes}
+use Rattle.format.proofs.RowLaws.{rows_all}
+use Rattle.format.proofs.FirstLaws.{first-zero, rows-zero}
+use Rattle.format.proofs.AcceptLaws.{number-true}
+use Rattle.record_head.specs.declared.sections.Sections.{Sections}
+use Rattle.record_head.specs.Sections.{SectionsOf}
 
 -- a number of the list is marked, or stands twice in it
 unfoldable pub repeats : (ℕ → Bool) → List ℕ → Bool
@@ -32,13 +38,9 @@ any_none : {A : Type 0} (p : A → Bool) (ys : List A) → ((y : A) → p y ≡ 
 any_none p [] h = refl
 any_none p (y ∷ ys) h = simp (h y) (any_none p ys h)
 
-any-or : (p q r : ℕ → Bool) (good : ℕ → Bool) (ys : List ℕ) → ((y : ℕ) → good y ≡ true → r y ≡ p y || q y) → all_of good ys ≡ true
-    → any_of r ys ≡ any_of p ys || any_of q ys
-any-or p q r good [] h g = refl
-any-or p q r good (y ∷ ys) h g =
-    let ih = any-or p q r good ys h (and_right (good y) (all_of good ys) g) in
-    let e = h y (and_left (good y) (all_of good ys) g) in
-    simp (e, ih) (or-four (p y) (q y) (any_of p ys) (any_of q ys))
+any-or : (p q r : ℕ → Bool) (ys : List ℕ) → All (λ y. r y ≡ p y || q y) ys → any_of r ys ≡ any_of p ys || any_of q ys
+any-or p q r [] h = refl
+any-or p q r (y ∷ ys) h = simp (h.0, any-or p q r ys h.1) (or-four (p y) (q y) (any_of p ys) (any_of q ys))
   where
     or-four : (a b c d : Bool) → (a || b) || (c || d) ≡ (a || c) || (b || d)
     or-four true b c d = refl
@@ -46,10 +48,6 @@ any-or p q r good (y ∷ ys) h g =
     or-four false true false d = refl
     or-four false false true d = refl
     or-four false false false d = refl
-
-all_true : (ys : List ℕ) → all_of (λ _. true) ys ≡ true
-all_true [] = refl
-all_true (y ∷ ys) = all_true ys
 
 pub repeats-start : (marked : ℕ → Bool) → ((y : ℕ) → marked y ≡ false) → (ys : List ℕ) → repeats marked ys ≡ twice ys
 unfolding repeats
@@ -59,17 +57,16 @@ pub repeats-nil : (marked : ℕ → Bool) → repeats marked [] ≡ false
 unfolding repeats
 repeats-nil marked = refl
 
-repeats-hit : (marked : ℕ → Bool) (x : ℕ) (ys : List ℕ) → marked x ≡ true → repeats marked (x ∷ ys) ≡ true
+pub repeats-hit : (marked : ℕ → Bool) (x : ℕ) (ys : List ℕ) → marked x ≡ true → repeats marked (x ∷ ys) ≡ true
 unfolding repeats
 repeats-hit marked x ys h = simp h
 
 -- marked before, and after x has been marked besides
-repeats-mark : (before after good : ℕ → Bool) (x : ℕ) (ys : List ℕ)
-    → ((y : ℕ) → good y ≡ true → after y ≡ eqb x y || before y) → all_of good ys ≡ true
+repeats-mark : (before after : ℕ → Bool) (x : ℕ) (ys : List ℕ) → All (λ y. after y ≡ eqb x y || before y) ys
     → before x ≡ false → repeats before (x ∷ ys) ≡ repeats after ys
 unfolding repeats
-repeats-mark before after good x ys more g h =
-    simp (h, any-or (eqb x) before after good ys more g) (or_swap (any_of before ys) (any_of (eqb x) ys) (twice ys))
+repeats-mark before after x ys more h =
+    simp (h, any-or (eqb x) before after ys more) (or_swap (any_of before ys) (any_of (eqb x) ys) (twice ys))
   where
     or_swap : (a b c : Bool) → a || (b || c) ≡ (b || a) || c
     or_swap true true c = refl
@@ -114,13 +111,16 @@ pub place_same : (x : ℕ) → is_tag (record { 0 = x }) ≡ true → (y : ℕ) 
 place_same x hx y hy =
     cases (eqb x y)
     (λ h. let e : x ≡ y = eqb-true x y h in simp h (eq-eqb (place_of y) (place_of x) (ap place_of (sym e))))
-    (λ h. simp h (ne_eqb (place_of y) (place_of x) (λ e. clash (eqb x y) (eq-eqb x y (place-apart x y (tag-bytes (record { 0 = x }) hx) (tag-bytes (record { 0 = y }) hy) (sym e))) h)))
+    (λ h. simp h (ne_eqb (place_of y) (place_of x) (λ e. clash (eqb x y) (eq-eqb x y (place-apart x y (bytes x hx) (bytes y hy) (sym e))) h)))
+  where
+    bytes : (w : ℕ) → is_tag (record { 0 = w }) ≡ true → Bytes w
+    bytes w = tag-bytes (record { 0 = w })
 
--- ## One row of a pass
+-- ## One number of a pass
 
 -- a word that is a tag's
-abbrev pub tag_word : ℕ → Bool
-tag_word w = is_tag (record { 0 = w })
+abbrev pub TagWord : ℕ → Type 0
+TagWord w = is_tag (record { 0 = w }) ≡ true
 
 -- a tag's word whose place has its bit, and an id that has its mark
 abbrev pub tag_seen : List ℕ → ℕ → Bool
@@ -129,87 +129,88 @@ tag_seen seen w = is_marked seen (place_of w)
 abbrev pub id_seen : List Bool → ℕ → Bool
 id_seen seen id = get_or seen id false
 
+pub tag-marked : (seen : List ℕ) (x : ℕ) (ys : List ℕ) → length seen ≡ 6859 → TagWord x → All TagWord ys → tag_seen seen x ≡ false
+    → repeats (tag_seen seen) (x ∷ ys) ≡ repeats (tag_seen (marking seen (place_of x))) ys
+tag-marked seen x ys size hx good h =
+    let small = place-small x (tag-bytes (record { 0 = x }) hx) in
+    let more : (y : ℕ) → TagWord y → tag_seen (marking seen (place_of x)) y ≡ eqb x y || tag_seen seen y =
+    λ y hy. marked-after seen (place_of x) (place_of y) (omega (arith, small, size)) ∙ ap (λ b. b || tag_seen seen y) (place_same x hx y hy) in
+    repeats-mark (tag_seen seen) (tag_seen (marking seen (place_of x))) x ys (all_map more ys good) h
+
 id-after : (seen : List Bool) (x y : ℕ) → x < length seen → id_seen (set seen x true) y ≡ eqb x y || id_seen seen y
 id-after seen x y h =
     cases (eqb x y)
     (λ e. let same : y ≡ x = sym (eqb-true x y e) in simp e (rw same (get_or-set_same seen x true false h)))
     (λ e. simp e (get_or-set_other seen x y true false (λ same. clash (eqb x y) (eq-eqb x y (sym same)) e)))
 
-module _ (word : ℕ → ℕ) (width : ℕ) (xs : List ℕ) (at n : ℕ) (some : 0 < n) (inside : at + width ≤ length xs) where
-  pub rows-good : all_of tag_word (rows_at word width xs at n) ≡ true
-      → (tag_word (word at) ≡ true) × (all_of tag_word (rows_at word width xs (at + width) (n - 1)) ≡ true)
-  rows-good h =
-      let g = sym (ap (all_of tag_word) (rows_more word width xs at n some inside)) ∙ h in
-      (and_left (tag_word (word at)) _ g, and_right (tag_word (word at)) _ g)
+-- An id stands twice, or is above a bound, by the marks so far.
+abbrev pub ids_bad : ℕ → List Bool → List ℕ → Bool
+ids_bad bound seen ys = repeats (id_seen seen) ys || any_of (ltb bound) ys
 
-  pub rows-hit : (marked : ℕ → Bool) → marked (word at) ≡ true → repeats marked (rows_at word width xs at n) ≡ true
-  rows-hit marked h = ap (repeats marked) (rows_more word width xs at n some inside) ∙ repeats-hit marked _ _ h
+pub ids-nil : (bound : ℕ) (seen : List Bool) → ids_bad bound seen [] ≡ false
+ids-nil bound seen = simp (repeats-nil (id_seen seen))
 
-  pub tag-marked : (seen : List ℕ) → length seen ≡ 6859 → all_of tag_word (rows_at word width xs at n) ≡ true
-      → tag_seen seen (word at) ≡ false
-      → repeats (tag_seen seen) (rows_at word width xs at n)
-      ≡ repeats (tag_seen (marking seen (place_of (word at)))) (rows_at word width xs (at + width) (n - 1))
-  tag-marked seen size good h =
-      let g = rows-good good in
-      let small = place-small (word at) (tag-bytes (record { 0 = word at }) g.0) in
-      let more : (y : ℕ) → tag_word y ≡ true → tag_seen (marking seen (place_of (word at))) y ≡ eqb (word at) y || tag_seen seen y =
-      λ y gy. marked-after seen (place_of (word at)) (place_of y) (omega (arith, small, size)) ∙ ap (λ b. b || tag_seen seen y) (place_same (word at) g.0 y gy) in
-      ap (repeats (tag_seen seen)) (rows_more word width xs at n some inside)
-      ∙ repeats-mark (tag_seen seen) (tag_seen (marking seen (place_of (word at)))) tag_word (word at) _ more g.1 h
+pub id-hit : (bound : ℕ) (seen : List Bool) (x : ℕ) (ys : List ℕ) → id_seen seen x ≡ true → ids_bad bound seen (x ∷ ys) ≡ true
+id-hit bound seen x ys h = ap (λ b. b || any_of (ltb bound) (x ∷ ys)) (repeats-hit (id_seen seen) x ys h)
 
-  pub id-marked : (seen : List Bool) → word at < length seen → id_seen seen (word at) ≡ false
-      → repeats (id_seen seen) (rows_at word width xs at n)
-      ≡ repeats (id_seen (set seen (word at) true)) (rows_at word width xs (at + width) (n - 1))
-  id-marked seen small h =
-      ap (repeats (id_seen seen)) (rows_more word width xs at n some inside)
-      ∙ repeats-mark (id_seen seen) (id_seen (set seen (word at) true)) (λ _. true) (word at) _ (λ y _. id-after seen (word at) y small) (all_true (rows_at word width xs (at + width) (n - 1))) h
+pub id-marked : (bound : ℕ) (seen : List Bool) (x : ℕ) (ys : List ℕ) → ltb bound x ≡ false → x < length seen → id_seen seen x ≡ false
+    → ids_bad bound seen (x ∷ ys) ≡ ids_bad bound (set seen x true) ys
+id-marked bound seen x ys low small h =
+    let more : All (λ y. id_seen (set seen x true) y ≡ eqb x y || id_seen seen y) ys = all_every (λ y. id-after seen x y small) ys in
+    simp low (ap (λ b. b || any_of (ltb bound) ys) (repeats-mark (id_seen seen) (id_seen (set seen x true)) x ys more h))
+  where
+    all_every : {A : Type 0} {P : A → Type 0} → ((a : A) → P a) → (l : List A) → All P l
+    all_every f [] = tt
+    all_every f (a ∷ l) = (f a, all_every f l)
 
-  -- a number above a bound, at this row or behind it
-  pub rows_above : (bound : ℕ) → ltb bound (word at) ≡ true → any_of (ltb bound) (rows_at word width xs at n) ≡ true
-  rows_above bound h = ap (any_of (ltb bound)) (rows_more word width xs at n some inside) ∙ simp h
+-- ## One row of a pass
 
-  pub rows-not-above : (bound : ℕ) → ltb bound (word at) ≡ false
-      → any_of (ltb bound) (rows_at word width xs at n) ≡ any_of (ltb bound) (rows_at word width xs (at + width) (n - 1))
-  rows-not-above bound h = ap (any_of (ltb bound)) (rows_more word width xs at n some inside) ∙ simp h
+module _ {B : Type 0} (word : B → ℕ) (rows : List B) (i : ℕ) (d : B) (some : i < length rows) where
+  abbrev pub row : B
+  row = get_or rows i d
+
+  abbrev pub behind : List B
+  behind = drop (i + 1) rows
+
+  pub row-ahead : {C : Type 0} (f : List ℕ → C) → f (map word (drop i rows)) ≡ f (word row ∷ map word behind)
+  row-ahead f = at_drop_more (λ l. f (map word l)) rows i d some
+
+  pub tag-row : (seen : List ℕ) → length seen ≡ 6859 → All (λ r. TagWord (word r)) rows → tag_seen seen (word row) ≡ false
+      → repeats (tag_seen seen) (map word (drop i rows)) ≡ repeats (tag_seen (marking seen (place_of (word row)))) (map word behind)
+  tag-row seen size good h =
+      let g : TagWord (word row) × All (λ r. TagWord (word r)) behind =
+      subst (All (λ r. TagWord (word r))) (at_drop_more (λ l. l) rows i d some) (all_take (λ r. TagWord (word r)) i rows good).1 in
+      row-ahead (repeats (tag_seen seen))
+      ∙ tag-marked seen (word row) (map word behind) size g.0 (all_of_map TagWord word (λ r t. t) behind g.1) h
 
 -- ## The rows of a record
 
 -- a country that is not refused has a good tag
 country-tag : (r : PackedCountry) → country_number r ≡ 0 → is_tag r.tag ≡ true
-unfolding country_number first_of
-country-tag r h = cases (is_tag r.tag) (λ g. g) (λ g. absurd (four (simp g at h)))
-  where
-    four : ◌≡◌ {A = ℕ} 4 0 → ⊥
-    four e = omega arith
+unfolding country_number
+country-tag r h = number-true (is_tag r.tag) 4 (omega arith) (first-zero (tag_number r.tag) _ h).0
 
-pub countries-good : (xs : List ℕ) (at n : ℕ) → first_in country_number (rows_at (country_at xs) 12 xs at n) ≡ 0
-    → all_of tag_word (rows_at (λ (a : ℕ). (tag_at xs a).0) 12 xs at n) ≡ true
-unfolding rows_at first_in country_at is_tag
-countries-good xs at zero h = refl
-countries-good xs at (suc n) h =
-    cases (leb (at + 12) (length xs))
-    (λ i. let z = first-zero (country_number (country_at xs at)) _ (simp i at h) in simp (i, country-tag (country_at xs at) z.0) (countries-good xs (at + 12) n z.1))
-    (λ i. simp i)
-
-pub fields-countries : (xs : List ℕ) → fields_number xs ≡ 0 → first_in country_number (country_rows xs) ≡ 0
+pub countries-good : (xs : List ℕ) (h : Head) (z : Sections) → h ≡ head_of xs → SectionsOf xs h z → 0 ≡ fields_number xs
+    → All (λ row. is_tag (country_at row 0).tag ≡ true) z.countries.now
 unfolding fields_number
-fields-countries xs h = (first-zero _ _ (first-zero _ _ h).1).0
+countries-good xs h z e s ok =
+    let none = (first-zero _ _ (first-zero (head_number (head_of xs)) _ (sym ok)).1).0 in
+    let same : map (λ row. country_at row 0) z.countries.now ≡ country_rows xs = rw e at s.countries in
+    let zero = rows-zero country_number (map (λ row. country_at row 0) z.countries.now) (ap (first_in country_number) same ∙ none) in
+    all_map (λ row. country-tag (country_at row 0)) z.countries.now (all-unmap (λ r. country_number r ≡ 0) (λ row. country_at row 0) z.countries.now zero)
 
-any-map : {A B : Type 0} (p : B → Bool) (f : A → B) (l : List A) → any_of (λ (x : A). p (f x)) l ≡ any_of p (map f l)
-any-map p f [] = refl
-any-map p f (x ∷ l) = ap (λ b. p (f x) || b) (any-map p f l)
-
-pub tag-twice-told : (xs : List ℕ) (h : Head) → h ≡ head_of xs
-    → twice (rows_at (λ (a : ℕ). (tag_at xs a).0) 12 xs (countries_at h) h.countries) ≡ tag_twice xs
-unfolding tag_twice country_at
-tag-twice-told xs h e = rw e (ap twice (sym (map_rows (λ (r : PackedCountry). r.tag.0) (country_at xs) 12 xs (countries_at (head_of xs)) (head_of xs).countries)))
-
-pub id-twice-told : (xs : List ℕ) (h : Head) (at : ℕ) → h ≡ head_of xs → at ≡ provinces_at h
-    → twice (rows_at (λ (a : ℕ). (id_at xs a).0) 7 xs at h.provinces) || any_of (ltb h.provinces) (rows_at (λ (a : ℕ). (id_at xs a).0) 7 xs at h.provinces)
-    ≡ id_twice_or_above xs
-unfolding id_twice_or_above province_at
-id-twice-told xs h at e p =
-    let ids = map_rows (λ (r : PackedProvince). r.id.0) (province_at xs) 7 xs (provinces_at (head_of xs)) (head_of xs).provinces in
-    rw (p, e)
-    (sym (ap₂ ◌||◌ (ap twice ids)
-    (any-map (ltb (head_of xs).provinces) (λ (r : PackedProvince). r.id.0) (province_rows xs) ∙ ap (any_of (ltb (head_of xs).provinces)) ids)))
+pub repeats-told : (xs : List ℕ) (h : Head) (z : Sections) → h ≡ head_of xs → SectionsOf xs h z
+    → twice (map (λ row. (country_at row 0).tag.0) z.countries.now)
+    || (twice (map (λ row. (province_at row 0).id.0) z.provinces.now)
+    || any_of (ltb (length z.provinces.now)) (map (λ row. (province_at row 0).id.0) z.provinces.now))
+    ≡ tag_twice xs || id_twice_or_above xs
+unfolding tag_twice id_twice_or_above
+repeats-told xs h z e s =
+    let tags : map (λ row. (country_at row 0).tag.0) z.countries.now ≡ map (λ r. r.tag.0) (country_rows xs) =
+    sym (map-then (λ row. country_at row 0) (λ r. r.tag.0) z.countries.now) ∙ ap (map (λ r. r.tag.0)) (rw e at s.countries) in
+    let ids : map (λ row. (province_at row 0).id.0) z.provinces.now ≡ map (λ r. r.id.0) (province_rows xs) =
+    sym (map-then (λ row. province_at row 0) (λ r. r.id.0) z.provinces.now) ∙ ap (map (λ r. r.id.0)) (rw e at s.provinces) in
+    let whole = rows_all (province_at xs) 7 xs (provinces_at h) h.provinces (omega (arith, s.inside)) in
+    let many : length z.provinces.now ≡ (head_of xs).provinces =
+    rw e at (sym (length-map z.provinces.now (λ row. province_at row 0)) ∙ ap length s.provinces ∙ whole) in
+    rw (tags, ids, many, any-map (ltb (head_of xs).provinces) (λ (r : PackedProvince). r.id.0) (province_rows xs))

@@ -1,9 +1,8 @@
-// The check of a record: which number refuses it, if any does.
+// The check of a record: what refuses it, if anything does.
 #![tactic(auto)]
 
-mod bytes;
-mod refusal;
 mod repeats;
 mod sizes;
+mod verdict;
 
-pub use refusal::check;
+pub use verdict::{Accepted, accept, check};

@@ -1,112 +1,74 @@
 // Number 3: limits, totals and length.
-ghost use Rattle.std.specs.Prelude.{◌≡◌, ◌+◌, ◌*◌, ◌<◌, ◌≤◌, eqb, length};
+ghost use Rattle.std.specs.Prelude.{◌≡◌, true, false, List, ℕ, ◌≤◌, eqb, map, IfOk, IfErr, length};
 ghost use Rattle.lists.specs.Lists.{sum_of};
-ghost use Rattle.format.specs.Bytes.{le16};
 ghost use Rattle.format.specs.Head.{head_of};
-ghost use Rattle.format.specs.Laid.{Laid};
-ghost use Rattle.format.specs.Rows.{rows_at, strings_end};
-ghost use Rattle.format.specs.Campaign.{country_rows, province_rows, war_rows, ledger_rows};
+ghost use Rattle.format.specs.Rows.{strings_end};
 ghost use Rattle.format.specs.Refusal.{totals_agree, sizes_agree};
+ghost use Rattle.record_head.specs.Sections.{SectionsOf};
+ghost use Rattle.record_check.specs.Few.{FewRows};
 
-use crate::bytes;
-use format::Head;
+use format::{Head, Packed, PackedCountry, PackedLedger, PackedProvince, Refusal};
+use record_head::Sections;
 
-// The sum of a 16-bit count at offset k of each of n rows.
-fn total(s: &[u8], at: usize, width: usize, k: usize, n: usize) -> usize
-    requires { (at + width * n ≤ length s.now) × (k + 2 ≤ width) × (n < 65536) }
-    ensures { result ≡ sum_of (λ x. x) (rows_at (λ a. le16 s.now (a + k)) width s.now at n) }
+// The sum of a count in each row, of which there are few.
+fn total<R: Packed<WIDTH>, const WIDTH: usize, F: Fn(R) -> u32>(
+    rows: &[[u8; WIDTH]],
+    count: F,
+) -> usize
+    requires callable { F.IsAlwaysCallable count }
+    requires few { length rows.now ≤ 8000 }
+    ensures { (number : R → ℕ) → ((row : R) (n : ℕ) → F.post count row n → n ≡ number row) → result ≡ sum_of number (map R.unpacked rows.now) }
 {
     let mut sum = 0;
-    let mut a = at;
-    let mut left = n;
-    while 0 < left {
-        sum += bytes::u16_at(s, a + k) as usize;
-        a += width;
-        left -= 1;
+    for row in rows {
+        sum += count(R::unpack(row)) as usize;
     }
     sum
 }
 
-// The counts in the rows that own others, added up for each section owned.
-fn previous_total(s: &[u8], h: Head) -> usize
-    requires { Laid s.now h }
-    ensures { result ≡ sum_of (λ r. r.previous) (country_rows s.now) }
-{
-    total(s, record_head::COUNTRIES_AT, 12, 8, h.countries as usize)
-}
-
-fn switches_total(s: &[u8], h: Head) -> usize
-    requires { Laid s.now h }
-    ensures { result ≡ sum_of (λ r. r.switches) (country_rows s.now) }
-{
-    total(s, record_head::COUNTRIES_AT, 12, 10, h.countries as usize)
-}
-
-fn events_total(s: &[u8], h: Head) -> usize
-    requires { Laid s.now h }
-    ensures { result ≡ sum_of (λ r. r.events) (province_rows s.now) }
-{
-    total(s, record_head::provinces_at(h), 7, 5, h.provinces as usize)
-}
-
-fn war_events_total(s: &[u8], h: Head) -> usize
-    requires { Laid s.now h }
-    ensures { result ≡ sum_of (λ n. n) (war_rows s.now) }
-{
-    total(s, record_head::wars_at(h), 2, 0, h.wars as usize)
-}
-
-fn points_total(s: &[u8], h: Head) -> usize
-    requires { Laid s.now h }
-    ensures { result ≡ sum_of (λ r. r.points) (ledger_rows s.now) }
-{
-    total(s, record_head::ledgers_at(h), 5, 3, h.ledgers as usize)
-}
-
 // The rows that own others count as many as the head says.
-fn totals_agree(s: &[u8], h: Head) -> bool
-    requires { Laid s.now h }
-    ensures { result ≡ totals_agree s.now }
+fn totals_agree(head: Head, sections: Sections) -> bool
+    requires { FewRows sections }
+    ensures { (xs : List ℕ) → head ≡ head_of xs → SectionsOf xs head sections.entry → result ≡ totals_agree xs }
 {
-    (previous_total(s, h) == h.previous as usize)
-        & (switches_total(s, h) == h.switches as usize)
-        & (events_total(s, h) == h.events as usize)
-        & (war_events_total(s, h) == h.war_events as usize)
-        & (points_total(s, h) == h.points as usize)
+    (total(sections.countries, |row: PackedCountry| row.previous) == head.previous as usize)
+        & (total(sections.countries, |row: PackedCountry| row.switches) == head.switches as usize)
+        & (total(sections.provinces, |row: PackedProvince| row.events) == head.events as usize)
+        & (total(sections.wars, |row: u32| row) == head.war_events as usize)
+        & (total(sections.ledgers, |row: PackedLedger| row.points) == head.points as usize)
 }
 
-// The bytes end where n strings from an offset on do.
-fn length_agrees(s: &[u8], at: usize, n: usize) -> bool
-    requires { at ≤ length s.now }
-    ensures { result ≡ eqb (strings_end s.now at n) (length s.now) }
+// Whether the bytes are just so many strings.
+fn strings_fill(bytes: &[u8], n: u32) -> bool
+    ensures { result ≡ eqb (strings_end bytes.now 0 n) (length bytes.now) }
 {
-    let mut a = at;
-    let mut left = n;
-    while 0 < left {
-        if s.len() <= a {
+    let mut rest = bytes;
+    for _ in 0..n {
+        let Some((len, behind)) = rest.split_first() else {
             return false;
-        }
-        let len = record_head::byte(s, a) as usize;
-        if s.len() - a <= len {
+        };
+        let Some((_, next)) = behind.split_at_checked(usize::from(*len)) else {
             return false;
-        }
-        a += 1 + len;
-        left -= 1;
+        };
+        rest = next;
     }
-    a == s.len()
+    rest.is_empty()
 }
 
-// No count is above its limit, the totals agree with the head, and the rows need exactly the bytes that are there.
-pub(crate) fn sizes_agree(s: &[u8], h: Head) -> bool
-    requires { h ≡ head_of s.now }
-    ensures { result ≡ sizes_agree s.now }
+// The sections, where no count is above its limit, the totals agree with the head, and the rows need exactly the bytes that are there.
+pub(crate) fn sections_agreeing(s: &[u8], head: Head) -> Result<Sections<'_>, Refusal>
+    ensures agreeing { head ≡ head_of s.now → IfOk result (λ z. (sizes_agree s.now ≡ true) × SectionsOf s.now head z) }
+    ensures wrong { head ≡ head_of s.now → IfErr result (λ e. (e ≡ Refusal.WrongSizes) × (sizes_agree s.now ≡ false)) }
 {
-    if !record_head::within_limits(h) {
-        return false;
+    if !record_head::within_limits(head) {
+        return Err(Refusal::WrongSizes);
     }
-    let end = record_head::strings_at(h);
-    if s.len() < end {
-        return false;
+    let Some(sections) = record_head::sections_of(s, head) else {
+        return Err(Refusal::WrongSizes);
+    };
+    if totals_agree(head, sections) & strings_fill(sections.strings, head.strings) {
+        Ok(sections)
+    } else {
+        Err(Refusal::WrongSizes)
     }
-    totals_agree(s, h) & length_agrees(s, end, h.strings as usize)
 }

@@ -3,9 +3,9 @@ use Rattle.std.specs.Prelude.{◌≡◌, Bool, false, List, ℕ, ◌<◌, ◌≤
 use Rattle.format.specs.Tags.{tag_byte}
 use Rattle.format.specs.Days.{is_day}
 
--- A table that holds the tag rule of every byte.
+-- A table that holds for every number whether it is a tag's byte.
 pub record TagTable (table : List Bool) : Type 0 where
-  pub rule : (b : ℕ) → b < 256 → get_or table b false ≡ tag_byte b
+  pub rule : (b : ℕ) → get_or table b false ≡ tag_byte b
 
 -- A table that holds for every number whether it is month×100 + day of a day.
 pub record DayTable (table : List Bool) : Type 0 where

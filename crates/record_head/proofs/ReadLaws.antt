@@ -1,68 +1,69 @@
--- What reads past the end give; and words, tags and a head of what they are read from.
-use mathlib.Core.Path.{◌≡◌, ap, ◌∙◌}
-use mathlib.Core.List.{List}
-use Prim.Native.Nat.{ℕ, ◌+◌, ◌*◌, ◌≤◌}
+-- The head of bytes that are filled up with zeros, and the rows of sections that are taken one behind the other.
+use mathlib.Core.Path.{◌≡◌, refl, sym, ap, ap₂, ◌∙◌}
+use mathlib.Core.List.{List, ◌∷◌, ◌++◌, map}
+use Prim.Native.Nat.{ℕ, zero, suc, ◌+◌, ◌-◌, ◌*◌, ◌/◌, ◌<◌, ◌≤◌, min}
+use native.Mathlib.Nat.{zero-add, mul-suc, mul-div_cancel_left}
+use native.Mathlib.Decide.{dec_lt}
 use native.Mathlib.Omega.{arith}
-use lib.ListN.{length, get_or-eq_default}
-use Rattle.format.specs.declared.tag.CountryTag.{CountryTag}
-use Rattle.format.specs.declared.head.Head.{Head}
-use Rattle.format.specs.declared.date.Eu4Date.{Eu4Date}
-use Rattle.format.specs.Tags.{tag_of}
-use Rattle.format.specs.Bytes.{byte_at, le16, le32, tag_at, date_at}
+use lib.ListN.{length, take, drop, replicate, get_or-eq_default, length-take, length-drop, get_or-append}
+use lib.Seq.{take-take}
+use Rattle.std.proofs.lemmas.List.{get_or-take, get_or-drop, get_or-append_right, drop-drop, drop-take}
+use Rattle.std.specs.Simd.{first_chunks}
+use Rattle.lists.proofs.TableLaws.{blank}
+use Rattle.format.specs.Bytes.{byte_at}
 use Rattle.format.specs.Head.{head_of}
+use Rattle.format.specs.Rows.{rows_at}
+use Rattle.format.proofs.PackedLaws.{Reads, head-same, rows_cut}
 
--- Behind the end every byte is 0, and so is every number of them.
-module _ (xs : List ℕ) (at : ℕ) (behind : length xs ≤ at) where
-  byte_past : (k : ℕ) → byte_at xs (at + k) ≡ 0
-  byte_past k = get_or-eq_default xs 0 (omega arith)
+-- Behind the end every byte is 0, so zeros in the place of what is missing change nothing.
+filled : (xs : List ℕ) (size n : ℕ) → n ≡ min (length xs) size → (k : ℕ) → k < size
+    → byte_at (take n xs ++ drop n (replicate size 0)) k ≡ byte_at xs k
+filled xs size n e k h =
+    let taken : length (take n xs) ≡ n = omega (arith, length-take n xs) in
+    elim (dec_lt k n) as (λ _. byte_at (take n xs ++ drop n (replicate size 0)) k ≡ byte_at xs k) [
+      | yes p ↦ get_or-append (take n xs) (drop n (replicate size 0)) 0 k (omega arith) ∙ get_or-take n xs k 0 p
+      | no p ↦
+          get_or-append_right (take n xs) (drop n (replicate size 0)) n k 0 taken (omega arith)
+          ∙ get_or-drop n (replicate size 0) (k - n) 0
+          ∙ blank 0 size (n + (k - n))
+          ∙ sym (get_or-eq_default xs 0 (omega arith))
+    ]
 
-  pub le16-past : le16 xs at ≡ 0
-  unfolding le16
-  le16-past = rw (get_or-eq_default xs 0 behind, byte_past 1)
+pub head-filled : (xs front : List ℕ) (n : ℕ) → n ≡ min (length xs) 44 → front ≡ take n xs
+    → head_of (front ++ drop n (replicate 44 0)) ≡ head_of xs
+head-filled xs front n e f =
+    ap (λ l. head_of (l ++ drop n (replicate 44 0))) f
+    ∙ head-same (take n xs ++ drop n (replicate 44 0)) xs (record { byte = λ k h. rw (zero-add k) (filled xs 44 n e k h) })
 
-  pub le32-past : le32 xs at ≡ 0
-  unfolding le32
-  le32-past = rw (get_or-eq_default xs 0 behind, byte_past 1, byte_past 2, byte_past 3)
+-- Rows that are cut out of the front of some bytes are cut out of the bytes.
+front-chunks : (w n : ℕ) (xs : List ℕ) → first_chunks w n (take (w * n) xs) ≡ first_chunks w n xs
+front-chunks w zero xs = refl
+front-chunks w (suc n) xs =
+    let next : w * suc n ≡ w + w * n = omega (arith, mul-suc w n) in
+    rw next
+    (ap₂ ◌∷◌ (take-take w (w + w * n) xs (omega arith)) (ap (first_chunks w n) (drop-take w (w * n) xs) ∙ front-chunks w n (drop w xs)))
 
-  pub tag-past : tag_at xs at ≡ tag_of 0 0 0
-  unfolding tag_at
-  tag-past = rw (get_or-eq_default xs 0 behind, byte_past 1, byte_past 2)
+pub chunks-told : (w n : ℕ) (xs rows : List ℕ) → 0 < w → rows ≡ take (w * n) xs → length rows ≡ w * n
+    → first_chunks w (length rows / w) rows ≡ first_chunks w n xs
+chunks-told w n xs rows p e size =
+    let many : length rows / w ≡ n = ap (λ (k : ℕ). k / w) size ∙ mul-div_cancel_left n p in
+    ap (λ (k : ℕ). first_chunks w k rows) many ∙ ap (first_chunks w n) e ∙ front-chunks w n xs
 
--- 32 bits are twice 16.
-pub le32-halves : (xs : List ℕ) (at : ℕ) → le32 xs at ≡ le16 xs at + le16 xs (at + 2) * 65536
-unfolding le16 le32
-le32-halves xs at = let next : at + 2 + 1 ≡ at + 3 = omega arith in rw next (omega arith)
+-- What is left of the bytes behind a place.
+pub record Behind (xs : List ℕ) (at : ℕ) (rest : List ℕ) : Type 0 where
+  pub inside : at ≤ length xs
+  pub left : rest ≡ drop at xs
 
--- A tag by its word.
-abbrev worded : ℕ → CountryTag
-worded w = record { 0 = w }
+-- So many rows are taken from what is left: they are a section of the rules, and what is left behind them begins where they end.
+module _ {xs : List ℕ} {at : ℕ} {bytes : List ℕ} (b : Behind xs at bytes) (w n : ℕ) (room : w * n ≤ length bytes) where
+  inside : at + w * n ≤ length xs
+  inside = omega (arith, b.inside, room, ap length b.left, length-drop at xs)
 
-pub tag-told : (xs : List ℕ) (at : ℕ) (t : CountryTag) {x y z : ℕ} → x ≡ byte_at xs at → y ≡ byte_at xs (at + 1) → z ≡ byte_at xs (at + 2)
-    → t.0 ≡ x * 65536 + y * 256 + z → t ≡ tag_at xs at
-unfolding tag_at
-tag-told xs at t ex ey ez e = ap worded (e ∙ rw (ex, ey, ez))
+  pub behind-rows : (rest : List ℕ) → rest ≡ drop (w * n) bytes → Behind xs (at + w * n) rest
+  behind-rows rest e =
+      record { inside = inside; left = e ∙ ap (drop (w * n)) b.left ∙ drop-drop (w * n) at xs }
 
--- The head of its fields.
-pub head-told : (xs : List ℕ) {v f c p a s e n w we g y : ℕ} {start current : Eu4Date}
-    → v ≡ le16 xs 3 → f ≡ byte_at xs 5 → start ≡ date_at xs 6 → current ≡ date_at xs 10 → c ≡ le16 xs 14 → p ≡ le16 xs 16 → a ≡ le32 xs 18
-    → s ≡ le32 xs 22 → e ≡ le32 xs 26 → n ≡ le16 xs 30 → w ≡ le16 xs 32 → we ≡ le32 xs 34 → g ≡ le16 xs 38 → y ≡ le32 xs 40
-    → ◌≡◌ {A = Head}
-    (record {
-      version = v;
-      flags = f;
-      start = start;
-      current = current;
-      countries = c;
-      provinces = p;
-      previous = a;
-      switches = s;
-      events = e;
-      strings = n;
-      wars = w;
-      war_events = we;
-      ledgers = g;
-      points = y;
-    })
-    (head_of xs)
-unfolding head_of
-head-told xs ev ef es ec e1 e2 e3 e4 e5 e6 e7 e8 e9 e10 = rw (ev, ef, es, ec, e1, e2, e3, e4, e5, e6, e7, e8, e9, e10)
+  pub rows-told : {A : Type 0} (read : List ℕ → ℕ → A) → Reads w read → (rows : List (List ℕ)) → rows ≡ first_chunks w n bytes
+      → map (λ row. read row 0) rows ≡ rows_at (read xs) w xs at n
+  rows-told read reads rows e =
+      ap (map (λ row. read row 0)) (e ∙ ap (first_chunks w n) b.left) ∙ rows_cut read w reads xs at n inside

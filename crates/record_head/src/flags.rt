@@ -1,38 +1,31 @@
-// Flags. A bit is tested by its mask, and so is that no bit without a meaning is set.
+// Flags. A mask finds every bit that has no meaning.
 ghost use Rattle.std.specs.Prelude.{◌≡◌, ltb};
 ghost use Rattle.format.specs.Bytes.{bit};
 
-// Bit 0: ironman, of a country human.
-pub fn bit0(flags: u32) -> bool
-    ensures { result ≡ bit 0 flags }
+// The head defines bits 0 and 1 of its flags, a country bits 0 to 2: the others.
+const HEAD_OTHERS: u32 = 0xFFFFFFFC;
+
+const COUNTRY_OTHERS: u32 = 0xFFFFFFF8;
+
+// Bit k, by its mask; behind the last bit there is none. Of the head: 0 ironman, 1 multiplayer; of a country: 0 human, 1 was_player,
+// 2 has_switched_nation.
+pub fn bit(flags: u32, k: u32) -> bool
+    ensures { result ≡ bit k flags }
 {
-    flags & 1 != 0
+    let mask = 1u32.checked_shl(k).unwrap_or(0);
+    flags & mask != 0
 }
 
-// Bit 1: multiplayer, of a country was_player.
-pub fn bit1(flags: u32) -> bool
-    ensures { result ≡ bit 1 flags }
-{
-    flags & 2 != 0
-}
-
-// Bit 2: of a country has_switched_nation.
-pub fn bit2(flags: u32) -> bool
-    ensures { result ≡ bit 2 flags }
-{
-    flags & 4 != 0
-}
-
-// The head defines bits 0 and 1 of its flags; a mask finds every other bit.
+// Whether no bit is set that the head does not define.
 pub(crate) fn head_flags_defined(flags: u32) -> bool
     ensures { result ≡ ltb flags 4 }
 {
-    flags & 0xFFFFFFFC == 0
+    flags & HEAD_OTHERS == 0
 }
 
-// A country defines bits 0 to 2.
+// The same of a country.
 pub fn country_flags_defined(flags: u32) -> bool
     ensures { result ≡ ltb flags 8 }
 {
-    flags & 0xFFFFFFF8 == 0
+    flags & COUNTRY_OTHERS == 0
 }

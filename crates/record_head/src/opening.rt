@@ -1,42 +1,31 @@
 // A record's head: how it opens, what stands in it, and the tests of its numbers.
 ghost use Rattle.std.specs.Prelude.{◌≡◌, eqb};
 ghost use Rattle.format.specs.Head.{head_of, within_limits};
-ghost use Rattle.format.specs.Refusal.{opens, date_number, head_number};
+ghost use Rattle.format.specs.Refusal.{opens, head_number};
+ghost use Rattle.format.specs.Refused.{number_of};
 ghost use Rattle.format.specs.Dates.{earlier};
 
-use crate::{bytes, flags};
-use format::{Eu4Date, Head};
+use crate::flags;
+use format::{Head, Packed, Refusal};
 
-// The head as it stands in the bytes.
+// How many bytes a head has.
+const HEAD_BYTES: usize = 44;
+
+// The head as it stands in the bytes; of fewer than it needs, with zeros for the others.
 pub fn read_head(s: &[u8]) -> Head
     ensures { result ≡ head_of s.now }
 {
-    Head {
-        version: bytes::u16_at(s, 3),
-        flags: bytes::byte(s, 5),
-        start: bytes::date_at(s, 6),
-        current: bytes::date_at(s, 10),
-        countries: bytes::u16_at(s, 14),
-        provinces: bytes::u16_at(s, 16),
-        previous: bytes::u32_at(s, 18),
-        switches: bytes::u32_at(s, 22),
-        events: bytes::u32_at(s, 26),
-        strings: bytes::u16_at(s, 30),
-        wars: bytes::u16_at(s, 32),
-        war_events: bytes::u32_at(s, 34),
-        ledgers: bytes::u16_at(s, 38),
-        points: bytes::u32_at(s, 40),
-    }
+    let n = s.len().min(HEAD_BYTES);
+    let mut bytes = [0u8; HEAD_BYTES];
+    bytes[..n].copy_from_slice(&s[..n]);
+    Head::unpack(&bytes)
 }
 
-// Whether the bytes open as a record does: a head's 44, of which the first three are `ATL`.
+// Whether the bytes open as a record does: a head's, of which the first three are `ATL`.
 pub fn opens_record(s: &[u8]) -> bool
     ensures { result ≡ opens s.now }
 {
-    if s.len() < 44 {
-        return false;
-    }
-    (s[0] == 65) & (s[1] == 84) & (s[2] == 76)
+    (HEAD_BYTES <= s.len()) & s.starts_with(b"ATL")
 }
 
 // Version 1 is the one that is read.
@@ -47,6 +36,7 @@ pub fn version_known(h: Head) -> bool
 }
 
 // Every count is at most its limit.
+#[tactic(auto, unfolding(format::specs::Head::within_limits))]
 pub fn within_limits(h: Head) -> bool
     ensures { result ≡ within_limits h }
 {
@@ -62,33 +52,23 @@ pub fn within_limits(h: Head) -> bool
         & (h.points <= 1000000)
 }
 
-// A date's number: 5, or 0 for a good one.
-fn date_number(d: Eu4Date) -> u32
-    ensures { result ≡ date_number d }
+// The first of the head's flags and dates that is bad refuses it.
+#[tactic(auto, unfolding(format::specs::Refusal::head_number, format::specs::Refusal::first_of))]
+pub fn head_checked(h: Head) -> Result<(), Refusal>
+    ensures { number_of result ≡ head_number h }
 {
-    if d.good() { 0 } else { 5 }
-}
-
-// The number of the first of the head's flags and dates that is bad, 0 where all are good.
-pub fn head_number(h: Head) -> u32
-    ensures { result ≡ head_number h }
-{
-    let start = h.start;
-    let current = h.current;
     if !flags::head_flags_defined(h.flags) {
-        return 6;
+        return Err(Refusal::UndefinedBit);
     }
-    if !start.good() {
-        return 5;
+    if !(h.start.good() & h.current.good()) {
+        return Err(Refusal::BadDate);
     }
-    date_number(current)
+    Ok(())
 }
 
 // Whether the current date lies before the start date.
 pub fn ends_early(h: Head) -> bool
     ensures { result ≡ earlier h.current h.start }
 {
-    let start = h.start;
-    let current = h.current;
-    current.earlier(start)
+    h.current < h.start
 }

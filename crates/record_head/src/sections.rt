@@ -1,72 +1,61 @@
-// Where each section begins, by the counts of the head: behind the one before it.
-ghost use Rattle.std.specs.Prelude.{◌≡◌};
-ghost use Rattle.format.specs.Head.{previous_at, switches_at, provinces_at, events_at};
-ghost use Rattle.format.specs.Head.{wars_at, war_events_at, ledgers_at, points_at, strings_at};
+// The rows of each section: behind those of the section before it, so many as the head says.
+ghost use Rattle.std.specs.Prelude.{◌*◌, ◌<◌, ◌^◌, length, MatchOption};
+ghost use Rattle.format.specs.Head.{strings_at};
+ghost use Rattle.record_head.specs.Sections.{SectionsOf, RowsCut};
 
 use format::Head;
 
-// Countries begin behind the head.
-pub const COUNTRIES_AT: usize = 44;
+// The bytes of the countries begin behind the head.
+const COUNTRIES_AT: usize = 44;
 
-// Previous tags begin behind the countries.
-pub fn previous_at(h: Head) -> usize
-    ensures { result ≡ previous_at h }
-{
-    COUNTRIES_AT + 12 * h.countries as usize
+// The rows of each section as they stand in the bytes, and the bytes behind the points, where the strings are.
+#[derive(Clone, Copy)]
+pub struct Sections<'a> {
+    pub countries: &'a [[u8; 12]],
+    pub previous: &'a [[u8; 3]],
+    pub switches: &'a [[u8; 7]],
+    pub provinces: &'a [[u8; 7]],
+    pub events: &'a [[u8; 7]],
+    pub wars: &'a [[u8; 2]],
+    pub war_events: &'a [[u8; 8]],
+    pub ledgers: &'a [[u8; 5]],
+    pub points: &'a [[u8; 6]],
+    pub strings: &'a [u8],
 }
 
-// Switches begin behind the previous tags.
-pub fn switches_at(h: Head) -> usize
-    ensures { result ≡ switches_at h }
+// The first n rows of a width, and the bytes behind them, if there are as many.
+fn take_rows<const WIDTH: usize>(bytes: &[u8], n: u32) -> Option<(&[[u8; WIDTH]], &[u8])>
+    requires { (0 < WIDTH) × (WIDTH < 2 ^ 16) }
+    ensures { MatchOption result (length bytes.now < WIDTH * n) (λ r. RowsCut WIDTH n bytes.now r.0.now r.1.now) }
 {
-    previous_at(h) + 3 * h.previous as usize
+    let (rows, rest) = bytes.split_at_checked(WIDTH * n as usize)?;
+    Some((rows.as_chunks().0, rest))
 }
 
-// Provinces begin behind the switches.
-pub fn provinces_at(h: Head) -> usize
-    ensures { result ≡ provinces_at h }
+// The sections of a head, if the bytes are enough for them.
+pub fn sections_of(s: &[u8], h: Head) -> Option<Sections<'_>>
+    ensures { MatchOption result (length s.now < strings_at h) (λ z. SectionsOf s.now h z) }
 {
-    switches_at(h) + 7 * h.switches as usize
-}
-
-// Owner events begin behind the provinces.
-pub fn events_at(h: Head) -> usize
-    ensures { result ≡ events_at h }
-{
-    provinces_at(h) + 7 * h.provinces as usize
-}
-
-// Wars begin behind the owner events.
-pub fn wars_at(h: Head) -> usize
-    ensures { result ≡ wars_at h }
-{
-    events_at(h) + 7 * h.events as usize
-}
-
-// War events begin behind the wars.
-pub fn war_events_at(h: Head) -> usize
-    ensures { result ≡ war_events_at h }
-{
-    wars_at(h) + 2 * h.wars as usize
-}
-
-// Ledger names begin behind the war events.
-pub fn ledgers_at(h: Head) -> usize
-    ensures { result ≡ ledgers_at h }
-{
-    war_events_at(h) + 8 * h.war_events as usize
-}
-
-// Points begin behind the ledger names.
-pub fn points_at(h: Head) -> usize
-    ensures { result ≡ points_at h }
-{
-    ledgers_at(h) + 5 * h.ledgers as usize
-}
-
-// Strings begin behind the points.
-pub fn strings_at(h: Head) -> usize
-    ensures { result ≡ strings_at h }
-{
-    points_at(h) + 6 * h.points as usize
+    let (_, rest) = s.split_at_checked(COUNTRIES_AT)?;
+    let (countries, rest) = take_rows(rest, h.countries)?;
+    let (previous, rest) = take_rows(rest, h.previous)?;
+    let (switches, rest) = take_rows(rest, h.switches)?;
+    let (provinces, rest) = take_rows(rest, h.provinces)?;
+    let (events, rest) = take_rows(rest, h.events)?;
+    let (wars, rest) = take_rows(rest, h.wars)?;
+    let (war_events, rest) = take_rows(rest, h.war_events)?;
+    let (ledgers, rest) = take_rows(rest, h.ledgers)?;
+    let (points, strings) = take_rows(rest, h.points)?;
+    Some(Sections {
+        countries,
+        previous,
+        switches,
+        provinces,
+        events,
+        wars,
+        war_events,
+        ledgers,
+        points,
+        strings,
+    })
 }

@@ -10,7 +10,7 @@ use Rattle.lists.specs.Lists.{leading, last_or, last, or_else}
 use Rattle.format.specs.declared.tag.CountryTag.{CountryTag}
 use Rattle.format.specs.declared.date.Eu4Date.{Eu4Date}
 use Rattle.format.specs.Dates.{not_after}
-use Rattle.rules.specs.Chronicle.{Kind, switch}
+use Rattle.rules.specs.Chronicle.{Kind}
 use Rattle.rules.specs.Nations.{kind_target, targets}
 use Rattle.chronicle_rows.specs.RowAt.{entry_at, entries_at}
 use Rattle.resolver.specs.Found.{worn_in}
@@ -31,9 +31,6 @@ last-append (x ∷ xs) ys = go x xs ys
 or-or : {A : Type 0} (a b c : Option A) → or_else (or_else a b) c ≡ or_else a (or_else b c)
 or-or none b c = refl
 or-or (some x) b c = refl
-
-pub behind-switch : (kind : Kind) (tag : CountryTag) (so_far : Option CountryTag) → kind ≡ switch tag → some tag ≡ or_else (last (kind_target kind)) so_far
-behind-switch kind tag so_far e = rw e
 
 module _ (es : List ℕ) (day : Eu4Date) where
   -- What the entries from `at` to the end tell of the tag worn, which was `so_far` before them.

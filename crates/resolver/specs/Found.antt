@@ -1,20 +1,20 @@
 -- What is answered of the nation whose claim was found.
-use Rattle.std.specs.Prelude.{List, ℕ}
+use Rattle.std.specs.Prelude.{List, ◌∷◌, map, ℕ}
 use Rattle.std.proofs.Math.Option.{Option, none, some}
 use Rattle.lists.specs.Lists.{last, leading}
 use Rattle.format.specs.declared.tag.CountryTag.{CountryTag}
 use Rattle.format.specs.declared.date.Eu4Date.{Eu4Date}
 use Rattle.format.specs.Dates.{not_after}
+use Rattle.format.specs.Refusal.{first_of}
 use Rattle.rules.specs.Nations.{targets}
 use Rattle.rules.specs.Resolver.{TagData, day_data, switched_data}
+use Rattle.rules.specs.Refusals.{chronicle_number, asked_tag_number, asked_date_number}
 use Rattle.chronicle_rows.specs.RowAt.{entries_at, nation_numbered}
 use Rattle.claims.specs.declared.claims.Claim.{Claim}
-use Rattle.resolver.specs.declared.worn.Worn as Worn
 
--- A tag that is worn, by case.
-abbrev pub worn_told : Worn.Worn → Option CountryTag
-worn_told (Worn.TheVariants.Tag t) = some t
-worn_told Worn.TheVariants.Nothing = none
+-- The number that refuses a question about a tag and dates: 11 for a chronicle that is not well shaped, 12 for a bad tag or date.
+abbrev pub asked_number : List ℕ → List ℕ → CountryTag → List Eu4Date → ℕ
+asked_number ws es tag dates = first_of (chronicle_number ws es ∷ asked_tag_number tag.0 ∷ map (λ d. asked_date_number d.0) dates)
 
 -- The last switch's target among so many entries from a number on, up to the first dated later than the day.
 abbrev pub worn_in : List ℕ → Eu4Date → ℕ → ℕ → Option CountryTag

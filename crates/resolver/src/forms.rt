@@ -1,145 +1,121 @@
-// The four forms of the resolver. Each is lent nation words and entry words, and refuses by 11 a chronicle that is not well shaped, then
-// by 12 a bad tag, date or day.
-ghost use Rattle.std.specs.Prelude.{◌≡◌, [], ◌∷◌};
+// The four forms of the resolver. Each is lent nation words and entry words, and refuses a chronicle that is not well shaped, then a bad tag,
+// date or day.
+ghost use Rattle.std.specs.Prelude.{◌≡◌};
 ghost use Rattle.std.proofs.Math.Option.{map};
-ghost use Rattle.format.specs.Refusal.{first_of};
-ghost use Rattle.rules.specs.Lent.{gives};
-ghost use Rattle.rules.specs.Refusals.{chronicle_number, asked_tag_number, asked_date_number};
+ghost use Rattle.lists.specs.Options.{option_of};
+ghost use Rattle.format.specs.Refused.{number_of};
 ghost use Rattle.rules.specs.Outcomes.{call_resolve, call_initial, call_resolve_on, call_initial_on};
-ghost use Rattle.resolver.specs.Cases.{resolved_answer};
-ghost use Rattle.claims.specs.Claims.{best_told, plain_of};
-ghost use Rattle.resolver.specs.Found.{day_of, switched_of};
+ghost use Rattle.resolver.specs.Cases.{tag_data_told, resolved_answer};
+ghost use Rattle.claims.specs.Claims.{plain_of};
+ghost use Rattle.resolver.specs.Found.{asked_number, day_of, switched_of};
 
-use crate::worn;
-use crate::worn::Worn;
-use chronicle_rows::{is_date, is_tag, is_well_shaped, nation_at};
-use claims::BestClaim;
-use format::{CountryTag, Eu4Date};
+use crate::worn::worn_on;
+use chronicle_rows::{is_well_shaped, nation_at};
+use claims::{Claim, best_claim, best_initial};
+use format::{CountryTag, Eu4Date, Refusal};
 
 // A tag value, and the tag under which it is stored in the save.
-#[derive(Clone, Copy)]
+#[derive(Clone, Copy, Debug, PartialEq, Eq)]
 pub struct TagData {
     pub current: CountryTag,
     pub stored: CountryTag,
 }
 
-// What a question gives: a tag, nothing, or the number of its refusal.
-#[derive(Clone, Copy)]
-pub enum Resolved {
-    Found(TagData),
-    Nothing,
-    Refused(u32),
-}
-
-// The first of two numbers that refuses, 0 if none does.
-fn first_number(a: u32, b: u32) -> u32
-    ensures { result ≡ first_of (a ∷ b ∷ []) }
+// Refuses a chronicle that is not well shaped, and a question whose tag or one of whose dates is bad.
+fn test_question(
+    nations: &[u32],
+    entries: &[u32],
+    tag: CountryTag,
+    dates: &[Eu4Date],
+) -> Result<(), Refusal>
+    ensures { number_of result ≡ asked_number nations.now entries.now tag dates.now }
 {
-    if a == 0 { b } else { a }
-}
-
-// 11 for a chronicle that is not well shaped.
-fn chronicle_number(nations: &[u32], entries: &[u32]) -> u32
-    ensures { result ≡ chronicle_number nations.now entries.now }
-{
-    if is_well_shaped(nations, entries) {
-        0
-    } else {
-        11
+    if !is_well_shaped(nations, entries) {
+        return Err(Refusal::NotShaped);
     }
-}
-
-// 12 for a bad tag.
-fn asked_tag_number(tag: CountryTag) -> u32
-    ensures { result ≡ asked_tag_number tag.0 }
-{
-    if is_tag(tag) { 0 } else { 12 }
-}
-
-// 12 for a bad date.
-fn asked_date_number(date: Eu4Date) -> u32
-    ensures { result ≡ asked_date_number date.0 }
-{
-    if is_date(date) { 0 } else { 12 }
+    if !tag.good() {
+        return Err(Refusal::BadQuestion);
+    }
+    for date in dates {
+        if !date.good() {
+            return Err(Refusal::BadQuestion);
+        }
+    }
+    Ok(())
 }
 
 // Latest and stored tag of the nation that a claim found.
-fn plain_answer(nations: &[u32], best: BestClaim) -> Resolved
-    ensures { resolved_answer result ≡ gives (map (plain_of nations.now) (best_told best)) }
+fn plain_answer(nations: &[u32], best: Option<Claim>) -> Option<TagData>
+    ensures { map tag_data_told (option_of result) ≡ map (plain_of nations.now) (option_of best) }
 {
-    match best {
-        BestClaim::Best(claim) => {
-            let row = nation_at(nations, claim.nation);
-            let current = row.latest;
-            let stored = row.stored;
-            Resolved::Found(TagData { current, stored })
-        }
-        BestClaim::Nothing => Resolved::Nothing,
-    }
+    let nation = nation_at(nations, best?.nation);
+    Some(TagData {
+        current: nation.latest,
+        stored: nation.stored,
+    })
 }
 
 // The tag that it wears on the day, without a switch up to then its initial.
-fn day_answer(nations: &[u32], entries: &[u32], best: BestClaim, day: Eu4Date) -> Resolved
-    ensures { resolved_answer result ≡ gives (map (day_of nations.now entries.now day) (best_told best)) }
+fn day_answer(
+    nations: &[u32],
+    entries: &[u32],
+    best: Option<Claim>,
+    day: Eu4Date,
+) -> Option<TagData>
+    ensures { map tag_data_told (option_of result) ≡ map (day_of nations.now entries.now day) (option_of best) }
 {
-    match best {
-        BestClaim::Best(claim) => {
-            let row = nation_at(nations, claim.nation);
-            let stored = row.stored;
-            match worn::worn_on(entries, row, day) {
-                Worn::Tag(current) => Resolved::Found(TagData { current, stored }),
-                Worn::Nothing => {
-                    let current = row.initial;
-                    Resolved::Found(TagData { current, stored })
-                }
-            }
-        }
-        BestClaim::Nothing => Resolved::Nothing,
-    }
+    let nation = nation_at(nations, best?.nation);
+    let current = worn_on(entries, nation, day).unwrap_or(nation.initial);
+    Some(TagData {
+        current,
+        stored: nation.stored,
+    })
 }
 
-// The same, but nothing without a switch.
-fn switched_answer(nations: &[u32], entries: &[u32], best: BestClaim, day: Eu4Date) -> Resolved
-    ensures { resolved_answer result ≡ gives (switched_of nations.now entries.now day (best_told best)) }
+// The same, but nothing without a switch: two functions that differ in one word, since a closure for that word would be longer than either.
+fn switched_answer(
+    nations: &[u32],
+    entries: &[u32],
+    best: Option<Claim>,
+    day: Eu4Date,
+) -> Option<TagData>
+    ensures { map tag_data_told (option_of result) ≡ switched_of nations.now entries.now day (option_of best) }
 {
-    match best {
-        BestClaim::Best(claim) => {
-            let row = nation_at(nations, claim.nation);
-            let stored = row.stored;
-            match worn::worn_on(entries, row, day) {
-                Worn::Tag(current) => Resolved::Found(TagData { current, stored }),
-                Worn::Nothing => Resolved::Nothing,
-            }
-        }
-        BestClaim::Nothing => Resolved::Nothing,
-    }
+    let nation = nation_at(nations, best?.nation);
+    let current = worn_on(entries, nation, day)?;
+    Some(TagData {
+        current,
+        stored: nation.stored,
+    })
 }
 
 // Where the country that went by a tag on a date is now: by its last switch to that tag up to the date, else by its initial.
-pub fn resolve(nations: &[u32], entries: &[u32], tag: CountryTag, date: Eu4Date) -> Resolved
+pub fn resolve(
+    nations: &[u32],
+    entries: &[u32],
+    tag: CountryTag,
+    date: Eu4Date,
+) -> Result<Option<TagData>, Refusal>
     ensures { resolved_answer result ≡ call_resolve nations.now entries.now tag.0 date.0 }
 {
-    let asked = first_number(asked_tag_number(tag), asked_date_number(date));
-    let number = first_number(chronicle_number(nations, entries), asked);
-    if number != 0 {
-        return Resolved::Refused(number);
-    }
-    plain_answer(nations, claims::best_claim(nations, entries, tag, date))
+    test_question(nations, entries, tag, &[date])?;
+    Ok(plain_answer(nations, best_claim(nations, entries, tag, date)))
 }
 
 // Where the country that began as a tag is now.
-pub fn initial(nations: &[u32], entries: &[u32], tag: CountryTag) -> Resolved
+pub fn initial(
+    nations: &[u32],
+    entries: &[u32],
+    tag: CountryTag,
+) -> Result<Option<TagData>, Refusal>
     ensures { resolved_answer result ≡ call_initial nations.now entries.now tag.0 }
 {
-    let number = first_number(chronicle_number(nations, entries), asked_tag_number(tag));
-    if number != 0 {
-        return Resolved::Refused(number);
-    }
-    plain_answer(nations, claims::best_initial(nations, tag))
+    test_question(nations, entries, tag, &[])?;
+    Ok(plain_answer(nations, best_initial(nations, tag)))
 }
 
 // A resolver set to a day: of each nation it looks only at the entries before the first dated later.
-#[derive(Clone, Copy)]
+#[derive(Clone, Copy, Debug, PartialEq, Eq)]
 pub struct TagResolverDated {
     pub day: Eu4Date,
 }
@@ -159,36 +135,25 @@ impl TagResolverDated {
         entries: &[u32],
         tag: CountryTag,
         date: Eu4Date,
-    ) -> Resolved
+    ) -> Result<Option<TagData>, Refusal>
         ensures { resolved_answer result ≡ call_resolve_on nations.now entries.now self.day.0 tag.0 date.0 }
     {
-        let day = self.day;
-        let asked = first_number(asked_tag_number(tag), asked_date_number(date));
-        let number = first_number(
-            chronicle_number(nations, entries),
-            first_number(asked_date_number(day), asked),
-        );
-        if number != 0 {
-            return Resolved::Refused(number);
-        }
-        day_answer(
-            nations,
-            entries,
-            claims::best_claim(nations, entries, tag, date),
-            day,
-        )
+        test_question(nations, entries, tag, &[self.day, date])?;
+        let best = best_claim(nations, entries, tag, date);
+        Ok(day_answer(nations, entries, best, self.day))
     }
 
     // `initial`, but nothing if the country had not switched by the day.
-    pub fn initial_at(self, nations: &[u32], entries: &[u32], tag: CountryTag) -> Resolved
+    pub fn initial_at(
+        self,
+        nations: &[u32],
+        entries: &[u32],
+        tag: CountryTag,
+    ) -> Result<Option<TagData>, Refusal>
         ensures { resolved_answer result ≡ call_initial_on nations.now entries.now self.day.0 tag.0 }
     {
-        let day = self.day;
-        let question = first_number(asked_date_number(day), asked_tag_number(tag));
-        let number = first_number(chronicle_number(nations, entries), question);
-        if number != 0 {
-            return Resolved::Refused(number);
-        }
-        switched_answer(nations, entries, claims::best_initial(nations, tag), day)
+        test_question(nations, entries, tag, &[self.day])?;
+        let best = best_initial(nations, tag);
+        Ok(switched_answer(nations, entries, best, self.day))
     }
 }

@@ -4,5 +4,5 @@
 mod forms;
 mod worn;
 
-pub use claims::{BestClaim, Claim, NextClaim, Walk, best_claim, best_initial};
-pub use forms::{Resolved, TagData, TagResolverDated, at, initial, resolve};
+pub use claims::{Claim, Claims, best_claim, best_initial};
+pub use forms::{TagData, TagResolverDated, at, initial, resolve};

@@ -1,11 +1,20 @@
 -- 00, demand 1, and 01, Who can be refused: what a call answers, and what lent memory holds afterwards. Every call that is lent memory
 -- to write has an `outcome`; one that is lent none has an answer alone.
+use Rattle.std.specs.Prelude as code
+use Rattle.std.specs.Prelude.{Ok, Err}
+use Rattle.format.specs.declared.refused.Refusal.{Refusal}
+use Rattle.format.specs.Refused.{refusal_number}
 use Rattle.std.specs.Prelude.{Bool, cond, List, ◌++◌, ℕ, zero, suc, leb, length, drop}
 
 -- The answer of a call: refused by a number, or its values.
 pub data Answer (A : Type 0) : Type 0 where
   refused : ℕ → Answer A
   gives : A → Answer A
+
+-- What the code answers: its values, or the number of its refusal.
+abbrev pub answer_of : {A B : Type 0} → (A → B) → code.Result A Refusal → Answer B
+answer_of values (Ok x) = gives (values x)
+answer_of values (Err e) = refused (refusal_number e)
 
 -- A number other than 0 refuses, and is all that the call returns. Values may well say that there is nothing: that refuses nobody.
 abbrev pub answered : {A : Type 0} → ℕ → A → Answer A
@@ -33,6 +42,10 @@ room_number room = cond room 0 10
 pub record Outcome (A M : Type 0) : Type 0 where
   pub answer : Answer A
   pub memory : M
+
+-- What the code answers, with the lent memory after the call.
+abbrev pub outcome_of : {A B M : Type 0} → (A → B) → code.Result A Refusal → M → Outcome B M
+outcome_of values r after = record { answer = answer_of values r; memory = after }
 
 -- The outcome of a call by its refusal number, its values, and the memory that it leaves and was lent.
 abbrev pub outcome : {A M : Type 0} → ℕ → A → M → M → Outcome A M

@@ -6,10 +6,12 @@ use mathlib.Core.Option
 use mathlib.Core.Option.{Option, none, some, none-ne-some, some-injective}
 use Prim.Native.Nat.{ℕ, suc, ◌+◌, ◌-◌, ◌*◌, ◌/◌, ◌%◌, ◌≤◌, ◌<◌}
 use native.Mathlib.Omega.{arith}
-use borrow.Author.Tests.{leb-true, ltb-true, le-leb, lt-ltb, eqb-true, eq-eqb}
+use borrow.Author.Tests.{leb-true, ltb-true, ltb-false, le-leb, lt-ltb, eqb-true, eq-eqb}
 use lib.Dec.{leb, ltb}
 use lib.ListN.{length, get_or}
-use Rattle.lists.specs.Lists.{All, keep, first_or, first_that}
+use Rattle.std.specs.Bool.{then_some}
+use Rattle.lists.specs.Lists.{All, keep, count_of, first_or, first_that}
+use Rattle.lists.specs.Options.{option_of}
 use Rattle.lists.proofs.BoolLaws.{cases, clash, both}
 use Rattle.lists.proofs.ListLaws.{all_map}
 use Rattle.lists.proofs.BoundLaws.{first_past, first_above, first-there}
@@ -96,11 +98,8 @@ module _ (t : CountryTag) where
 
 -- ## The place that a search finds
 
-pub even-key : (t : CountryTag) (keys : List ℕ) (key i : ℕ) → key ≡ tag_key t 0 → CountsBelow keys (key / 2 * 2) i → CountsBelow keys (tag_key t 0) i
-even-key t keys key i h k = let e : key / 2 * 2 ≡ tag_key t 0 = omega arith in rw e at k
-
 module _ (t : CountryTag) (ts : List CountryTag) (few : length ts ≤ 65536) (keys : List ℕ) (sorted : keys ≡ sort_by leb (tag_keys_from 0 ts))
-    (i : ℕ) (k : CountsBelow keys (tag_key t 0) i) where
+    (lowest : ℕ) (first_of_tag : lowest ≡ tag_key t 0) (i : ℕ) (counted : CountsBelow keys (lowest / 2 * 2) i) where
   again : sort_by leb keys ≡ keys
   again = rw sorted (sort-again (tag_keys_from 0 ts))
 
@@ -115,15 +114,20 @@ module _ (t : CountryTag) (ts : List CountryTag) (few : length ts ≤ 65536) (ke
   abbrev first : List ℕ → Option ℕ
   first ks = first_or none (map (λ x. some (x % 65536)) ks)
 
+  below : i ≡ count_of (λ k. ltb k (tag_key t 0)) keys
+  below = let e : lowest / 2 * 2 ≡ tag_key t 0 = omega arith in rw e at (counted.counted again)
+
   pub placed_past : length keys ≤ i → none ≡ place_from 0 t ts
-  placed_past h = sym (ap first (first_past (low t) (low t + 65536) keys (sorted-up keys again) i (k.counted again) h)) ∙ first_key
+  placed_past h = sym (ap first (first_past (low t) (low t + 65536) keys (sorted-up keys again) i below h)) ∙ first_key
 
-  pub placed-above : i < length keys → tag_key t 0 + 65536 ≤ get_or keys i 0 → none ≡ place_from 0 t ts
-  placed-above h l = sym (ap first (first_above (low t) (low t + 65536) keys (sorted-up keys again) i (k.counted again) h l)) ∙ first_key
-
-  pub placed-there : i < length keys → get_or keys i 0 < tag_key t 0 + 65536 → some (get_or keys i 0 % 65536) ≡ place_from 0 t ts
-  placed-there h l =
-      sym (first-there (low t) (low t + 65536) keys (sorted-up keys again) i (k.counted again) (λ x. some (x % 65536)) none h l) ∙ first_key
+  -- The key that stands there is the tag's, if it is below those of the next tag.
+  pub placed-key : (key : ℕ) → i < length keys → key ≡ get_or keys i 0 → option_of (then_some (ltb key (lowest + 65536)) (key % 65536)) ≡ place_from 0 t ts
+  placed-key key h e =
+      cases (ltb key (lowest + 65536))
+      (λ g. let l = ltb-true key (lowest + 65536) g in
+      simp g (rw e (sym (first-there (low t) (low t + 65536) keys (sorted-up keys again) i below (λ x. some (x % 65536)) none h (omega arith)) ∙ first_key)))
+      (λ g. let l = ltb-false key (lowest + 65536) g in
+      simp g (sym (ap first (first_above (low t) (low t + 65536) keys (sorted-up keys again) i below h (omega arith))) ∙ first_key))
 
 -- ## What a caller knows of a place
 

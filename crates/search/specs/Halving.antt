@@ -3,13 +3,6 @@ use Rattle.std.specs.Prelude.{◌≡◌, Bool, List, map, ℕ, ◌/◌, ◌≤�
 use Rattle.lists.specs.Lists.{count_of, leading, numbers_from}
 use Rattle.sorting.specs.Sort.{sort_by}
 
--- Between two numbers, neither above the number of keys, lies how many keys are below x, if they are in order.
-pub record Encloses (keys : List ℕ) (x from end : ℕ) : Type 0 where
-  pub rising : from ≤ end
-  pub inside : end ≤ length keys
-  pub low : sort_by leb keys ≡ keys → from ≤ count_of (λ k. ltb k x) keys
-  pub high : sort_by leb keys ≡ keys → count_of (λ k. ltb k x) keys ≤ end
-
 -- A key is of a cell before this one: a cell holds keys with the same first 12 bits.
 abbrev pub in_cell_before : ℕ → ℕ → Bool
 in_cell_before cell key = ltb (key / 4503599627370496) cell

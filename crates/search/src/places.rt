@@ -2,7 +2,8 @@
 ghost use Rattle.std.specs.Prelude.{◌≡◌, List, ◌%◌, ◌≤◌, leb, length};
 ghost use Rattle.sorting.specs.Sort.{sort_by};
 ghost use Rattle.format.specs.declared.tag.CountryTag.{CountryTag};
-ghost use Rattle.search.specs.Places.{tag_key, tag_keys_from, place_from, place_told};
+ghost use Rattle.lists.specs.Options.{option_of};
+ghost use Rattle.search.specs.Places.{tag_key, tag_keys_from, place_from};
 
 use crate::halving;
 use format::CountryTag;
@@ -10,33 +11,19 @@ use format::CountryTag;
 // How many keys a tag has, one for each number: one more of a tag adds this to a key.
 pub const KEYS_PER_TAG: u64 = 65536;
 
-// The number of an element, if one was found.
-#[derive(Clone, Copy)]
-pub enum Place {
-    At(usize),
-    Nowhere,
-}
-
 // The key of a tag and a number, of which 16 bits are kept.
 pub fn tag_key(tag: CountryTag, number: usize) -> u64
     ensures { result ≡ tag_key tag (number % 65536) }
 {
-    tag.word() as u64 * KEYS_PER_TAG + number as u64 % KEYS_PER_TAG
+    u64::from(u32::from(tag)) * KEYS_PER_TAG + number as u64 % KEYS_PER_TAG
 }
 
 // The number of the first element that has the tag, among at most 65,536 whose sorted keys these are.
-pub fn first_place(keys: &[u64], tag: CountryTag) -> Place
-    ensures { (ts : List CountryTag) → length ts ≤ 65536 → keys.now ≡ sort_by leb (tag_keys_from 0 ts) → place_told result ≡ place_from 0 tag ts }
+pub fn first_place(keys: &[u64], tag: CountryTag) -> Option<usize>
+    ensures { (ts : List CountryTag) → length ts ≤ 65536 → keys.now ≡ sort_by leb (tag_keys_from 0 ts) → option_of result ≡ place_from 0 tag ts }
 {
     let low = tag_key(tag, 0);
     let high = low + KEYS_PER_TAG;
-    let i = halving::count_below(keys, low);
-    if keys.len() <= i {
-        return Place::Nowhere;
-    }
-    let key = keys[i];
-    if high <= key {
-        return Place::Nowhere;
-    }
-    Place::At((key % KEYS_PER_TAG) as usize)
+    let key = *keys.get(halving::count_below(keys, low))?;
+    (key < high).then_some((key % KEYS_PER_TAG) as usize)
 }

@@ -1,6 +1,6 @@
 -- What comes of the points that a span reads: zeros year by year, the points behind them, and how many they are.
 use mathlib.Core.Path.{◌≡◌, refl, sym, ap, ◌∙◌}
-use mathlib.Core.List.{List, [], ◌∷◌, ◌++◌, append_assoc}
+use mathlib.Core.List.{List, [], ◌∷◌, ◌++◌, append_assoc, append-nil}
 use Prim.Native.Nat.{ℕ, suc, ◌+◌, ◌-◌, ◌<◌, ◌≤◌, min}
 use native.Mathlib.Omega.{arith}
 use lib.ListN.{length, length-append, length-map}
@@ -10,9 +10,8 @@ use Rattle.lists.proofs.ListLaws.{length-numbers}
 use Rattle.format.specs.declared.tag.CountryTag.{CountryTag}
 use Rattle.format.specs.declared.rows.Point.{Point}
 use Rattle.format.specs.Dates.{year}
-use Rattle.record.specs.declared.ledger.Points.{Points}
 use Rattle.rules.specs.Ledger.{Span, LedgerPoint, zeros, filled, within}
-use Rattle.span_points.specs.PointSteps.{read_left, point_of, year_filled, filled_to, filled_count}
+use Rattle.span_points.specs.PointSteps.{point_of, year_filled, filled_to, filled_count}
 
 -- ## Zeros
 
@@ -64,25 +63,28 @@ module _ (s : Span) (first : ℕ) (all left : List Point) (e : first ≡ year s.
   pub span-filled : filled s (year s.start + 1) (within s all) ≡ filled_to s.tag (year s.end) (first + 1) (leading (λ p. leb p.year (year s.end)) left)
   span-filled = rw (skipped, e) (filled-to s (year s.start + 1) (within s all))
 
-  pub span-counted : (m most : ℕ) → m ≡ min (filled_count (year s.end) (first + 1) (leading (λ p. leb p.year (year s.end)) left)) most
-      → m ≡ min (length (filled s (year s.start + 1) (within s all))) most
-  span-counted m most h =
-      let read : List Point = leading (λ p. leb p.year (year s.end)) left in
-      h ∙ sym (ap (λ (n : ℕ). min n most) (ap length span-filled ∙ filled-count s.tag (year s.end) (first + 1) read))
+-- ## Read point by point
 
--- The last year is that of a date.
-pub count-last : (xs : List ℕ) (c : Points) (last end from most m : ℕ) → last ≡ end
-    → m ≡ min (filled_count last from (read_left xs last c)) most → m ≡ min (filled_count end from (read_left xs end c)) most
-count-last xs c last end from most m e h = rw (← e) h
+-- Those read so far gave n points, held to the most; the year that runs behind them is `running`.
+pub record Counting (last from most : ℕ) (read : List Point) (running n : ℕ) : Type 0 where
+  pub few : n ≤ most
+  pub same : (rest : List Point) → min (n + filled_count last running rest) most ≡ min (filled_count last from (read ++ rest)) most
 
--- A sum that is held to a limit after each step is the sum of all, held to it.
-module _ (last running n most : ℕ) (left : List Point) where
-  pub count-start : n ≡ 0 → min (n + filled_count last running left) most ≡ min (filled_count last running left) most
-  count-start e = rw e (omega arith)
+pub count-start : (last from most : ℕ) → Counting last from most [] from 0
+count-start last from most = record { few = omega arith; same = λ rest. omega arith }
 
-  pub count-step : (p : Point) (rest : List Point) → left ≡ p ∷ rest → (step m : ℕ) → step ≡ p.year - running → m ≡ min (n + (step + 1)) most
-      → min (m + filled_count last (p.year + 1) rest) most ≡ min (n + filled_count last running left) most
-  count-step p rest e step m s q = rw (e, q, s) (omega arith)
+module _ {last from most : ℕ} {read : List Point} {running n : ℕ} (c : Counting last from most read running n) where
+  pub count-next : (p : Point) (m : ℕ) → m ≡ min (n + (p.year - running + 1)) most → Counting last from most (read ++ (p ∷ [])) (p.year + 1) m
+  count-next p m e =
+      record {
+        few = omega arith;
+        same = λ rest. let s = c.same (p ∷ rest) in rw (append_assoc read (p ∷ []) rest) (omega (arith, s));
+      }
 
-  pub count-end : left ≡ [] → (step m : ℕ) → step ≡ last + 1 - running → m ≡ min (n + step) most → m ≡ min (n + filled_count last running left) most
-  count-end e step m s q = rw (e, q, s)
+  -- All are read.
+  pub count-end : (s : Span) (ps : List Point) → last ≡ year s.end → from ≡ year s.start + 1 → read ≡ within s ps → (m : ℕ) → m ≡ min (n + (last + 1 - running)) most
+      → m ≡ min (length (filled s (year s.start + 1) (within s ps))) most
+  count-end s ps e f q m k =
+      let all : filled_count last from (read ++ []) ≡ length (filled s (year s.start + 1) (within s ps)) =
+      ap (filled_count last from) (append-nil read ∙ q) ∙ rw (e, f) (sym (ap length (filled-to s (year s.start + 1) (within s ps)) ∙ filled-count s.tag (year s.end) (year s.start + 1) (within s ps))) in
+      omega (arith, c.same [], all)

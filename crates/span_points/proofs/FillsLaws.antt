@@ -1,24 +1,21 @@
 -- Points written into a slice from its front on, as many as find room: some of them, then more, then all.
 use mathlib.Core.Path.{◌≡◌, refl, sym, ap, subst, ◌∙◌}
-use mathlib.Core.List.{List, [], ◌∷◌, ◌++◌, append-nil}
+use mathlib.Core.List.{List, [], ◌∷◌, ◌++◌, append_assoc, append-nil}
 use Prim.Native.Nat.{ℕ, zero, suc, ◌+◌, ◌-◌, ◌*◌, ◌/◌, ◌<◌, ◌≤◌, min}
 use native.Mathlib.Nat.{zero-add}
 use native.Mathlib.Decide.{dec_le}
 use native.Mathlib.Omega.{arith}
 use lib.ListN.{length, take, drop, length-take, length-drop}
 use lib.Seq.{take_all, take-nil}
-use lib.Dec.{leb, ltb}
-use Rattle.lists.specs.Lists.{leading, skipping}
 use Rattle.lists.proofs.FillLaws.{Behind, row-behind, Filling, filling-new, filling-behind, filling-count, filling-written}
 use Rattle.lists.proofs.ListLaws.{length-join, join-append}
 use Rattle.lists.proofs.WriteLaws.{behind}
 use Rattle.format.specs.declared.tag.CountryTag.{CountryTag}
 use Rattle.format.specs.declared.rows.Point.{Point}
 use Rattle.format.specs.Dates.{year}
-use Rattle.record.specs.declared.ledger.Points.{Points}
 use Rattle.rules.specs.Ledger.{Span, LedgerPoint, zeros, filled, within, point_words, point_rows}
-use Rattle.span_points.specs.PointSteps.{read_left, point_of, year_filled, filled_to, FillsSpan}
-use Rattle.span_points.proofs.FilledLaws.{zeros-end, span-filled}
+use Rattle.span_points.specs.PointSteps.{point_of, year_filled, filled_to, FillsSpan}
+use Rattle.span_points.proofs.FilledLaws.{zeros-end, zeros-more, filled-to}
 
 -- ## Rows of points
 
@@ -58,12 +55,6 @@ unfolding point_rows
 point-none p before h =
     let none : length before / 3 ≡ 0 = omega arith in
     record { counted = omega arith; cells = rw none }
-
--- No zero stands before it.
-pub year-alone : (tag : CountryTag) (running : ℕ) (p : Point) (r : ℕ) (before after : List ℕ) → p.year ≤ running
-    → FillsSpan (point_of tag p.year p.value ∷ []) r before after → FillsSpan (year_filled tag running p) r before after
-unfolding zeros
-year-alone tag running p r before after h f = let e : p.year - running ≡ 0 = omega arith in rw e f
 
 -- ## Some of all
 
@@ -150,6 +141,20 @@ module _ (ps qs : List LedgerPoint) (before : List ℕ) (n : ℕ) (now : List �
 
 -- ## Zeros
 
+module _ (tag : CountryTag) (running until : ℕ) (before : List ℕ) (i : ℕ) (now : List ℕ)
+    (f : FillingRows (zeros tag running until) (zeros tag (running + i) until) before i now) where
+  -- A zero more, for which there is room.
+  pub zeros-next : (n : ℕ) → n ≡ min (until - running) (length before / 3) → i < n
+      → (r : ℕ) (ys : List ℕ) → FillsSpan (point_of tag (running + i) 0 ∷ []) r (take (length now - 3 * i) (drop (3 * i) now)) ys
+      → FillingRows (zeros tag running until) (zeros tag (running + (i + 1)) until) before (i + 1) (take (3 * i) now ++ (ys ++ drop (length now - 3 * i) (drop (3 * i) now)))
+  zeros-next n size h r ys g =
+      let tail : List ℕ = take (length now - 3 * i) (drop (3 * i) now) in
+      let long : length tail ≡ length now - 3 * i = length-take (length now - 3 * i) (drop (3 * i) now) ∙ omega (arith, length-drop (3 * i) now) in
+      let room : 1 ≤ length tail / 3 = omega (arith, f.filling.long) in
+      let one : r ≡ 1 = omega (arith, g.counted) in
+      subst (λ (m : ℕ). FillingRows (zeros tag running until) (zeros tag (running + (i + 1)) until) before (i + m) (take (3 * i) now ++ (ys ++ drop (length now - 3 * i) (drop (3 * i) now))))
+      one (fills-more _ _ before i now f (point_of tag (running + i) 0 ∷ []) _ r ys (zeros-more tag running until i (omega arith)) g)
+
 pub zeros-fill : (tag : CountryTag) (running until : ℕ) (before : List ℕ) (n i : ℕ) (now : List ℕ)
     → FillingRows (zeros tag running until) (zeros tag (running + i) until) before i now
     → n ≡ min (until - running) (length before / 3) → i ≡ n → FillsSpan (zeros tag running until) n before now
@@ -163,16 +168,37 @@ zeros-fill tag running until before n i now f size e =
           | no p ↦ let full : length before / 3 - i ≡ 0 = omega arith in rw full
         ]
 
--- ## A span
+-- ## A span, point by point
 
-pub span-written : (s : Span) (first : ℕ) (all left : List Point) → first ≡ year s.start → left ≡ skipping (λ p. ltb p.year first) all
-    → (r : ℕ) (before after : List ℕ)
-    → FillsSpan (filled_to s.tag (year s.end) (first + 1) (leading (λ p. leb p.year (year s.end)) left)) r before after
-    → FillsSpan (filled s (year s.start + 1) (within s all)) r before after
-span-written s first all left e skipped r before after h =
-    subst (λ (ps : List LedgerPoint). FillsSpan ps r before after) (sym (span-filled s first all left e skipped)) h
+-- What the points read so far give is written, as far as it found room; the year that runs behind them is `running`.
+pub record Writing (tag : CountryTag) (last from : ℕ) (before : List ℕ) (read : List Point) (running n : ℕ) (now : List ℕ) : Type 0 where
+  pub rows : (rest : List Point) → FillingRows (filled_to tag last from (read ++ rest)) (filled_to tag last running rest) before n now
 
--- The last year is that of a date.
-pub fills-last : (xs : List ℕ) (c : Points) (tag : CountryTag) (last end from r : ℕ) (before after : List ℕ) → last ≡ end
-    → FillsSpan (filled_to tag last from (read_left xs last c)) r before after → FillsSpan (filled_to tag end from (read_left xs end c)) r before after
-fills-last xs c tag last end from r before after e h = rw (← e) h
+pub writing-start : (tag : CountryTag) (last from : ℕ) (before : List ℕ) → Writing tag last from before [] from 0 before
+writing-start tag last from before = record { rows = λ rest. fills-start _ _ before refl }
+
+module _ {tag : CountryTag} {last from : ℕ} {before : List ℕ} {read : List Point} {running n : ℕ} {now : List ℕ} (w : Writing tag last from before read running n now) where
+  -- What is written lies inside the slice.
+  pub writing-inside : (3 * n ≤ length now) × (length now ≡ length before)
+  writing-inside = let f = w.rows [] in (omega (arith, f.few, f.filling.long), f.filling.long)
+
+  pub writing-next : (p : Point) (r : ℕ) (ys : List ℕ) → FillsSpan (year_filled tag running p) r (take (length now - 3 * n) (drop (3 * n) now)) ys
+      → Writing tag last from before (read ++ (p ∷ [])) (p.year + 1) (n + r) (take (3 * n) now ++ (ys ++ drop (length now - 3 * n) (drop (3 * n) now)))
+  writing-next p r ys g =
+      record {
+        rows =
+            λ rest. rw (append_assoc read (p ∷ []) rest)
+            (fills-more _ _ before n now (w.rows (p ∷ rest)) (year_filled tag running p) (filled_to tag last (p.year + 1) rest) r ys refl g);
+      }
+
+  -- All are read: the zeros up to the last year and in it are the last.
+  pub writing-done : (until : ℕ) → until ≡ last + 1 → (r : ℕ) (ys : List ℕ) → FillsSpan (zeros tag running until) r (take (length now - 3 * n) (drop (3 * n) now)) ys
+      → FillsSpan (filled_to tag last from read) (n + r) before (take (3 * n) now ++ (ys ++ drop (length now - 3 * n) (drop (3 * n) now)))
+  writing-done until e r ys g =
+      let all : filled_to tag last running [] ≡ zeros tag running until ++ [] = ap (zeros tag running) (sym e) ∙ sym (append-nil (zeros tag running until)) in
+      rw (append-nil read) at (fills-all _ before (n + r) _ (fills-more _ _ before n now (w.rows []) (zeros tag running until) [] r ys all g))
+
+pub span-written : (s : Span) (ps read : List Point) (last from r : ℕ) (before after : List ℕ) → last ≡ year s.end → from ≡ year s.start + 1 → read ≡ within s ps
+    → FillsSpan (filled_to s.tag last from read) r before after → FillsSpan (filled s (year s.start + 1) (within s ps)) r before after
+span-written s ps read last from r before after e f q h =
+    subst (λ (l : List LedgerPoint). FillsSpan l r before after) (rw (e, f, q) (sym (filled-to s (year s.start + 1) (within s ps)))) h

@@ -1,3 +1,3 @@
+pub mod ReadLaws
 pub mod FilledLaws
 pub mod FillsLaws
-pub mod ReadLaws

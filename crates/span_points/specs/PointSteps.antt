@@ -1,33 +1,20 @@
--- How the code reads the points of a span's ledger row, counts what they give, and writes it: inner steps, which no promise of a call of
--- 01 cites.
-use Rattle.std.specs.Prelude.{◌≡◌, List, [], ◌∷◌, ◌++◌, ℕ, ◌+◌, ◌-◌, ◌/◌, min, leb, length, take}
-use Rattle.lists.specs.Lists.{leading}
+-- How the code counts what the points of a span's ledger row give, and writes it: inner steps, which no promise of a call of 01 cites.
+use Rattle.std.specs.Prelude.{◌≡◌, List, [], ◌∷◌, ◌++◌, ℕ, ◌+◌, ◌-◌, ◌/◌, min, length, take}
 use Rattle.format.specs.declared.tag.CountryTag.{CountryTag}
 use Rattle.format.specs.declared.rows.Point.{Point}
 use Rattle.format.specs.Dates.{year}
-use Rattle.record.specs.declared.ledger.Points.{Points}
-use Rattle.record.specs.declared.ledger.NextPoint as NextPoint
+use Rattle.record.specs.declared.rows.Rows.{Rows}
 use Rattle.record.specs.Cursors.{points_left}
 use Rattle.rules.specs.Lent.{written}
 use Rattle.rules.specs.Ledger.{LedgerPoint, zeros, filled, within, point_rows}
 use Rattle.spans.specs.declared.walk.Span.{Span}
 use Rattle.spans.specs.SpanSteps.{span_in}
 
--- ## Reading
-
--- The points that a cursor has left up to the first past a last year, and what a step tells of them.
-abbrev pub read_left : List ℕ → ℕ → Points → List Point
-read_left xs last c = leading (λ p. leb p.year last) (points_left xs c)
-
-abbrev pub read_told : List ℕ → ℕ → NextPoint.NextPoint → List Point
-read_told xs last (NextPoint.TheVariants.Row p c) = p ∷ read_left xs last c
-read_told xs last NextPoint.TheVariants.End = []
-
 -- ## What a span gives
 
--- The points of a span, with a cursor at the first point of its ledger row.
-abbrev pub span_filled : List ℕ → Points → Span → List LedgerPoint
-span_filled xs c s = filled (span_in s) (year (span_in s).start + 1) (within (span_in s) (points_left xs c))
+-- The points of a span, with those of its ledger row.
+abbrev pub span_filled : Rows Point 6 → Span → List LedgerPoint
+span_filled points s = filled (span_in s) (year s.start + 1) (within (span_in s) (points_left points))
 
 -- A point of a tag.
 abbrev pub point_of : CountryTag → ℕ → ℕ → LedgerPoint

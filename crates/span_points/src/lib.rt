@@ -3,7 +3,6 @@
 
 mod counting;
 mod filling;
-mod reading;
 
 pub use counting::count_span;
 pub use filling::{LEDGER_WIDTH, write_span};

@@ -1,15 +1,15 @@
 -- How the code walks the spans of a nation: inner steps, which no promise of a call of 01 cites.
-use Rattle.std.specs.Prelude.{Bool, true, false, cond, List, [], ◌∷◌, ℕ, ◌-◌}
+use Rattle.std.specs.Prelude as code
+use Rattle.std.specs.Prelude.{Bool, true, false, List, [], ◌-◌, Some, None}
 use Rattle.format.specs.declared.tag.CountryTag.{CountryTag}
 use Rattle.format.specs.declared.date.Eu4Date.{Eu4Date}
-use Rattle.rules.specs.Chronicle.{Kind, switch, appeared, annexed}
+use Rattle.rules.specs.Chronicle.{Kind, switch, appeared, annexed, Entry}
 use Rattle.rules.specs.Ledger as R
 use Rattle.rules.specs.Ledger.{spans_from}
 use Rattle.chronicle_rows.specs.RowAt.{entries_at}
 use Rattle.spans.specs.declared.walk.Span.{Span}
 use Rattle.spans.specs.declared.walk.RunningSpan.{RunningSpan}
-use Rattle.spans.specs.declared.walk.SpanWalk.{SpanWalk}
-use Rattle.spans.specs.declared.walk.NextSpan as NextSpan
+use Rattle.spans.specs.declared.walk.Spans.{Spans}
 
 -- The span that the code holds, and the one that is running.
 abbrev pub span_in : Span → R.Span
@@ -28,12 +28,11 @@ closes_one (switch t) = true
 closes_one appeared = false
 closes_one annexed = true
 
--- The spans that a walk has left: none behind the last one, else those of the entries that are left.
-abbrev pub spans_left : List ℕ → Eu4Date → SpanWalk → List R.Span
-spans_left es current w =
-    cond w.ended [] (spans_from current (running_in w.running) (entries_at es w.entry (w.end - w.entry)))
+-- What is running gives with the entries that are left; nothing runs once the last span was given.
+abbrev pub spans_running : Eu4Date → code.Option RunningSpan → List Entry → List R.Span
+spans_running current None es = []
+spans_running current (Some r) es = spans_from current (running_in r) es
 
--- What a step tells.
-abbrev pub span_told : List ℕ → Eu4Date → NextSpan.NextSpan → List R.Span
-span_told es current (NextSpan.TheVariants.Row s w) = span_in s ∷ spans_left es current w
-span_told es current NextSpan.TheVariants.End = []
+-- The spans that an iterator has left.
+abbrev pub spans_left : Spans → List R.Span
+spans_left s = spans_running s.current s.running (entries_at s.entries.now s.next (s.end - s.next))

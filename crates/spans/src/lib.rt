@@ -1,6 +1,6 @@
-// The spans of a nation, walked along its entries.
+// The spans of a nation, one by one along its entries.
 #![tactic(auto)]
 
 mod walk;
 
-pub use walk::{NextSpan, Span, SpanWalk};
+pub use walk::{Span, Spans};

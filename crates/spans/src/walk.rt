@@ -1,151 +1,122 @@
-// A walk over the spans of a nation, entry by entry. Entries may be in any order: a span may well end before it starts.
-ghost use Rattle.std.specs.Prelude.{◌≡◌, false, List, ℕ};
+// An iterator over the spans of a nation, entry by entry. Entries may be in any order: a span may well end before it starts.
+ghost use Rattle.std.specs.Prelude.{◌≡◌, false};
+ghost use Rattle.std.specs.Iterator.{YieldsFirstBy, item_count};
 ghost use Rattle.rules.specs.Ledger.{runs_on, closed as closedSpan, spans_from};
 ghost use Rattle.chronicle_rows.specs.Cases.{kind_told};
 ghost use Rattle.chronicle_rows.specs.RowAt.{entries_at};
-ghost use Rattle.spans.specs.SpanSteps.{span_in, running_in, opened_span, closes_one, spans_left, span_told};
+ghost use Rattle.spans.specs.SpanSteps.{span_in, running_in, opened_span, closes_one, spans_left};
 
-use chronicle_rows::{Kind, Nation, entry_at};
+use chronicle_rows::{Entry, Kind, Nation, entry_at};
 use format::{CountryTag, Eu4Date};
 
 // A tag, with the dates whose years bound the points that it gives.
-#[derive(Clone, Copy)]
+#[derive(Clone, Copy, Debug, PartialEq, Eq)]
 pub struct Span {
     pub tag: CountryTag,
     pub start: Eu4Date,
     pub end: Eu4Date,
 }
 
-// The span that no entry has closed yet, and whether Annexed came last.
+// The span that no entry has closed yet, and whether Annexed came last: tag and start go on behind it, for an Appeared.
 #[derive(Clone, Copy)]
-pub struct RunningSpan {
+pub(crate) struct RunningSpan {
     pub(crate) tag: CountryTag,
     pub(crate) start: Eu4Date,
     pub(crate) annexed_last: bool,
-}
-
-// Where a walk over spans stands: what is running, which entries are left, and whether what runs on behind them was given.
-#[derive(Clone, Copy)]
-pub struct SpanWalk {
-    pub(crate) running: RunningSpan,
-    pub(crate) entry: usize,
-    pub(crate) end: usize,
-    pub(crate) ended: bool,
-}
-
-#[derive(Clone, Copy)]
-pub enum NextSpan {
-    Row(Span, SpanWalk),
-    End,
 }
 
 // Whether an entry of this kind closes a span.
 fn closes_one(kind: Kind) -> bool
     ensures { result ≡ closes_one (kind_told kind) }
 {
-    match kind {
-        Kind::Switch(_) => true,
-        Kind::Appeared => false,
-        Kind::Annexed => true,
-    }
+    matches!(kind, Kind::Switch(_) | Kind::Annexed)
 }
 
 impl RunningSpan {
-    // The span, closed on a date.
-    fn closed(self, date: Eu4Date) -> Span
-        ensures { span_in result ≡ closedSpan (running_in self) date }
-    {
-        let tag = self.tag;
-        let start = self.start;
-        Span {
-            tag,
-            start,
-            end: date,
-        }
-    }
-
     // A span that begins on a date.
-    fn opened(tag: CountryTag, date: Eu4Date) -> RunningSpan
-        ensures { running_in result ≡ opened_span tag date }
+    fn opened(tag: CountryTag, start: Eu4Date) -> RunningSpan
+        ensures { running_in result ≡ opened_span tag start }
     {
         RunningSpan {
             tag,
-            start: date,
+            start,
             annexed_last: false,
         }
     }
 
-    // What runs on behind an entry.
-    fn behind(self, date: Eu4Date, kind: Kind) -> RunningSpan
-        ensures { running_in result ≡ runs_on (running_in self) date (kind_told kind) }
+    // The span, closed on a date.
+    fn closed(self, end: Eu4Date) -> Span
+        ensures { span_in result ≡ closedSpan (running_in self) end }
     {
-        let tag = self.tag;
-        let start = self.start;
-        match kind {
-            Kind::Switch(target) => RunningSpan::opened(target, date),
-            Kind::Appeared => RunningSpan::opened(tag, date),
+        Span {
+            tag: self.tag,
+            start: self.start,
+            end,
+        }
+    }
+
+    // What runs on behind an entry.
+    fn behind(self, entry: Entry) -> RunningSpan
+        ensures { running_in result ≡ runs_on (running_in self) entry.date (kind_told entry.kind) }
+    {
+        match entry.kind {
+            Kind::Switch(target) => RunningSpan::opened(target, entry.date),
+            Kind::Appeared => RunningSpan::opened(self.tag, entry.date),
             Kind::Annexed => RunningSpan {
-                tag,
-                start,
                 annexed_last: true,
+                ..self
             },
         }
     }
 }
 
-impl SpanWalk {
-    // A walk over the spans of a nation's row, from the campaign's start date on.
-    pub fn begin(nation: Nation, start: Eu4Date) -> SpanWalk
-        ensures { (es : List ℕ) (current : Eu4Date) → spans_left es current result ≡ spans_from current (record { tag = nation.initial; start = start; annexed_last = false }) (entries_at es nation.first nation.count) }
+// What runs, until the last span was given; the entries from number `next` on, which lie before `end`; and the date on which what still runs behind
+// them is closed.
+#[derive(Clone, Copy)]
+pub struct Spans<'a> {
+    pub(crate) running: Option<RunningSpan>,
+    pub(crate) entries: &'a [u32],
+    pub(crate) next: usize,
+    pub(crate) end: usize,
+    pub(crate) current: Eu4Date,
+}
+
+impl<'a> Spans<'a> {
+    // The spans of a nation's row, from the campaign's start date on.
+    pub fn of(entries: &'a [u32], nation: Nation, start: Eu4Date, current: Eu4Date) -> Spans<'a>
+        ensures { spans_left result ≡ spans_from current (opened_span nation.initial start) (entries_at entries.now nation.first nation.count) }
     {
-        let tag = nation.initial;
-        let entry = nation.first as usize;
-        let end = entry + nation.count as usize;
-        let running = RunningSpan::opened(tag, start);
-        SpanWalk {
-            running,
-            entry,
-            end,
-            ended: false,
+        let next = nation.first as usize;
+        Spans {
+            running: Some(RunningSpan::opened(nation.initial, start)),
+            entries,
+            next,
+            end: next + nation.count as usize,
+            current,
         }
     }
+}
 
-    // The next span and where to go on, or the end.
-    pub fn next(self, entries: &[u32], current: Eu4Date) -> NextSpan
-        ensures { spans_left entries.now current self ≡ span_told entries.now current result }
-    {
-        if self.ended {
-            return NextSpan::End;
-        }
-        let end = self.end;
-        let mut running = self.running;
-        let mut entry = self.entry;
-        while entry < end {
-            let e = entry_at(entries, entry);
-            let date = e.date;
-            let kind = e.kind;
-            let span = running.closed(date);
-            running = running.behind(date, kind);
-            entry += 1;
-            if closes_one(kind) {
-                let rest = SpanWalk {
-                    running,
-                    entry,
-                    end,
-                    ended: false,
-                };
-                return NextSpan::Row(span, rest);
+impl Iterator for Spans<'_> {
+    type Item = Span;
+
+    ghost next_gives = { YieldsFirstBy span_in spans_left };
+
+    ghost remaining = { item_count spans_left };
+
+    fn next(&mut self) -> Option<Span> {
+        let mut running = self.running?;
+        for number in self.next..self.end {
+            let entry = entry_at(self.entries, number);
+            let span = running.closed(entry.date);
+            running = running.behind(entry);
+            if closes_one(entry.kind) {
+                self.next = number + 1;
+                self.running = Some(running);
+                return Some(span);
             }
         }
-        if running.annexed_last {
-            return NextSpan::End;
-        }
-        let rest = SpanWalk {
-            running,
-            entry,
-            end,
-            ended: true,
-        };
-        NextSpan::Row(running.closed(current), rest)
+        self.running = None;
+        (!running.annexed_last).then_some(running.closed(self.current))
     }
 }

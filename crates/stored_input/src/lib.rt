@@ -1,22 +1,50 @@
-// Reading a stored file into buffers, for the programs that replay stored cases.
+// Reading inputs into buffers, and replaying the lists of cases that stand in stored files.
 #![tactic(auto)]
 
-ghost use Rattle.std.specs.Prelude.{◌≤◌, length};
+mod numbers;
+mod replay;
 
+ghost use Rattle.std.specs.Prelude.{◌<◌, ◌≤◌, length, IfOk, IfErr, IfSome};
+ghost use Rattle.std.specs.Io.KnownBytes.{IsAtEnd};
+ghost use Rattle.stored_input.specs.Reading.{BeginsRead};
+
+pub use numbers::{BrokenOff, Stored, next_number, read_head, read_part, stored_answer, take_part};
+pub use replay::{Counts, Replay, Tally, replay_list};
 use std::fs::File;
 use std::io::Read;
+use std::rt::Files;
 
-// Reads until buf is full, the file ends or a read fails, and returns how many bytes it put at the start of buf.
-pub fn read_full(file: &mut File, buf: &mut [u8]) -> usize
-    ensures { result ≤ length buf.new }
+// A read that failed, behind so many bytes that came before.
+#[derive(Clone, Copy, Debug, PartialEq, Eq)]
+pub struct ReadFailed {
+    pub after: usize,
+}
+
+// Reads until buf is full, the input ends or a read fails, and returns how many bytes it put at the start of buf. A loop of its own: `read_exact`
+// does not tell how far it came.
+pub fn read_full<R: Read>(input: &mut R, buf: &mut [u8]) -> Result<usize, ReadFailed>
+    ensures read { IfOk result (λ n. BeginsRead (R.remaining input.old) (R.remaining input.new) buf.new n) }
+    ensures end { IfOk result (λ n. n < length buf.new → IsAtEnd (R.remaining input.new)) }
+    ensures failed { IfErr result (λ e. BeginsRead (R.remaining input.old) (R.remaining input.new) buf.new e.after) }
 {
     let mut done = 0;
     while done < buf.len() {
-        let n = file.read(&mut buf[done..]).unwrap_or(0);
+        let Ok(n) = input.read(&mut buf[done..]) else {
+            return Err(ReadFailed { after: done });
+        };
         if n == 0 {
             break;
         }
         done += n;
     }
-    done
+    Ok(done)
+}
+
+// Reads a file into a buffer, as far as it has room: nothing of one that cannot be opened or read.
+pub fn read_file<'a>(rt: &impl Files, name: &str, buf: &'a mut [u8]) -> Option<&'a [u8]>
+    ensures { IfSome result (λ s. length s.now ≤ length buf.old) }
+{
+    let mut file = File::open(rt, name).ok()?;
+    let n = read_full(&mut file, buf).ok()?;
+    Some(&buf[..n])
 }

@@ -12,15 +12,15 @@ use crate::Refusal;
 /// thread was measured to need on records at the limits.
 #[derive(Clone, Copy, Debug)]
 pub(crate) enum Depth {
-    /// `check`, for which 68 KiB were enough.
+    /// `check`, for which 84 KiB were enough.
     Check = 192 << 10,
-    /// Players, of 68 KiB, ledgers, of 100, and histories, of 160.
+    /// Players, of 80 KiB, ledgers, of 176, and histories, of 176.
     Rows = 576 << 10,
-    /// Owner changes, of 1,004 KiB, those of a day, bookings, of 676, and many questions, of 616.
+    /// Owner changes, of 1,020 KiB, those of a day, bookings, of 688, and many questions, of 632.
     Changes = 1_152 << 10,
-    /// The chronicle, of 1,512 KiB.
+    /// The chronicle, of 1,540 KiB.
     Nations = 1_664 << 10,
-    /// The page, of 1,744 KiB.
+    /// The page, of 1,740 KiB.
     Page = 1_920 << 10,
 }
 

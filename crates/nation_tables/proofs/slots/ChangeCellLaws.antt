@@ -9,7 +9,7 @@ use native.Mathlib.Omega.{arith}
 use borrow.Author.Tests.{ltb-true, ltb-false, eqb-true, eqb-false}
 use lib.Dec.{leb, ltb, eqb}
 use lib.ListN.{length, get_or, drop}
-use lib.Seq.{take-length, drop-drop, get_or-drop}
+use lib.Seq.{drop-drop, get_or-drop}
 use Rattle.lists.specs.Lists.{All, twice, first_or}
 use Rattle.lists.proofs.BoolLaws.{cases}
 use Rattle.lists.proofs.ElementLaws.{at-inside, at-end, map_same, same-each}
@@ -26,12 +26,12 @@ use Rattle.rules.specs.Changes.{province_changes, by_date_and_id}
 use Rattle.rules.specs.Nations.{all_switches, settles, move_of}
 use Rattle.rules.specs.NationRows.{holder_word}
 use Rattle.change_keys.specs.ChangeSteps.{entered, change_key, change_keys_from, tags_of, change_at, per_id, per_date}
-use Rattle.nation_tables.specs.Layout.{key_rows, key_dates, key_tags, cell_rows}
-use Rattle.nation_tables.specs.Lookup.{no_row, FirstSorted}
+use Rattle.nation_tables.specs.Layout.{key_rows, key_tags, cell_rows}
+use Rattle.nation_tables.specs.Lookup.{no_row}
 use Rattle.nation_tables.specs.Countries.{tag_at_row, words_of_tags, places_of, row_of, Keyed}
 use Rattle.nation_tables.specs.Settling.{or_tag, settled_row, RowHolds}
 use Rattle.nation_tables.specs.Turning.{first_at, holder_row}
-use Rattle.nation_tables.specs.Holders.{Settler, slot_cell, holder_cell, Step, step_at, steps_of}
+use Rattle.nation_tables.specs.Holders.{Settler, Small, slot_cell, holder_cell, Step, step_at, steps_of}
 use Rattle.rules.proofs.CampaignLaws.{all-changes}
 use Rattle.change_keys.proofs.ChangeLaws.{Narrow}
 use Rattle.change_keys.proofs.ChangeKeyLaws.{changes-back, keys-sorted}
@@ -76,11 +76,6 @@ row_back ks few once row inside =
 
 -- ## Small numbers
 
--- A change whose date and tag have room in the keys of switches.
-pub record Small (x : Change) : Type 0 where
-  pub date : x.date.0 < key_dates
-  pub to : x.to.0 < key_tags
-
 -- All changes of an accepted record are small.
 pub entered-small : (xs : List ℕ) → refusal xs ≡ 0 → All Small (entered xs)
 entered-small xs h =
@@ -108,13 +103,6 @@ Short ks = All (λ k. k.tag.0 < key_tags) ks
 -- The keys of a table are in order.
 pub all-sorted : (xs keys : List ℕ) → keys ≡ sort_by leb xs → sort_by leb keys ≡ keys
 all-sorted xs keys e = ap (sort_by leb) e ∙ sort-again xs ∙ sym e
-
-pub first-sorted : (xs keys : List ℕ) → keys ≡ sort_by leb xs → FirstSorted (length keys) keys
-first-sorted xs keys e =
-    record {
-      inside = omega arith;
-      sorted = ap (sort_by leb) (take-length keys) ∙ all-sorted xs keys e ∙ sym (take-length keys);
-    }
 
 module _ (ks : List Country) (ws ss : List ℕ) (q : Settler ks ws ss) (x : Change) (small : Small x) (row : ℕ)
     (found : RowHolds ss x.to x.date row) where

@@ -14,14 +14,14 @@ use Rattle.format.proofs.SoundLaws.{sound}
 use Rattle.record.specs.Cursors.{countries_left, provinces_left}
 use Rattle.rules.specs.Nations.{slots_of, moves_of, last_holder, holders_of}
 use Rattle.rules.proofs.CampaignLaws.{length-slots}
-use Rattle.change_keys.specs.ChangeSteps.{most_changes, AtFirstProvince}
+use Rattle.change_keys.specs.ChangeSteps.{most_changes}
 use Rattle.change_keys.proofs.ChangeLaws.{changes-few}
-use Rattle.nation_tables.specs.declared.gathering.Origin.{Origin}
+use Rattle.record.specs.declared.opened.Record.{Record}
 use Rattle.nation_tables.specs.declared.gathering.Sizes.{Sizes}
 use Rattle.nation_tables.specs.Layout.{most_countries, most_switches, most_settling, most_slots, rows_within, half, no_change}
 use Rattle.nation_tables.specs.Countries.{words_of_tags, switch_keys_from, settling_keys_from, with_own, Keyed, OwnLast}
 use Rattle.nation_tables.specs.Turning.{high_halves, low_halves}
-use Rattle.nation_tables.specs.Holders.{Tables, HoldingRoom, slot_cell, slot_cells, started_of, Held}
+use Rattle.nation_tables.specs.Holders.{Tables, HoldingRoom, HoldingAsked, slot_cell, slot_cells, started_of, Held}
 use Rattle.nation_tables.specs.Switches.{runs_from, run_keys, target_words}
 use Rattle.nation_tables.specs.Gathering.{Begun, TablesRoom, TablesFilled, FewSwitches, Arranged, CampaignCells, cells_from, TableRoom, Gathered}
 use Rattle.nation_tables.proofs.tables.KeyedLaws.{countries-few, provinces-few, switches-few, accepted-keyed, accepted-own}
@@ -42,14 +42,14 @@ length-first n k xs l e = rw (sub-zero n) (length-take-le n xs l ∙ e)
 
 -- ## An accepted record, and room for its tables
 
-module _ (xs : List ℕ) (from : Origin) (pre : Begun xs from) (words initials switches keys cells slots started turns firsts : List ℕ)
+module _ (xs : List ℕ) (from : Record) (pre : Begun xs from) (words initials switches keys cells slots started turns firsts : List ℕ)
     (room : TableRoom (length xs) words initials switches keys cells slots started turns firsts) where
   abbrev c : Campaign
   c = campaign_of xs
 
-  -- Its countries, as the cursor has them.
+  -- Its countries, as the iterator has them.
   abbrev told : List Country
-  told = countries_left xs from.countries
+  told = countries_left from.countries
 
   -- There are not many.
   told-few : length told ≤ most_countries
@@ -90,12 +90,12 @@ module _ (xs : List ℕ) (from : Origin) (pre : Begun xs from) (words initials s
   pub settling-within : (n m k : ℕ) → n ≡ length (settling_keys_from 0 told) → m ≡ k → rows_within most_settling (length xs) ≤ k → n ≤ m
   settling-within n m k e q z = let a = told-settling-few k z in omega arith
 
-  pub slots-within : (n m : ℕ) → n ≡ length (provinces_left xs from.provinces) → most_slots ≤ m → n + 1 ≤ m
+  pub slots-within : (n m : ℕ) → n ≡ length (provinces_left from.provinces) → most_slots ≤ m → n + 1 ≤ m
   slots-within n m e z = let a = provinces-few xs pre.ready.accepted in let b = ap length pre.ready.rows in omega arith
 
   -- The tables of countries and switches are filled.
   module _ (r : Sizes) (p : ℕ) (words₁ initials₁ switches₁ : List ℕ) (f : TablesFilled told r words₁ initials₁ switches₁)
-      (provinces : p ≡ length (provinces_left xs from.provinces)) where
+      (provinces : p ≡ length (provinces_left from.provinces)) where
     filled : TablesFilled c.countries r words₁ initials₁ switches₁
     filled = subst (λ ks. TablesFilled ks r words₁ initials₁ switches₁) pre.countries f
 
@@ -112,9 +112,8 @@ module _ (xs : List ℕ) (from : Origin) (pre : Begun xs from) (words initials s
 
     -- What the settling asks.
     pub holding-asked : (cells₁ : List ℕ) → length cells₁ ≡ length cells
-        → AtFirstProvince xs from.provinces
-        × (Tables c.countries (take (r.countries - 0) words₁) (take (r.countries - 0) initials₁) (take (r.settling - 0) switches₁)
-        × HoldingRoom xs keys cells₁ (take (p + 1 - 0) slots) (take (r.countries - 0) started) turns)
+        → HoldingAsked xs from.provinces (take (r.countries - 0) words₁) (take (r.countries - 0) initials₁) (take (r.settling - 0) switches₁) keys cells₁
+        (take (p + 1 - 0) slots) (take (r.countries - 0) started) turns
     holding-asked cells₁ kept =
         let g = filled in
         let tables : Tables c.countries (take (r.countries - 0) words₁) (take (r.countries - 0) initials₁) (take (r.settling - 0) switches₁) =
@@ -137,7 +136,7 @@ module _ (xs : List ℕ) (from : Origin) (pre : Begun xs from) (words initials s
           slots = length-first (p + 1) _ slots (slots-within p (length slots) provinces room.slots) slot-count;
           started = length-first r.countries _ started (countries-within r.countries _ _ f.countries refl room.started) g.countries;
         } in
-        (pre.ready, (tables, held))
+        record { ready = pre.ready; tables = tables; room = held }
 
     -- All changes are settled.
     module _ (n : ℕ) (keys₁ slots₁ started₁ turns₁ : List ℕ) (h : Held xs n keys₁ slots₁ started₁ turns₁) where

@@ -1,7 +1,7 @@
 -- The holders of the slots by their cells: the start, and what the pass over all steps leaves of the campaign's turns and holders.
 use mathlib.Core.Path.{◌≡◌, refl, sym, ap, ap₂, subst, ◌∙◌}
 use mathlib.Core.Bool.{false}
-use mathlib.Core.List.{List, [], ◌∷◌, ◌++◌, map, append-nil}
+use mathlib.Core.List.{List, [], ◌∷◌, ◌++◌, map}
 use mathlib.Core.Option
 use mathlib.Core.Option.{Option}
 use Prim.Native.Nat.{ℕ, suc, ◌+◌, ◌-◌, ◌*◌, ◌%◌, ◌≤◌, ◌<◌}
@@ -9,16 +9,16 @@ use native.Mathlib.Nat.{sub-zero}
 use native.Mathlib.Omega.{arith}
 use borrow.Author.Tests.{eqb-true, eqb-false}
 use lib.Dec.{leb, eqb}
-use lib.ListN.{length, take, length-map, drop_of_length-le}
-use lib.Seq.{take_at, take-length}
+use lib.ListN.{length, take, length-map}
+use lib.Seq.{take_at}
 use Rattle.lists.specs.Lists.{All, keep, count_of, twice, last, numbers_from}
 use Rattle.lists.proofs.BoolLaws.{cases}
 use Rattle.lists.proofs.ElementLaws.{map_same}
-use Rattle.lists.proofs.ListLaws.{all_map, all-images, all_of_map, all_keep, all-last, map-then, length-numbers}
+use Rattle.lists.proofs.ListLaws.{all_map, all-images, all_of_map, all_keep, all-last, map-then}
 use Rattle.sorting.specs.Sort.{sort_by}
 use Rattle.sorting.proofs.SortLaws.{all-sort, length-sort}
 use Rattle.format.specs.declared.tag.CountryTag.{CountryTag}
-use Rattle.record.specs.declared.cursors.Provinces.{Provinces}
+use Rattle.record.specs.declared.provinces.Provinces.{Provinces}
 use Rattle.format.specs.Tags.{same_tag}
 use Rattle.record.specs.Cursors.{provinces_left}
 use Rattle.format.specs.Campaign.{Campaign, Country, Province, campaign_of}
@@ -34,35 +34,27 @@ use Rattle.nation_tables.specs.Lookup.{no_row}
 use Rattle.nation_tables.specs.Countries.{tag_at_row, words_of_tags, initial_words, row_keys, initial_row}
 use Rattle.nation_tables.specs.Starting.{owner_in, slot_rows, Slotted, Started}
 use Rattle.nation_tables.specs.Turning.{high_halves, low_halves, row_turns_of, Rowed}
-use Rattle.nation_tables.specs.Holders.{row_cell, slot_cell, slot_cells, cell_word, slot_counts, holder_cell, step_at, steps_of}
+use Rattle.nation_tables.specs.Holders.{Small, row_cell, slot_cell, slot_cells, cell_word, slot_counts, holder_cell, step_at, steps_of}
 use Rattle.nation_tables.specs.Holders.{turns_along, cells_along, turn_cell, Passed, Began, Stepped, Held}
 use Rattle.change_keys.proofs.ChangeLaws.{entered-few, entered-narrow}
 use Rattle.change_keys.proofs.ChangeKeyLaws.{length-change-keys}
 use Rattle.nation_tables.proofs.tables.KeyedLaws.{tag_small, accepted-keyed, accepted-slotted}
 use Rattle.nation_tables.proofs.tables.MappedLaws.{row-mapped}
 use Rattle.nation_tables.proofs.slots.SlotPassLaws.{length-along, passed-rows}
-use Rattle.nation_tables.proofs.slots.ChangeCellLaws.{holder-word, row_back, Small, entered-small, Short, settled-small, steps-sorted}
+use Rattle.nation_tables.proofs.slots.ChangeCellLaws.{holder-word, row_back, entered-small, Short, settled-small, steps-sorted}
 use Rattle.nation_tables.proofs.slots.TurningLaws.{steps_in, cell_parts, cell-rows, cell-words, all_after, row-turns, holder-cells, counts-held}
 
 -- ## The start
 
 module _ (c : Campaign) (few : length c.countries ≤ key_rows) (once : twice (words_of_tags c.countries) ≡ false) (keys : List ℕ)
-    (initials : keys ≡ row_keys (initial_words c.countries)) (before rows : List ℕ) (size : length before ≡ suc (length c.provinces))
-    (s : Started keys c.provinces (length before) before rows) where
+    (initials : keys ≡ row_keys (initial_words c.countries)) (count : ℕ) (rows : List ℕ) (size : count ≡ suc (length c.provinces))
+    (s : Started keys c.provinces count rows) where
   abbrev ks : List Country
   ks = c.countries
 
   -- The row of each slot.
   abbrev slots : List ℕ
-  slots = slot_rows keys c.provinces (length before)
-
-  -- There are no other cells.
-  all_slots : rows ≡ slots
-  all_slots =
-      let long : length slots ≡ length before =
-      length-map (numbers_from 0 (length before)) (λ n. initial_row keys (owner_in c.provinces (record { 0 = n })))
-      ∙ length-numbers 0 (length before) in
-      s.cells ∙ ap (λ (l : List ℕ). slots ++ l) (drop_of_length-le before {i = length slots} (omega arith)) ∙ append-nil slots
+  slots = slot_rows keys c.provinces count
 
   -- The holders in these rows are the start holders.
   slot-holders : map (tag_at_row ks) slots ≡ start_holders c
@@ -71,14 +63,14 @@ module _ (c : Campaign) (few : length c.countries ≤ key_rows) (once : twice (w
   -- The cells of these rows are those of the start holders.
   pub start-cells : map (row_cell (words_of_tags ks)) (low_halves rows) ≡ map (slot_cell (words_of_tags ks)) (start_holders c)
   start-cells =
-      ap (λ (l : List ℕ). map (row_cell (words_of_tags ks)) (low_halves l)) all_slots
+      ap (λ (l : List ℕ). map (row_cell (words_of_tags ks)) (low_halves l)) s.cells
       ∙ map-then (λ x. x % cell_rows) (row_cell (words_of_tags ks)) slots
       ∙ map_same (λ r. row_cell (words_of_tags ks) (r % cell_rows)) (λ r. slot_cell (words_of_tags ks) (tag_at_row ks r)) slots
       (all-images (λ r. row_cell (words_of_tags ks) (r % cell_rows) ≡ slot_cell (words_of_tags ks) (tag_at_row ks r))
       (λ n. initial_row keys (owner_in c.provinces (record { 0 = n })))
       (λ n. let t = owner_in c.provinces (record { 0 = n }) in
       one_cell (initial_row keys t) ((row-mapped keys t t.0 (initial_row keys t) refl refl).inside ks few initials))
-      (numbers_from 0 (length before)))
+      (numbers_from 0 count))
       ∙ sym (map-then (tag_at_row ks) (slot_cell (words_of_tags ks)) slots)
       ∙ ap (map (slot_cell (words_of_tags ks))) slot-holders
     where
@@ -95,7 +87,7 @@ module _ (c : Campaign) (few : length c.countries ≤ key_rows) (once : twice (w
 
 -- The provinces of an accepted record are in the slots.
 pub slots-there : (xs : List ℕ) (c : Provinces) → AtFirstProvince xs c → (slots : ℕ) → slots ≡ suc (length (campaign_of xs).provinces)
-    → Slotted slots (provinces_left xs c)
+    → Slotted slots (provinces_left c)
 slots-there xs c ready slots e = subst (Slotted slots) (sym ready.rows) (accepted-slotted xs ready.accepted slots (omega arith))
 
 -- ## All of it
@@ -171,14 +163,14 @@ module _ (xs : List ℕ) (z : refusal xs ≡ 0) where
 
   -- What `start_slots` leaves.
   pub began : (ws is : List ℕ) (ps : List Province) → ps ≡ campaign.provinces → ws ≡ words_of_tags campaign.countries
-      → is ≡ row_keys (initial_words campaign.countries) → (before rows slots counts : List ℕ) (n : ℕ)
-      → length before ≡ suc (length campaign.provinces) → n ≡ length campaign.countries
-      → Started (take (length is) is) ps (length before) before rows → slots ≡ map (row_cell ws) (low_halves rows) → counts ≡ slot_counts (low_halves slots) n
+      → is ≡ row_keys (initial_words campaign.countries) → (count : ℕ) (rows slots counts : List ℕ) (n : ℕ)
+      → count ≡ suc (length campaign.provinces) → n ≡ length campaign.countries
+      → Started is ps count rows → slots ≡ map (row_cell ws) (low_halves rows) → counts ≡ slot_counts (low_halves slots) n
       → Began campaign slots counts
-  began ws is ps p w i before rows slots counts n size e s f g =
-      let s' : Started is campaign.provinces (length before) before rows = rw (p, take-length is) at s in
+  began ws is ps p w i count rows slots counts n size e s f g =
+      let s' : Started is campaign.provinces count rows = rw p at s in
       let cells : slots ≡ slot_cells campaign (start_holders campaign) =
-      f ∙ ap (λ (l : List ℕ). map (row_cell l) (low_halves rows)) w ∙ start-cells campaign few once is i before rows size s' in
+      f ∙ ap (λ (l : List ℕ). map (row_cell l) (low_halves rows)) w ∙ start-cells campaign few once is i count rows size s' in
       record { slots = cells; started = g ∙ ap (λ (l : List ℕ). slot_counts (low_halves l) n) cells ∙ counts-of (start_holders campaign) n e }
 
   -- What `sort_steps` leaves.

@@ -1,8 +1,10 @@
--- Cells for any record of so many bytes suffice for each. Whether there is room for the tables, as the code tests it, and where a record begins.
-use mathlib.Core.Path.{◌≡◌, refl, sym, subst, ◌∙◌}
+-- Cells for any record of so many bytes suffice for each. Whether there is room for the tables, as the code tests it.
+use Rattle.std.specs.Prelude as code
+use Rattle.std.specs.Prelude.{Ok}
+use mathlib.Core.Path.{◌≡◌, refl, sym, ◌∙◌}
 use mathlib.Core.Bool.{Bool, true, false, not, ◌&&◌, true≢false}
 use mathlib.Core.List.{List}
-use Prim.Native.Nat.{ℕ, ◌≤◌, ◌<◌}
+use Prim.Native.Nat.{ℕ, ◌≤◌}
 use native.Mathlib.Omega.{arith}
 use borrow.Author.Tests.{leb-true, le-leb}
 use lib.Dec.{leb}
@@ -10,16 +12,16 @@ use lib.ListN.{length}
 use Rattle.lists.proofs.BoolLaws.{both}
 use Rattle.sorting.proofs.SortLaws.{length-sort}
 use Rattle.format.specs.Campaign.{campaign_of}
+use Rattle.format.specs.declared.refused.Refusal.{Refusal}
 use Rattle.format.specs.Refusal.{refusal}
+use Rattle.record.specs.declared.opened.Record.{Record}
+use Rattle.record.specs.Opened.{Tells, RightlyOpened}
 use Rattle.rules.specs.Changes.{by_date_and_id, changes_of}
 use Rattle.change_keys.specs.ChangeSteps.{entered, most_changes}
 use Rattle.change_keys.proofs.ChangeLaws.{entered-few, entered-bytes}
-use Rattle.nation_tables.specs.declared.gathering.Origin.{Origin}
-use Rattle.nation_tables.specs.declared.gathering.Beginning.{Beginning}
-use Rattle.nation_tables.specs.declared.gathering.Beginning.TheVariants.{At, Refused}
 use Rattle.nation_tables.specs.Layout.{most_countries, most_settling, most_slots, rows_within}
 use Rattle.nation_tables.specs.Countries.{switch_keys_from, settling_keys_from}
-use Rattle.nation_tables.specs.Gathering.{Begun, beginning_told, TableRoom, room_of}
+use Rattle.nation_tables.specs.Gathering.{Begun, TableRoom, room_of}
 use Rattle.nation_tables.proofs.tables.OwnKeyLaws.{settling-count}
 use Rattle.nation_tables.proofs.tables.KeyedLaws.{settling-few, settling-bytes}
 
@@ -108,10 +110,11 @@ module _ (bytes : ℕ) (words initials switches keys cells slots started turns f
       affirmed true h = refl
       affirmed false h = sym h
 
--- What a caller of `begin_at` knows in each of its arms.
-module _ (xs : List ℕ) (r : Beginning) (told : beginning_told xs r) where
-  pub begun-at : {from : Origin} → r ≡ At from → Begun xs from
-  begun-at e = subst (beginning_told xs) e told
+-- ## An opened record
 
-  pub begun-refused : {n : ℕ} → r ≡ Refused n → (0 < n) × (n ≡ refusal xs)
-  begun-refused e = subst (beginning_told xs) e told
+module _ {xs : List ℕ} {r : code.Result Record Refusal} (o : RightlyOpened xs r) where
+  pub begun : {k : Record} → r ≡ Ok k → Begun xs k
+  begun {k} e =
+      let tells : Tells xs k = rw e at o.rows in
+      let accepted : 0 ≡ refusal xs = rw e at o.number in
+      record { ready = record { accepted = sym accepted; rows = tells.provinces }; countries = tells.countries; start = tells.start }

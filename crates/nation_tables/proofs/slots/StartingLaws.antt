@@ -1,14 +1,14 @@
 -- The slots' rows, one province after the other: where no id stands twice, each slot ends with its owner's row, and the others with that of `---`.
-use mathlib.Core.Path.{◌≡◌, refl, sym, ap, ap₂, fun_ext, ◌∙◌}
+use mathlib.Core.Path.{◌≡◌, refl, sym, ap, fun_ext, ◌∙◌}
 use mathlib.Core.Bool.{true, false}
-use mathlib.Core.List.{List, [], ◌∷◌, ◌++◌, map}
+use mathlib.Core.List.{List, [], ◌∷◌, map}
 use mathlib.Core.Option.{Option}
 use Prim.Native.Nat.{ℕ, suc, ◌+◌, ◌≤◌, ◌<◌}
 use native.Mathlib.Omega.{arith}
-use borrow.Author.Tests.{eqb-true, eqb-false, ltb-true, lt-ltb, ne_eqb}
+use borrow.Author.Tests.{eqb-true, eqb-false, ltb-true, ne_eqb}
 use lib.Dec.{eqb, ltb}
-use lib.ListN.{length, get_or, drop, set, replicate, length-set, length-map, length-replicate, get_or-replicate}
-use lib.Seq.{ext_get_or, get_or-set_same, get_or-set_other, set-append_left}
+use lib.ListN.{length, get_or, set, replicate, length-set, length-map, length-replicate, get_or-replicate}
+use lib.Seq.{ext_get_or, get_or-set_same, get_or-set_other}
 use Rattle.lists.specs.Lists.{keep, any_of, all_of, twice, first_or, numbers_from}
 use Rattle.lists.proofs.BoolLaws.{cases, both, neither}
 use Rattle.lists.proofs.ElementLaws.{first-map}
@@ -16,7 +16,6 @@ use Rattle.lists.proofs.ListLaws.{all_map, any_none, all-unmap, keep-none, map-t
 use Rattle.format.specs.declared.tag.CountryTag.{CountryTag}
 use Rattle.format.specs.Tags.{NONE}
 use Rattle.format.specs.Campaign.{Campaign, Province}
-use Rattle.rules.specs.Lent.{written}
 use Rattle.format.specs.Rows.{same_id}
 use Rattle.rules.specs.Nations.{maps_to, slots_of, start_tag, start_holder, start_holders}
 use Rattle.nation_tables.specs.Layout.{key_rows}
@@ -48,15 +47,6 @@ module _ (f : CountryTag → ℕ) where
   unfolding put_owners
   length-put [] rows = refl
   length-put (p ∷ ps) rows = length-put ps (set rows p.id.0 (f p.owner)) ∙ length-set rows p.id.0 (f p.owner)
-
-  put_front : (ps : List Province) (size : ℕ) (rows rest : List ℕ) → length rows ≡ size → all_of (λ p. ltb p.id.0 size) ps ≡ true
-      → put_owners f ps (rows ++ rest) ≡ put_owners f ps rows ++ rest
-  unfolding put_owners
-  put_front [] size rows rest e h = refl
-  put_front (p ∷ ps) size rows rest e h =
-      let g = ids_next (p ∷ ps) ps p size refl h in
-      ap (put_owners f ps) (set-append_left rows rest p.id.0 (f p.owner) (omega (arith, g.0)))
-      ∙ put_front ps size (set rows p.id.0 (f p.owner)) rest (length-set rows p.id.0 (f p.owner) ∙ e) g.1
 
   -- what a slot holds in the end
   abbrev owned : ℕ → List Province → List ℕ
@@ -120,26 +110,6 @@ module _ (keys : List ℕ) (ps : List Province) (slots : ℕ) (q : Slotted slots
       ∙ ap (λ (m : ℕ). map (λ i. start_holder c (record { 0 = i })) (numbers_from 0 m)) (n ∙ ap (λ (l : List Province). suc (length l)) (sym e))
       ∙ sym (map-then (λ i. record { 0 = i }) (start_holder c) (numbers_from 0 (suc (length c.provinces))))
 
-  pub started : (before rows after : List ℕ) (row : ℕ) → row ≡ initial_row keys NONE → rows ≡ written (replicate slots row) before
-      → after ≡ put_owners (initial_row keys) ps rows → Started keys ps slots before after
-  started before rows after row r e w =
-      let f = initial_row keys in
-      let size : length (replicate slots (f NONE)) ≡ slots = length-replicate slots (f NONE) in
-      record {
-        cells =
-            w
-            ∙ ap (put_owners f ps) (e ∙ ap (λ (n : ℕ). written (replicate slots n) before) r)
-            ∙ put_front f ps slots (replicate slots (f NONE)) (drop (length (replicate slots (f NONE))) before) size q.ids
-            ∙ ap₂ (λ (l : List ℕ) (n : ℕ). l ++ drop n before) all-put (size ∙ sym length-slot-rows);
-        holders = start-holders;
-      }
-
--- The ids of the provinces are slots of a slice that has room for all slots.
-pub ids-inside : (slots size : ℕ) (ps : List Province) → Slotted slots ps → slots ≤ size → all_of (λ p. ltb p.id.0 size) ps ≡ true
-ids-inside slots size ps q h = go ps q.ids
-  where
-    go : (xs : List Province) → all_of (λ p. ltb p.id.0 slots) xs ≡ true → all_of (λ p. ltb p.id.0 size) xs ≡ true
-    go [] e = refl
-    go (x ∷ xs) e =
-        let g = ids_next (x ∷ xs) xs x slots refl e in
-        simp (lt-ltb x.id.0 size (omega (arith, g.0))) (go xs g.1)
+  pub started : (rows after : List ℕ) (row : ℕ) → row ≡ initial_row keys NONE → rows ≡ replicate slots row → after ≡ put_owners (initial_row keys) ps rows → Started keys ps slots after
+  started rows after row r e w =
+      record { cells = w ∙ ap (put_owners (initial_row keys) ps) (e ∙ ap (replicate slots) r) ∙ all-put; holders = start-holders }

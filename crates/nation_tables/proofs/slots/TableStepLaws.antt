@@ -28,8 +28,8 @@ tables-filled ks c m words₀ words₁ inits₀ inits₁ initials₀ initials₁
       words =
           ap (take c) q.tags
           ∙ take_at (words_of_tags ks) (drop (length (words_of_tags ks)) words₀) c (length-map ks (λ k. k.tag.0) ∙ sym q.counted);
-      initials = (initial-table ks c words₀ words₁ inits₀ inits₁ q initials₀ initials₁ i).keys;
-      switches = (settling-table ks m switches₀ switches₁ f).keys;
+      initials = initial-table ks c words₀ words₁ inits₀ inits₁ q initials₀ initials₁ i;
+      switches = settling-table ks m switches₀ switches₁ f;
     }
 
 -- ## Keys and targets of switches

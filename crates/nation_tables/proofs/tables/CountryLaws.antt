@@ -6,7 +6,7 @@ use native.Mathlib.Numerals.{add-one}
 use native.Mathlib.Omega.{arith}
 use lib.Dec.{leb}
 use lib.ListN.{length, get_or, take, drop, drop_of_length-le, length-append, length-map}
-use lib.Seq.{drop-cons, get_or-take, length-take-le, take_at}
+use lib.Seq.{drop-cons, take_at}
 use Rattle.sorting.specs.Sort.{sort_by}
 use Rattle.sorting.proofs.SortedKeyLaws.{sorted_front}
 use Rattle.sorting.proofs.SortLaws.{length-sort}
@@ -15,7 +15,7 @@ use Rattle.nation_tables.specs.Countries.{initial_words, word_keys, row_keys, se
 use Rattle.nation_tables.specs.Keys.{row_key}
 use Rattle.rules.specs.Lent.{written}
 use Rattle.rules.specs.Nations.{initial_of}
-use Rattle.nation_tables.proofs.tables.LookupLaws.{Table, sorted-table}
+use Rattle.nation_tables.proofs.tables.LookupLaws.{sorted-front}
 
 -- ## Keys of words
 
@@ -24,16 +24,14 @@ unfolding word_keys
 length-word-keys row [] = refl
 length-word-keys row (w ∷ ws) = ap suc (length-word-keys (suc row) ws)
 
-module _ (words : List ℕ) (n i : ℕ) (inside : n ≤ length words) where
-  pub keys-next : i < n
-      → word_keys i (drop i (take n words)) ≡ row_key (get_or words i 0) i ∷ word_keys (i + 1) (drop (i + 1) (take n words))
+module _ (words : List ℕ) (i : ℕ) where
+  pub keys-next : i < length words → word_keys i (drop i words) ≡ row_key (get_or words i 0) i ∷ word_keys (i + 1) (drop (i + 1) words)
   unfolding word_keys
-  keys-next h =
-      rw (add-one i, drop-cons (take n words) i 0 (omega (arith, length-take-le n words inside)), get_or-take n words i 0 h)
+  keys-next h = rw (add-one i, drop-cons words i 0 h)
 
-  pub keys-end : n ≤ i → word_keys i (drop i (take n words)) ≡ []
+  pub keys-end : length words ≤ i → word_keys i (drop i words) ≡ []
   unfolding word_keys
-  keys-end h = rw (drop_of_length-le (take n words) {i = i} (omega (arith, length-take-le n words inside)))
+  keys-end h = rw (drop_of_length-le words {i = i} h)
 
 -- ## Keys sorted in their place
 
@@ -51,15 +49,15 @@ sorted-filled cells before now sorted n f s =
 
 -- Words in front of a slice, and the keys made of them.
 word-table : (ws words₀ words keys₀ keys : List ℕ) (n : ℕ) → n ≡ length ws → words ≡ written ws words₀ → keys ≡ written (row_keys (take n words)) keys₀
-    → Table (row_keys ws) n keys
+    → take n keys ≡ row_keys ws
 word-table ws words₀ words keys₀ keys n l e k =
     let front : take n words ≡ ws = ap (take n) e ∙ take_at ws (drop (length ws) words₀) n (sym l) in
-    sorted-table (word_keys 0 ws) keys₀ keys n (rw front at k) (l ∙ sym (length-word-keys 0 ws))
+    sorted-front (word_keys 0 ws) keys₀ keys n (rw front at k) (l ∙ sym (length-word-keys 0 ws))
 
 module _ (ks : List Country) (n : ℕ) (tags₀ tags₁ initials₀ initials₁ : List ℕ) (q : Tabled ks n tags₀ tags₁ initials₀ initials₁) (keys₀ keys : List ℕ) where
-  pub initial-table : keys ≡ written (row_keys (take n initials₁)) keys₀ → Table (row_keys (initial_words ks)) n keys
+  pub initial-table : keys ≡ written (row_keys (take n initials₁)) keys₀ → take n keys ≡ row_keys (initial_words ks)
   initial-table e =
       word-table (initial_words ks) initials₀ initials₁ keys₀ keys n (q.counted ∙ sym (length-map ks (λ k. (initial_of k).0))) q.initials e
 
-pub settling-table : (ks : List Country) (n : ℕ) (before keys : List ℕ) → Filled (settling_keys ks) n before keys → Table (settling_keys ks) n keys
-settling-table ks n before keys f = sorted-table (settling_keys_from 0 ks) before keys n f.filled (f.counted ∙ length-sort leb (settling_keys_from 0 ks))
+pub settling-table : (ks : List Country) (n : ℕ) (before keys : List ℕ) → Filled (settling_keys ks) n before keys → take n keys ≡ settling_keys ks
+settling-table ks n before keys f = sorted-front (settling_keys_from 0 ks) before keys n f.filled (f.counted ∙ length-sort leb (settling_keys_from 0 ks))

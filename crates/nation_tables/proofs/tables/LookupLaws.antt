@@ -2,94 +2,72 @@
 use mathlib.Core.Path.{◌≡◌, sym, ap, ◌∙◌}
 use mathlib.Core.List.{List, map}
 use Prim.Native.Nat.{ℕ, ◌+◌, ◌-◌, ◌*◌, ◌≤◌, ◌<◌}
-use native.Mathlib.Nat.{sub-zero, mul-le-mul_right, add-mul}
+use native.Mathlib.Nat.{mul-le-mul_right, add-mul}
 use native.Mathlib.Omega.{arith}
 use borrow.Author.Tests.{eqb-true, eqb-false, ltb-true, ltb-false, le-leb, lt-leb, lt-ltb, le-ltb}
 use lib.Dec.{eqb, leb, ltb}
-use lib.ListN.{length, get_or, take, drop, length-append}
+use lib.ListN.{length, get_or, take, drop}
 use lib.Seq.{get_or-take, length-take-le, take_at}
 use Rattle.lists.specs.Lists.{count_of, first_or, last_or}
 use Rattle.lists.proofs.BoolLaws.{cases}
-use Rattle.lists.proofs.ListLaws.{InOrder, count-le}
 use Rattle.lists.proofs.BoundLaws.{first_past, first_above, first-there, last_none, last-below, last-there}
 use Rattle.sorting.specs.Sort.{sort_by}
 use Rattle.sorting.proofs.SortLaws.{length-sort}
-use Rattle.sorting.proofs.SortedKeyLaws.{sorted-up, sort-again}
+use Rattle.sorting.proofs.SortedKeyLaws.{sorted-up}
 use Rattle.rules.specs.Lent.{written}
-use Rattle.nation_tables.specs.Lookup.{no_row, row_in, in_range, first_within, last_within, FirstSorted}
+use Rattle.nation_tables.specs.Lookup.{no_row, row_in, in_range, first_within, last_within}
 
--- The first n keys of a slice are these, which are in order.
-pub record Table (sorted : List ℕ) (n : ℕ) (all : List ℕ) : Type 0 where
-  pub keys : take n all ≡ sorted
-  pub first : FirstSorted n all
+-- What stands in front of a slice after a sort: the sorted keys.
+pub sorted-front : (xs before all : List ℕ) (n : ℕ) → all ≡ written (sort_by leb xs) before → n ≡ length xs → take n all ≡ sort_by leb xs
+sorted-front xs before all n e l =
+    ap (take n) e ∙ take_at (sort_by leb xs) (drop (length (sort_by leb xs)) before) n (length-sort leb xs ∙ sym l)
 
--- What stands in front of a slice after a sort: the sorted keys, in order.
-module _ (xs before all : List ℕ) (n : ℕ) (e : all ≡ written (sort_by leb xs) before) (l : n ≡ length xs) where
-  size : length (sort_by leb xs) ≡ n
-  size = length-sort leb xs ∙ sym l
-
-  first-keys : take n all ≡ sort_by leb xs
-  first-keys = ap (take n) e ∙ take_at (sort_by leb xs) (drop (length (sort_by leb xs)) before) n size
-
-  pub sorted-table : Table (sort_by leb xs) n all
-  sorted-table =
-      record {
-        keys = first-keys;
-        first =
-            record {
-              inside = omega (arith, size, ap length e ∙ length-append (sort_by leb xs) (drop (length (sort_by leb xs)) before));
-              sorted = ap (sort_by leb) first-keys ∙ sort-again xs ∙ sym first-keys;
-            };
-      }
-
--- The keys are in order, and i of them are below a number.
+-- The keys are in order, and i of them are below a number: the key behind these is the first that is not.
 module _ (low high : ℕ) (keys : List ℕ) (sorted : sort_by leb keys ≡ keys) (i : ℕ) (below : i ≡ count_of (λ k. ltb k low) keys) where
+  abbrev firsts : List ℕ → ℕ
+  firsts ks = first_or no_row (map row_in ks)
+
   pub no-first : length keys ≤ i → no_row ≡ first_within low high keys
   unfolding first_within
-  no-first h = sym (ap (λ (ks : List ℕ). first_or no_row (map row_in ks)) (first_past low high keys (sorted-up keys sorted) i below h))
+  no-first h = sym (ap firsts (first_past low high keys (sorted-up keys sorted) i below h))
 
-  pub first-too-high : i < length keys → high ≤ get_or keys i 0 → no_row ≡ first_within low high keys
-  unfolding first_within
-  first-too-high h l =
-      sym (ap (λ (ks : List ℕ). first_or no_row (map row_in ks)) (first_above low high keys (sorted-up keys sorted) i below h l))
+  module _ (key : ℕ) (there : i < length keys) (e : key ≡ get_or keys i 0) where
+    pub first-too-high : high ≤ key → no_row ≡ first_within low high keys
+    unfolding first_within
+    first-too-high l = sym (ap firsts (first_above low high keys (sorted-up keys sorted) i below there (omega arith)))
 
-  pub first_found : i < length keys → get_or keys i 0 < high → row_in (get_or keys i 0) ≡ first_within low high keys
-  unfolding first_within
-  first_found h l = sym (first-there low high keys (sorted-up keys sorted) i below row_in no_row h l)
+    pub first_found : key < high → row_in key ≡ first_within low high keys
+    unfolding first_within
+    first_found l = rw e (sym (first-there low high keys (sorted-up keys sorted) i below row_in no_row there (omega arith)))
 
--- The first n keys of all are in order, and i of them are below a number, as the code counts them.
-module _ (low high : ℕ) (all : List ℕ) (n : ℕ) (first : FirstSorted n all) (i : ℕ) where
-  abbrev keys : List ℕ
-  keys = take n all
+-- And the last of these i is the last that is.
+module _ (low high : ℕ) (keys : List ℕ) (sorted : sort_by leb keys ≡ keys) (i : ℕ) (inside : i ≤ length keys)
+    (below : i ≡ count_of (λ k. ltb k high) keys) where
+  abbrev front : List ℕ
+  front = take i keys
 
-  up : InOrder (λ (k : ℕ). k) keys
-  up = sorted-up keys first.sorted
+  abbrev lasts : List ℕ → ℕ
+  lasts ks = last_or no_row (map row_in ks)
 
-  long : length keys ≡ n
-  long = length-take-le n all first.inside
+  long : length front ≡ i
+  long = length-take-le i keys inside
 
-  module _ (below : i ≡ count_of (λ k. ltb k high) (take (n - 0) all)) where
-    at_high : i ≡ count_of (λ k. ltb k high) keys
-    at_high = rw sub-zero at below
+  pub no_last : length front ≤ 0 → no_row ≡ last_within low high keys
+  unfolding last_within
+  no_last h = sym (ap lasts (last_none low high keys (sorted-up keys sorted) i below (omega (arith, long))))
 
-    pub count-inside : i ≤ n
-    count-inside = omega (arith, at_high, long, count-le (λ k. ltb k high) keys)
+  module _ (key : ℕ) (some : 0 < length front) (e : key ≡ get_or front (length front - 1) 0) where
+    last_key : key ≡ get_or keys (i - 1) 0
+    last_key = e ∙ ap (λ (n : ℕ). get_or front (n - 1) 0) long ∙ get_or-take i keys (i - 1) 0 (omega (arith, long))
 
-    pub no_last : i ≡ 0 → no_row ≡ last_within low high keys
+    pub last-too-low : key < low → no_row ≡ last_within low high keys
     unfolding last_within
-    no_last h = sym (ap (λ (ks : List ℕ). last_or no_row (map row_in ks)) (last_none low high keys up i at_high h))
+    last-too-low l = sym (ap lasts (last-below low high keys (sorted-up keys sorted) i below (omega (arith, long)) (omega (arith, last_key))))
 
-    pub last-too-low : 0 < i → get_or all (i - 1) 0 < low → no_row ≡ last_within low high keys
+    pub last_found : low ≤ key → row_in key ≡ last_within low high keys
     unfolding last_within
-    last-too-low h l =
-        let same = get_or-take n all (i - 1) 0 (omega (arith, count-inside)) in
-        sym (ap (λ (ks : List ℕ). last_or no_row (map row_in ks)) (last-below low high keys up i at_high h (omega arith)))
-
-    pub last_found : 0 < i → low ≤ get_or all (i - 1) 0 → row_in (get_or all (i - 1) 0) ≡ last_within low high keys
-    unfolding last_within
-    last_found h l =
-        let same = get_or-take n all (i - 1) 0 (omega (arith, count-inside)) in
-        ap row_in (sym same) ∙ sym (last-there low high keys up i at_high row_in no_row h (omega arith))
+    last_found l =
+        rw last_key (sym (last-there low high keys (sorted-up keys sorted) i below row_in no_row (omega (arith, long)) (omega (arith, last_key))))
 
 -- A key lies from one part's first on and below the next part's just if it begins with that part.
 pub begins-with : (width part low r : ℕ) → low < width → in_range (r * width) (r * width + width) (part * width + low) ≡ eqb part r

@@ -12,9 +12,8 @@ use Rattle.lists.proofs.FillLaws.{Filling, filling-more, filling-put, filling-ro
 use Rattle.format.specs.Campaign.{Country}
 use Rattle.nation_tables.specs.Layout.{key_rows, key_tags, last_date}
 use Rattle.nation_tables.specs.Keys.{settling_key}
-use Rattle.nation_tables.specs.declared.switches.SwitchOrder.TheVariants.{ByFrom}
 use Rattle.nation_tables.specs.Countries.{switch_keys_from, settling_keys_from, own_switch, with_own, Keyed, Filled, FilledFrom}
-use Rattle.nation_tables.specs.Switches.{PlacedSwitch, placed, own_placed, all_placed, key_by, KeyFits}
+use Rattle.nation_tables.specs.Switches.{PlacedSwitch, placed, own_placed, all_placed, from_key, FromFits}
 use Rattle.nation_tables.proofs.tables.PlacedLaws.{Keying, keying-start, keying-done, own-append, length-own, from-keys, from-fits}
 
 -- As many keys as switches and countries.
@@ -32,13 +31,13 @@ settling-count row (k ∷ ks) =
 
 -- The countries that are left, from a row on, still have to give their keys, from k on.
 pub record SettlingWalk (all left : List Country) (before : List ℕ) (row k : ℕ) (now : List ℕ) : Type 0 where
-  pub walk : Keying ByFrom (map with_own all) (map with_own left) before row k now
+  pub walk : Keying from_key FromFits (map with_own all) (map with_own left) before row k now
 
 module _ (all : List Country) (before : List ℕ) (keyed : Keyed (map with_own all)) (room : length (settling_keys_from 0 all) ≤ length before) where
   pub settling-start : SettlingWalk all all before 0 0 before
   settling-start =
-      let same = ap length (from-keys 0 0 (map with_own all)) ∙ length-map (all_placed 0 0 (map with_own all)) (key_by ByFrom) in
-      record { walk = keying-start ByFrom (map with_own all) before keyed.few (omega (arith, same)) (from-fits (map with_own all) keyed) }
+      let same = ap length (from-keys 0 0 (map with_own all)) ∙ length-map (all_placed 0 0 (map with_own all)) from_key in
+      record { walk = keying-start from_key FromFits (map with_own all) before keyed.few (omega (arith, same)) (from-fits (map with_own all) keyed) }
 
 module _ (all left : List Country) (before : List ℕ) (row k : ℕ) (now : List ℕ) (q : SettlingWalk all left before row k now) where
   module _ (x : Country) (rest : List Country) (e : left ≡ x ∷ rest) where
@@ -62,23 +61,23 @@ module _ (all left : List Country) (before : List ℕ) (row k : ℕ) (now : List
         ∙ append_assoc own (last ∷ []) others
 
     abbrev keyed : List PlacedSwitch → List ℕ
-    keyed l = map (key_by ByFrom) l
+    keyed l = map from_key l
 
-    keys-split : keyed (all_placed row k (map with_own left)) ≡ keyed own ++ (key_by ByFrom last ∷ keyed others)
-    keys-split = ap keyed placed-split ∙ map-append (key_by ByFrom) own (last ∷ others)
+    keys-split : keyed (all_placed row k (map with_own left)) ≡ keyed own ++ (from_key last ∷ keyed others)
+    keys-split = ap keyed placed-split ∙ map-append from_key own (last ∷ others)
 
     own-size : length (keyed own) ≡ length x.switches
-    own-size = length-map own (key_by ByFrom) ∙ length-own row k x.switches
+    own-size = length-map own from_key ∙ length-own row k x.switches
 
-    fitting : All (KeyFits ByFrom) own × All (KeyFits ByFrom) (last ∷ others)
-    fitting = all-parts (KeyFits ByFrom) own (last ∷ others) (rw placed-split at q.walk.room)
+    fitting : All FromFits own × All FromFits (last ∷ others)
+    fitting = all-parts FromFits own (last ∷ others) (rw placed-split at q.walk.room)
 
-    pub settling-here : (row < key_rows) × (k + length x.switches ≤ length now) × All (KeyFits ByFrom) own
+    pub settling-here : (row < key_rows) × (k + length x.switches ≤ length now) × All FromFits own
     settling-here =
         let r = q.walk.rows in
         let f = q.walk.cells.fits in
         let n = q.walk.cells.long in
-        let l = length-append (keyed own) (key_by ByFrom last ∷ keyed others) in
+        let l = length-append (keyed own) (from_key last ∷ keyed others) in
         let c = length-map left with_own in
         (omega (arith, ap length e), omega (arith, ap length keys-split, l, own-size), fitting.0)
 
@@ -87,10 +86,10 @@ module _ (all left : List Country) (before : List ℕ) (row k : ℕ) (now : List
 
     -- Behind the next country's keys stands its own, then come those of the others.
     module _ (next : ℕ) (after : List ℕ) (w : FilledFrom (keyed own) k next now after) where
-      behind : Filling (keyed (all_placed 0 0 (map with_own all))) (key_by ByFrom last ∷ keyed others) before next after
+      behind : Filling (keyed (all_placed 0 0 (map with_own all))) (from_key last ∷ keyed others) before next after
       behind =
-          subst (λ (n : ℕ). Filling (keyed (all_placed 0 0 (map with_own all))) (key_by ByFrom last ∷ keyed others) before n after) (sym w.behind)
-          (filling-more _ _ _ _ _ q.walk.cells (keyed own) (key_by ByFrom last ∷ keyed others) after keys-split w.filled)
+          subst (λ (n : ℕ). Filling (keyed (all_placed 0 0 (map with_own all))) (from_key last ∷ keyed others) before n after) (sym w.behind)
+          (filling-more _ _ _ _ _ q.walk.cells (keyed own) (from_key last ∷ keyed others) after keys-split w.filled)
 
       pub settling-room : next < length after
       settling-room = filling-room _ _ _ _ _ behind _ _ refl
@@ -106,10 +105,10 @@ module _ (all left : List Country) (before : List ℕ) (row k : ℕ) (now : List
                   subst (λ (l : List PlacedSwitch). Filling (keyed (all_placed 0 0 (map with_own all))) (keyed l) before (next + 1) (set after next v)) same
                   (filling-put _ _ _ _ _ behind _ _ refl v s);
               rows = let r = q.walk.rows in omega (arith, ap length e, length-map left with_own, length-map rest with_own);
-              room = subst (λ (l : List PlacedSwitch). All (KeyFits ByFrom) l) same fitting.1.1;
+              room = subst (λ (l : List PlacedSwitch). All FromFits l) same fitting.1.1;
             };
           }
 
   pub settling-done : left ≡ [] → Filled (settling_keys_from 0 all) k before now
   settling-done e =
-      rw (from-keys 0 0 (map with_own all)) (keying-done ByFrom (map with_own all) (map with_own left) before row k now q.walk (ap (map with_own) e))
+      rw (from-keys 0 0 (map with_own all)) (keying-done from_key FromFits (map with_own all) (map with_own left) before row k now q.walk (ap (map with_own) e))

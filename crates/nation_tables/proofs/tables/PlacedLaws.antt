@@ -16,10 +16,8 @@ use Rattle.format.specs.declared.rows.Switch.{Switch}
 use Rattle.format.specs.Campaign.{Country}
 use Rattle.format.specs.Dates.{not_after}
 use Rattle.nation_tables.specs.Layout.{key_rows, key_dates, key_numbers, key_tags}
-use Rattle.nation_tables.specs.declared.switches.SwitchOrder.{SwitchOrder}
-use Rattle.nation_tables.specs.declared.switches.SwitchOrder.TheVariants.{ByFrom, ByRow}
 use Rattle.nation_tables.specs.Countries.{switch_key, switch_keys_from, small_switch, Keyed, Filled, FilledFrom}
-use Rattle.nation_tables.specs.Switches.{PlacedSwitch, placed, own_placed, all_placed, key_by, KeyFits, runs_from}
+use Rattle.nation_tables.specs.Switches.{PlacedSwitch, placed, own_placed, all_placed, runs_from, from_key, place_key, FromFits, NumberFits}
 use Rattle.lists.proofs.EachLaws.{all-each, all-parts, all_of-all, order-append}
 
 -- ## One switch
@@ -40,6 +38,11 @@ small-date x h = ltb-true x.date.0 key_dates (and_right (ltb x.from.0 key_tags) 
 pub own-next : {ss rest : List Switch} {x : Switch} (row k : ℕ) → ss ≡ x ∷ rest → own_placed row k ss ≡ placed row k x ∷ own_placed row (k + 1) rest
 unfolding own_placed
 own-next row k e = rw (e, add-one)
+
+-- What holds of each holds of the first and of the others.
+pub own-fits : (Fits : PlacedSwitch → Type 0) {ss rest : List Switch} {x : Switch} (row k : ℕ) → ss ≡ x ∷ rest → All Fits (own_placed row k ss)
+    → Fits (placed row k x) × All Fits (own_placed row (k + 1) rest)
+own-fits Fits row k e q = subst (λ (l : List PlacedSwitch). All Fits l) (own-next row k e) q
 
 pub own-end : {ss : List Switch} (row k : ℕ) → ss ≡ [] → own_placed row k ss ≡ []
 unfolding own_placed
@@ -113,17 +116,17 @@ rows-rise row k (x ∷ ks) =
 -- ## The walk
 
 -- The countries that are left, from a row on, still have to give their keys, from k on.
-pub record Keying (order : SwitchOrder) (all left : List Country) (before : List ℕ) (row k : ℕ) (now : List ℕ) : Type 0 where
-  pub cells : Filling (map (key_by order) (all_placed 0 0 all)) (map (key_by order) (all_placed row k left)) before k now
+pub record Keying (key : PlacedSwitch → ℕ) (Fits : PlacedSwitch → Type 0) (all left : List Country) (before : List ℕ) (row k : ℕ) (now : List ℕ) : Type 0 where
+  pub cells : Filling (map key (all_placed 0 0 all)) (map key (all_placed row k left)) before k now
   pub rows : row + length left ≤ key_rows
-  pub room : All (KeyFits order) (all_placed row k left)
+  pub room : All Fits (all_placed row k left)
 
-pub keying-start : (order : SwitchOrder) (all : List Country) (before : List ℕ) → length all ≤ key_rows → length (all_placed 0 0 all) ≤ length before
-    → All (KeyFits order) (all_placed 0 0 all) → Keying order all all before 0 0 before
-keying-start order all before r h q =
-    record { cells = filling-new _ _ (omega (arith, length-map (all_placed 0 0 all) (key_by order))); rows = omega arith; room = q }
+pub keying-start : (key : PlacedSwitch → ℕ) (Fits : PlacedSwitch → Type 0) (all : List Country) (before : List ℕ) → length all ≤ key_rows → length (all_placed 0 0 all) ≤ length before
+    → All Fits (all_placed 0 0 all) → Keying key Fits all all before 0 0 before
+keying-start key Fits all before r h q =
+    record { cells = filling-new _ _ (omega (arith, length-map (all_placed 0 0 all) key)); rows = omega arith; room = q }
 
-module _ (order : SwitchOrder) (all left : List Country) (before : List ℕ) (row k : ℕ) (now : List ℕ) (q : Keying order all left before row k now) where
+module _ (key : PlacedSwitch → ℕ) (Fits : PlacedSwitch → Type 0) (all left : List Country) (before : List ℕ) (row k : ℕ) (now : List ℕ) (q : Keying key Fits all left before row k now) where
   module _ (x : Country) (rest : List Country) (e : left ≡ x ∷ rest) where
     abbrev own : List PlacedSwitch
     own = own_placed row k x.switches
@@ -136,60 +139,60 @@ module _ (order : SwitchOrder) (all left : List Country) (before : List ℕ) (ro
     unfolding all_placed
     placed-split = rw e
 
-    keys-split : map (key_by order) (all_placed row k left) ≡ map (key_by order) own ++ map (key_by order) others
-    keys-split = ap (map (key_by order)) placed-split ∙ map-append (key_by order) own others
+    keys-split : map key (all_placed row k left) ≡ map key own ++ map key others
+    keys-split = ap (map key) placed-split ∙ map-append key own others
 
-    own-size : length (map (key_by order) own) ≡ length x.switches
-    own-size = length-map own (key_by order) ∙ length-own row k x.switches
+    own-size : length (map key own) ≡ length x.switches
+    own-size = length-map own key ∙ length-own row k x.switches
 
-    fitting : All (KeyFits order) own × All (KeyFits order) others
-    fitting = all-parts (KeyFits order) own others (rw placed-split at q.room)
+    fitting : All Fits own × All Fits others
+    fitting = all-parts Fits own others (rw placed-split at q.room)
 
-    pub keying-here : (row < key_rows) × (k + length x.switches ≤ length now) × All (KeyFits order) own
+    pub keying-here : (row < key_rows) × (k + length x.switches ≤ length now) × All Fits own
     keying-here =
         let r = q.rows in
         let f = q.cells.fits in
         let n = q.cells.long in
-        let l = length-append (map (key_by order) own) (map (key_by order) others) in
+        let l = length-append (map key own) (map key others) in
         (omega (arith, ap length e), omega (arith, ap length keys-split, l, own-size), fitting.0)
 
     -- Behind the next country's keys come those of the others.
-    pub keying-more : (next : ℕ) (after : List ℕ) → FilledFrom (map (key_by order) own) k next now after → Keying order all rest before (row + 1) next after
+    pub keying-more : (next : ℕ) (after : List ℕ) → FilledFrom (map key own) k next now after → Keying key Fits all rest before (row + 1) next after
     keying-more next after w =
         let place : next ≡ k + length x.switches = w.behind ∙ ap (λ (n : ℕ). k + n) own-size in
         let same : others ≡ all_placed (row + 1) next rest = rw (place, add-one row) in
-        let filled : Filling (map (key_by order) (all_placed 0 0 all)) (map (key_by order) others) before next after =
-        subst (λ (n : ℕ). Filling (map (key_by order) (all_placed 0 0 all)) (map (key_by order) others) before n after) (sym w.behind)
-        (filling-more _ _ _ _ _ q.cells (map (key_by order) own) (map (key_by order) others) after keys-split w.filled) in
+        let filled : Filling (map key (all_placed 0 0 all)) (map key others) before next after =
+        subst (λ (n : ℕ). Filling (map key (all_placed 0 0 all)) (map key others) before n after) (sym w.behind)
+        (filling-more _ _ _ _ _ q.cells (map key own) (map key others) after keys-split w.filled) in
         record {
-          cells = subst (λ (l : List PlacedSwitch). Filling (map (key_by order) (all_placed 0 0 all)) (map (key_by order) l) before next after) same filled;
+          cells = subst (λ (l : List PlacedSwitch). Filling (map key (all_placed 0 0 all)) (map key l) before next after) same filled;
           rows = let r = q.rows in omega (arith, ap length e);
-          room = subst (λ (l : List PlacedSwitch). All (KeyFits order) l) same fitting.1;
+          room = subst (λ (l : List PlacedSwitch). All Fits l) same fitting.1;
         }
 
-  pub keying-done : left ≡ [] → Filled (map (key_by order) (all_placed 0 0 all)) k before now
+  pub keying-done : left ≡ [] → Filled (map key (all_placed 0 0 all)) k before now
   unfolding all_placed
   keying-done e =
-      let none = ap (λ (l : List Country). map (key_by order) (all_placed row k l)) e in
+      let none = ap (λ (l : List Country). map key (all_placed row k l)) e in
       record { counted = filling-count _ _ _ _ _ q.cells none; filled = filling-written _ _ _ _ _ q.cells none }
 
 -- ## Keys by the tag that was left
 
-from-own : (row k : ℕ) (ss : List Switch) → map (switch_key row) ss ≡ map (key_by ByFrom) (own_placed row k ss)
+from-own : (row k : ℕ) (ss : List Switch) → map (switch_key row) ss ≡ map from_key (own_placed row k ss)
 unfolding own_placed
 from-own row k [] = refl
 from-own row k (x ∷ ss) = ap (λ (l : List ℕ). switch_key row x ∷ l) (from-own row (suc k) ss)
 
-pub from-keys : (row k : ℕ) (ks : List Country) → switch_keys_from row ks ≡ map (key_by ByFrom) (all_placed row k ks)
+pub from-keys : (row k : ℕ) (ks : List Country) → switch_keys_from row ks ≡ map from_key (all_placed row k ks)
 unfolding switch_keys_from all_placed
 from-keys row k [] = refl
 from-keys row k (x ∷ ks) =
     ap₂ ◌++◌ (from-own row k x.switches) (from-keys (suc row) (k + length x.switches) ks)
-    ∙ sym (map-append (key_by ByFrom) (own_placed row k x.switches) (all_placed (suc row) (k + length x.switches) ks))
+    ∙ sym (map-append from_key (own_placed row k x.switches) (all_placed (suc row) (k + length x.switches) ks))
 
 -- As many switches as keys.
 pub from-length : (row k : ℕ) (ks : List Country) → length (switch_keys_from row ks) ≡ length (all_placed row k ks)
-from-length row k ks = ap length (from-keys row k ks) ∙ length-map (all_placed row k ks) (key_by ByFrom)
+from-length row k ks = ap length (from-keys row k ks) ∙ length-map (all_placed row k ks) from_key
 
 -- Of switches that have room in a key each has.
 pub switches-small : (ks : List Country) → Keyed ks → All (λ k. All (λ x. small_switch x ≡ true) k.switches) ks
@@ -197,25 +200,25 @@ switches-small ks q =
     all_map (λ k h. all_of-all small_switch k.switches h) ks (all_of-all (λ k. all_of small_switch k.switches) ks q.switches)
 
 -- So they do in keys by the tag that was left.
-pub from-fits : (ks : List Country) → Keyed ks → All (KeyFits ByFrom) (all_placed 0 0 ks)
+pub from-fits : (ks : List Country) → Keyed ks → All FromFits (all_placed 0 0 ks)
 from-fits ks q =
-    placed-all (KeyFits ByFrom) (λ x. small_switch x ≡ true) (length ks) (length (all_placed 0 0 ks)) (λ row i x a b s. small-from x s) 0 0 ks (omega arith) (omega arith)
+    placed-all FromFits (λ x. small_switch x ≡ true) (length ks) (length (all_placed 0 0 ks)) (λ row i x a b s. small-from x s) 0 0 ks (omega arith) (omega arith)
     (switches-small ks q)
 
 -- ## Keys by the row of the country
 
-pub row-keys : (row k : ℕ) (ks : List Country) → runs_from row k ks ≡ map (key_by ByRow) (all_placed row k ks)
+pub row-keys : (row k : ℕ) (ks : List Country) → runs_from row k ks ≡ map place_key (all_placed row k ks)
 unfolding runs_from
 row-keys row k ks = refl
 
 pub row-length : (row k : ℕ) (ks : List Country) → length (runs_from row k ks) ≡ length (all_placed row k ks)
-row-length row k ks = ap length (row-keys row k ks) ∙ length-map (all_placed row k ks) (key_by ByRow)
+row-length row k ks = ap length (row-keys row k ks) ∙ length-map (all_placed row k ks) place_key
 
 pub row-asked : (ks : List Country) (n : ℕ) → length ks ≤ key_rows → length (runs_from 0 0 ks) ≤ key_numbers → length (runs_from 0 0 ks) ≤ n
-    → ((length ks ≤ key_rows) × (length (all_placed 0 0 ks) ≤ n)) × All (KeyFits ByRow) (all_placed 0 0 ks)
+    → ((length ks ≤ key_rows) × (length (all_placed 0 0 ks) ≤ n)) × All NumberFits (all_placed 0 0 ks)
 row-asked ks n r f h =
     let size = row-length 0 0 ks in (
       (r, omega (arith, size)),
-      placed-all (KeyFits ByRow) (λ x. Unit {0}) (length ks) key_numbers (λ row i x a b s. b) 0 0 ks (omega arith) (omega (arith, size))
+      placed-all NumberFits (λ x. Unit {0}) (length ks) key_numbers (λ row i x a b s. b) 0 0 ks (omega arith) (omega (arith, size))
           (all-each (λ k. all-each (λ x. tt) k.switches) ks),
     )

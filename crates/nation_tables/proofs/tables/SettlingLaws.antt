@@ -26,12 +26,11 @@ use Rattle.format.specs.Campaign.{Country}
 use Rattle.rules.specs.Chronicle.{Change}
 use Rattle.rules.specs.Nations.{CountrySwitch, own_switches, all_switches, settles}
 use Rattle.nation_tables.specs.Layout.{key_rows, key_dates}
-use Rattle.nation_tables.specs.declared.switches.SwitchOrder.TheVariants.{ByFrom}
 use Rattle.nation_tables.specs.Keys.{row_in, settling_key}
 use Rattle.nation_tables.specs.Lookup.{no_row, in_range, first_within}
 use Rattle.nation_tables.specs.Countries.{tag_at_row, switch_keys_from, switch_keys, small_switch, Keyed}
 use Rattle.nation_tables.specs.Settling.{or_tag, settled_row, Settled, RowSettled}
-use Rattle.nation_tables.specs.Switches.{PlacedSwitch, own_placed, all_placed, key_by}
+use Rattle.nation_tables.specs.Switches.{PlacedSwitch, own_placed, all_placed, from_key}
 use Rattle.sorting.proofs.AgreeLaws.{agrees-in-order}
 use Rattle.nation_tables.proofs.tables.PlacedLaws.{placed_by_date, small-date, switches-small, placed-all, rows-rise, from-keys}
 
@@ -78,28 +77,28 @@ module _ (to : CountryTag) (date : Eu4Date) (early : date.0 < key_dates) where
   switch_asked r = same_tag r.made.from to && not_after date r.made.date
 
   -- The test of the key is the test of the switch.
-  in-range-asked : (r : PlacedSwitch) → Fit key_rows r → in_range low high (key_by ByFrom r) ≡ switch_asked r
+  in-range-asked : (r : PlacedSwitch) → Fit key_rows r → in_range low high (from_key r) ≡ switch_asked r
   in-range-asked r h =
       cases (eqb r.made.from.0 to.0)
       (λ g. let e = eqb-true r.made.from.0 to.0 g in
       cases (leb date.0 r.made.date.0)
       (λ a. let l = leb-true date.0 r.made.date.0 a in
-      simp (g, a, le-leb low (key_by ByFrom r) (omega arith), lt-ltb (key_by ByFrom r) high (omega arith)))
-      (λ a. let l = leb-false date.0 r.made.date.0 a in simp (g, a, lt-leb low (key_by ByFrom r) (omega arith))))
+      simp (g, a, le-leb low (from_key r) (omega arith), lt-ltb (from_key r) high (omega arith)))
+      (λ a. let l = leb-false date.0 r.made.date.0 a in simp (g, a, lt-leb low (from_key r) (omega arith))))
       (λ g. let e = eqb-false r.made.from.0 to.0 g in
-      cases (leb low (key_by ByFrom r))
-      (λ a. let l = leb-true low (key_by ByFrom r) a in simp (g, a, le-ltb (key_by ByFrom r) high (omega arith)))
+      cases (leb low (from_key r))
+      (λ a. let l = leb-true low (from_key r) a in simp (g, a, le-ltb (from_key r) high (omega arith)))
       (λ a. simp (g, a)))
 
   -- Of two switches from the tag the keys compare as the dates, if the later one's row is not smaller.
   dates-agree : (a b : PlacedSwitch) → Fit key_rows a × (switch_asked a ≡ true) → Fit key_rows b × (switch_asked b ≡ true) → a.row ≤ b.row
-      → placed_by_date a b ≡ leb (key_by ByFrom a) (key_by ByFrom b)
+      → placed_by_date a b ≡ leb (from_key a) (from_key b)
   dates-agree a b f g l =
       let d = eqb-true a.made.from.0 to.0 (both (same_tag a.made.from to) (not_after date a.made.date) f.1).0 in
       let e = eqb-true b.made.from.0 to.0 (both (same_tag b.made.from to) (not_after date b.made.date) g.1).0 in
       cases (leb a.made.date.0 b.made.date.0)
-      (λ h. let m = leb-true a.made.date.0 b.made.date.0 h in h ∙ sym (le-leb (key_by ByFrom a) (key_by ByFrom b) (omega arith)))
-      (λ h. let m = leb-false a.made.date.0 b.made.date.0 h in h ∙ sym (lt-leb (key_by ByFrom a) (key_by ByFrom b) (omega arith)))
+      (λ h. let m = leb-true a.made.date.0 b.made.date.0 h in h ∙ sym (le-leb (from_key a) (from_key b) (omega arith)))
+      (λ h. let m = leb-false a.made.date.0 b.made.date.0 h in h ∙ sym (lt-leb (from_key a) (from_key b) (omega arith)))
 
   module _ (ks : List Country) (keyed : Keyed ks) where
     abbrev rows : List PlacedSwitch
@@ -115,18 +114,18 @@ module _ (to : CountryTag) (date : Eu4Date) (early : date.0 < key_dates) where
     fit : All (Fit key_rows) rows
     fit = placed-fit key_rows ks keyed keyed.few
 
-    kept-keys : keep (in_range low high) (switch_keys_from 0 ks) ≡ map (key_by ByFrom) fitting
+    kept-keys : keep (in_range low high) (switch_keys_from 0 ks) ≡ map from_key fitting
     kept-keys =
         ap (keep (in_range low high)) (from-keys 0 0 ks)
-        ∙ keep-map (in_range low high) (key_by ByFrom) rows
-        ∙ ap (map (key_by ByFrom)) (keep_same (λ r. in_range low high (key_by ByFrom r)) switch_asked rows (all_map (λ r h. in-range-asked r h) rows fit))
+        ∙ keep-map (in_range low high) from_key rows
+        ∙ ap (map from_key) (keep_same (λ r. in_range low high (from_key r)) switch_asked rows (all_map (λ r h. in-range-asked r h) rows fit))
 
-    sorted-keys : keep (in_range low high) (switch_keys ks) ≡ map (key_by ByFrom) first-ones
+    sorted-keys : keep (in_range low high) (switch_keys ks) ≡ map from_key first-ones
     sorted-keys =
         keep-sort leb leb-total leb-trans (in_range low high) (switch_keys_from 0 ks)
         ∙ ap (sort_by leb) kept-keys
-        ∙ sym (map-sort placed_by_date leb (key_by ByFrom) fitting
-        (agrees-in-order placed_by_date leb (key_by ByFrom) (λ r. Fit key_rows r × (switch_asked r ≡ true)) (λ r. r.row) dates-agree fitting
+        ∙ sym (map-sort placed_by_date leb from_key fitting
+        (agrees-in-order placed_by_date leb from_key (λ r. Fit key_rows r × (switch_asked r ≡ true)) (λ r. r.row) dates-agree fitting
         (order-keep (λ r. r.row) switch_asked rows (rows-rise 0 0 ks).1)
         (all_both (Fit key_rows) (λ r. switch_asked r ≡ true) fitting (all_keep (Fit key_rows) switch_asked rows fit) (all-kept switch_asked rows))))
 
@@ -138,7 +137,7 @@ module _ (to : CountryTag) (date : Eu4Date) (early : date.0 < key_dates) where
     settled-first =
         ap (λ (l : List ℕ). first_or no_row (map row_in l)) sorted-keys
         ∙ ap (first_or no_row)
-        (map-then (key_by ByFrom) row_in first-ones ∙ map_same (λ r. row_in (key_by ByFrom r)) (λ r. r.row) first-ones (all_map (λ r h. omega arith) first-ones sorted-fit))
+        (map-then from_key row_in first-ones ∙ map_same (λ r. row_in (from_key r)) (λ r. r.row) first-ones (all_map (λ r h. omega arith) first-ones sorted-fit))
 
     -- Where no row is found there is no such switch.
     no-row : (l : List PlacedSwitch) → All (Fit key_rows) l → first_or no_row (map (λ r. r.row) l) ≡ no_row → l ≡ []

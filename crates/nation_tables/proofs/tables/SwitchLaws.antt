@@ -24,13 +24,12 @@ use Rattle.format.specs.Campaign.{Country, campaign_of}
 use Rattle.format.specs.Refusal.{refusal}
 use Rattle.rules.specs.Chronicle.{switch, Entry}
 use Rattle.rules.specs.Nations.{last_target, switch_chain, switch_entries}
-use Rattle.nation_tables.specs.declared.switches.SwitchOrder.TheVariants.{ByRow}
 use Rattle.nation_tables.specs.Keys.{run_key, date_in, number_in}
 use Rattle.nation_tables.specs.Layout.{row_span, most_switches, key_dates, key_numbers, word_span}
 use Rattle.nation_tables.specs.Countries.{switch_keys_from, small_switch, Keyed}
 use Rattle.nation_tables.specs.Lookup.{in_range}
-use Rattle.nation_tables.specs.Switches.{PlacedSwitch, placed, own_placed, all_placed, key_by, runs_from, run_keys, run_start}
-use Rattle.nation_tables.specs.Switches.{chain_words, own_targets, target_words, switch_in}
+use Rattle.nation_tables.specs.Switches.{PlacedSwitch, placed, own_placed, all_placed, runs_from, run_keys, run_start, place_key}
+use Rattle.nation_tables.specs.Switches.{chain_words, own_targets, target_words, switch_in, place_key}
 use Rattle.nation_tables.specs.Turning.{by_date}
 use Rattle.lists.proofs.EachLaws.{all-parts}
 use Rattle.lists.proofs.ElementLaws.{keep_all}
@@ -124,7 +123,7 @@ own-kept r row k (y ∷ ks) (suc i) x e t =
 module _ (words : List ℕ) where
   -- The entry that a switch's key tells.
   abbrev placed_entry : PlacedSwitch → Entry
-  placed_entry p = switch_in words (key_by ByRow p)
+  placed_entry p = switch_in words (place_key p)
 
   -- With the words of its targets at their numbers, a country's keys tell its switch entries.
   entries-back : (row k : ℕ) (end : CountryTag) (ss : List Switch) (others : List ℕ) → All RunFits (own_placed row k ss)
@@ -147,20 +146,20 @@ module _ (words : List ℕ) where
 
   -- A country's keys in order are its switches by date, ties in row order, and so are the entries that they tell.
   entries_sorted : (row k : ℕ) (ss : List Switch) → All RunFits (own_placed row k ss)
-      → map (switch_in words) (sort_by leb (map (key_by ByRow) (own_placed row k ss))) ≡ sort_by by_date (map placed_entry (own_placed row k ss))
+      → map (switch_in words) (sort_by leb (map place_key (own_placed row k ss))) ≡ sort_by by_date (map placed_entry (own_placed row k ss))
   entries_sorted row k ss q =
       let own = own_placed row k ss in
       let rising = own-order (λ p. p.number) row k ss (λ i j x y l. l) in
       let rows : All (λ p. p.row ≡ row) own = own-each (λ p. p.row ≡ row) row k ss (λ i x l. refl) in
       ap (map (switch_in words))
-      (sym (map-sort placed_by_date leb (key_by ByRow) own
-      (agrees-in-order placed_by_date leb (key_by ByRow) (λ p. (p.row ≡ row) × RunFits p) (λ p. p.number) (by_key row) own rising
+      (sym (map-sort placed_by_date leb place_key own
+      (agrees-in-order placed_by_date leb place_key (λ p. (p.row ≡ row) × RunFits p) (λ p. p.number) (by_key row) own rising
       (all_both (λ p. p.row ≡ row) RunFits own rows q))))
-      ∙ map-then (key_by ByRow) (switch_in words) (sort_by placed_by_date own)
+      ∙ map-then place_key (switch_in words) (sort_by placed_by_date own)
       ∙ map-sort placed_by_date by_date placed_entry own (agrees-in-order placed_by_date by_date placed_entry RunFits (λ p. p.number) by-entry own rising q)
     where
       by_key : (row : ℕ) (a b : PlacedSwitch) → (a.row ≡ row) × RunFits a → (b.row ≡ row) × RunFits b → a.number ≤ b.number
-          → placed_by_date a b ≡ leb (key_by ByRow a) (key_by ByRow b)
+          → placed_by_date a b ≡ leb (place_key a) (place_key b)
       by_key row a b f g l =
           rw (f.0, g.0) (run-keys-agree row a.made.date.0 a.number b.made.date.0 b.number l g.1.1)
 
@@ -195,14 +194,14 @@ run-entries ks row k there q few small =
     let kept : keep (λ p. eqb p.row row) all ≡ own =
     own-kept row 0 0 ks row k (omega arith) there ∙ ap (λ (n : ℕ). own_placed row n k.switches) counted in
     let own-fit : All RunFits own = subst (λ (l : List PlacedSwitch). All RunFits l) kept (all_keep RunFits (λ p. eqb p.row row) all fit) in
-    let own_keys : keep range (runs_from 0 0 ks) ≡ map (key_by ByRow) own =
+    let own_keys : keep range (runs_from 0 0 ks) ≡ map place_key own =
     ap (keep range) (row-keys 0 0 ks)
-    ∙ keep-map range (key_by ByRow) all
-    ∙ ap (map (key_by ByRow))
-    (keep_same (λ p. range (key_by ByRow p)) (λ p. eqb p.row row) all
+    ∙ keep-map range place_key all
+    ∙ ap (map place_key)
+    (keep_same (λ p. range (place_key p)) (λ p. eqb p.row row) all
     (all_map (λ p f. row_in p.row p.made.date.0 p.number f.0 f.1 row) all fit)
     ∙ kept) in
-    let part : own-part ≡ sort_by leb (map (key_by ByRow) own) =
+    let part : own-part ≡ sort_by leb (map place_key own) =
     part-within (row * row_span) (suc row * row_span) (omega arith) (run_keys ks) (keys-in-order (runs_from 0 0 ks))
     ∙ keep-sort leb leb-total leb-trans range (runs_from 0 0 ks)
     ∙ ap (sort_by leb) own_keys in

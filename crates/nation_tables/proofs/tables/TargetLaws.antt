@@ -1,4 +1,7 @@
 -- The targets of switches, one country after the other: a country's initial and each switch's target are told by one function.
+use Rattle.std.specs.Prelude as code
+use Rattle.std.specs.Prelude.{Some, None, MatchOption}
+use Rattle.std.specs.Option.{unwrap_or}
 use mathlib.Core.Path.{◌≡◌, refl, sym, ap, subst, ◌∙◌}
 use mathlib.Core.List.{List, [], ◌∷◌, ◌++◌, map}
 use Prim.Native.Nat.{ℕ, suc, ◌+◌, ◌≤◌, ◌<◌}
@@ -6,6 +9,8 @@ use native.Mathlib.Omega.{arith}
 use lib.ListN.{length, get_or, drop, length-append}
 use lib.Seq.{get_or-drop}
 use Rattle.lists.specs.Lists.{All, first_or}
+use mathlib.Core.Bool.{true, false}
+use Rattle.lists.proofs.BoolLaws.{clash}
 use Rattle.lists.proofs.ListLaws.{all_map, all_get_d, all_join}
 use Rattle.lists.proofs.FillLaws.{Filling, filling-more}
 use Rattle.format.specs.declared.tag.CountryTag.{CountryTag}
@@ -25,13 +30,10 @@ pub initial-switched : {ss rest : List Switch} {x : Switch} (ps : List CountryTa
 unfolding initial_from
 initial-switched ps t e = rw e
 
-pub initial-previous : {ss : List Switch} {ps rest : List CountryTag} {p : CountryTag} (t : CountryTag) → ss ≡ [] → ps ≡ p ∷ rest → p ≡ initial_from ss ps t
+pub initial-first : {ss : List Switch} (ps rest : List CountryTag) (t : CountryTag) → ss ≡ [] → (r : code.Option CountryTag) → MatchOption r ((ps ≡ []) × (rest ≡ [])) (λ p. ps ≡ p ∷ rest) → {f : CountryTag} → f ≡ unwrap_or r t → f ≡ initial_from ss ps t
 unfolding initial_from
-initial-previous t e f = rw (e, f)
-
-pub first-own : {ss : List Switch} {ps : List CountryTag} (t : CountryTag) → ss ≡ [] → ps ≡ [] → t ≡ initial_from ss ps t
-unfolding initial_from
-first-own t e f = rw (e, f)
+initial-first ps rest t e None q u = u ∙ rw (e, q.0)
+initial-first ps rest t e (Some p) q u = u ∙ rw (e, q)
 
 -- ## The words of targets
 
@@ -52,6 +54,16 @@ pub targets_next : {ss rest : List Switch} {x : Switch} (end : CountryTag) → s
 unfolding switch_chain
 targets_next end e = rw e
 
+-- A switch that was told is the first of those that were left; where none was told, none was left.
+pub told-some : (ss rest : List Switch) (r : code.Option Switch) → MatchOption r ((ss ≡ []) × (rest ≡ [])) (λ x. ss ≡ x ∷ rest) → code.is_some r ≡ true
+    → (x : Switch) × (ss ≡ x ∷ rest)
+told-some ss rest (Some x) m h = (x, m)
+told-some ss rest None m h = clash false h refl
+
+pub told-none : (ss rest : List Switch) (r : code.Option Switch) → MatchOption r ((ss ≡ []) × (rest ≡ [])) (λ x. ss ≡ x ∷ rest) → code.is_some r ≡ false → ss ≡ []
+told-none ss rest (Some x) m h = clash true refl h
+told-none ss rest None m h = m.0
+
 -- No switch has no word.
 pub chain-end : {ss : List Switch} (end : CountryTag) → ss ≡ [] → chain_words end ss ≡ []
 unfolding switch_chain
@@ -62,6 +74,11 @@ pub tag-passed : (ps rest : List CountryTag) (t : CountryTag) (n m : ℕ) → re
 tag-passed ps rest t n m e l =
     let sum : 1 + m ≡ n = omega arith in
     ap (λ (l : List CountryTag). get_or l m t) e ∙ get_or-drop 1 ps m t ∙ ap (λ (i : ℕ). get_or ps i t) sum
+
+-- A step over the previous tags passes the first, if there is one.
+pub tag-first : (ps rest : List CountryTag) (r : code.Option CountryTag) → MatchOption r ((ps ≡ []) × (rest ≡ [])) (λ p. ps ≡ p ∷ rest) → rest ≡ drop 1 ps
+tag-first ps rest None q = q.1 ∙ sym (ap (drop 1) q.0)
+tag-first ps rest (Some p) q = sym (ap (drop 1) q)
 
 -- A word for each switch of a chain.
 pub length-chain : (end : CountryTag) (ss : List Switch) → length (chain_words end ss) ≡ length ss

@@ -1,5 +1,7 @@
 -- What the steps of an answer ask where the tables of an accepted record are gathered, and the outcome by its case: a refused record, a slice that is
 -- too short, or the rows, which are those of the answer.
+use Rattle.std.specs.Prelude as code
+use Rattle.std.specs.Prelude.{Ok, Err}
 use mathlib.Core.Path.{◌≡◌, refl, sym, ap, ap₂, subst, ◌∙◌}
 use mathlib.Core.Bool.{Bool, true, false, not, ◌&&◌}
 use mathlib.Core.List.{List, map}
@@ -10,10 +12,13 @@ use lib.Dec.{leb}
 use lib.ListN.{length, take, length-map}
 use lib.Seq.{length-take-le}
 use Rattle.lists.specs.Lists.{count_of}
-use Rattle.lists.proofs.BoolLaws.{clash, and_left, and_right, and-false}
-use Rattle.record.specs.declared.cursors.Provinces.{Provinces}
+use Rattle.lists.proofs.BoolLaws.{and_left, and_right, and-false}
+use Rattle.record.specs.declared.provinces.Provinces.{Provinces}
 use Rattle.format.specs.Campaign.{Campaign, campaign_of}
+use Rattle.format.specs.declared.refused.Refusal.{Refusal}
+use Rattle.format.specs.Refused.{refusal_number}
 use Rattle.format.specs.Refusal.{refusal}
+use Rattle.record.proofs.ToldLaws.{refusal_above}
 use Rattle.rules.specs.Chronicle.{Nation}
 use Rattle.rules.specs.Lent.{written, refused, gives}
 use Rattle.rules.specs.Changes.{changes_of, change_rows, change_width}
@@ -33,15 +38,14 @@ use Rattle.nation_tables.proofs.slots.RoomLaws.{settling-fit, switches-fit, chan
 use Rattle.change_keys.proofs.ChangeLaws.{changes-few}
 use Rattle.nation_listing.specs.declared.listing.Listed.{Listed}
 use Rattle.chronicle_rows.specs.declared.counts.NationCounts.{NationCounts}
-use Rattle.nation_listing.specs.declared.placing.Placed as Placed
-use Rattle.nations.specs.declared.telling.NationsTold as NationsTold
 use Rattle.chronicle_rows.specs.Cases.{counts_in}
 use Rattle.nations.specs.Cases.{nation_cells}
 use Rattle.nation_listing.specs.Listing.{nations_at, listed_of}
-use Rattle.nations.specs.NationSteps.{rest_for, counts_from, RestReady, RestWritten, FrontsInside, fronts_readable, fronts_placed, NationsPlaced, RefusedBy, placing_told, nations_told}
-use Rattle.nation_listing.specs.Placing.{nations_for, PlacedRows, PlacedShort, placed_told}
+use Rattle.nations.specs.NationSteps.{rest_for, counts_from, RestReady, RestWritten, FrontsInside, fronts_readable, fronts_placed, NationsPlaced, RefusedBy}
+use Rattle.nation_listing.specs.Placing.{nations_for, PlacedRows, NonePlaced, placed_told}
 use Rattle.nations.proofs.answer.NationsLaws.{cells-nations, cells-readable, runs-told}
 use Rattle.nation_listing.proofs.ReadingLaws.{readable-found}
+use Rattle.nation_listing.proofs.PlacingLaws.{short-of-room}
 use Rattle.nations.proofs.answer.NationOutcomeLaws.{room_fits, nations-refused, nations-short, nations-rows}
 
 -- ## Cells of a campaign
@@ -213,14 +217,15 @@ module _ (xs : List ℕ) (z : TableSizes) (provinces : Provinces) (words initial
 
     module _ (rows₁ entries₁ : List ℕ) where
       -- The nations have none.
-      placed-refused : PlacedShort nations rows₀ rows₁ entries₀ entries₁ → RefusedBy xs holders held changes 10 rows₀ rows₁ entries₀ entries₁
-      placed-refused p =
-          record {
+      placed-refused : (e : Refusal) → NonePlaced readable nations e rows₀ rows₁ entries₀ entries₁ → RefusedBy xs holders held changes (refusal_number e) rows₀ rows₁ entries₀ entries₁
+      placed-refused e p =
+          let short = short-of-room e readable nations rows₀ entries₀ fronts-readable p.cause in
+          rw short.0 (record {
             refuses = λ holders₀ held₀ changes₀ h d l.
                 ap₂ (λ (x y : List ℕ). record { answer = refused 10; memory = nation_cells x y holders₀ held₀ changes₀ }) p.rows p.entries
                 ∙ nations-not xs accepted z q.countries q.changes q.slotted (nation_cells rows₀ entries₀ holders₀ held₀ changes₀)
-                (subst (λ (ns : List Nation). nations_for (listed_of ns) (length rows₀) (length entries₀) ≡ false) told p.short);
-          }
+                (subst (λ (ns : List Nation). nations_for (listed_of ns) (length rows₀) (length entries₀) ≡ false) told short.1);
+          })
 
       -- All has room.
       placed-told : not b ≡ false → (r : Listed) → PlacedRows nations r rows₀ rows₁ entries₀ entries₁
@@ -237,22 +242,23 @@ module _ (xs : List ℕ) (z : TableSizes) (provinces : Provinces) (words initial
           }
 
       -- Whatever the placing tells.
-      pub placing-told : not b ≡ false → (r : Placed.Placed) → fronts_placed z words initials runs targets firsts started keys turns r rows₀ rows₁ entries₀ entries₁ → (t : NationsTold.NationsTold)
-          → t ≡ placing_told z provinces r → nations_told xs holders held changes t slots keys targets rows₀ rows₁ entries₀ entries₁
-      placing-told f r p t e =
-          subst (λ (x : NationsTold.NationsTold). nations_told xs holders held changes x slots keys targets rows₀ rows₁ entries₀ entries₁) (sym e) (go r p)
-        where
-          go : (r : Placed.Placed) → placed_told readable nations r rows₀ rows₁ entries₀ entries₁
-              → nations_told xs holders held changes (placing_told z provinces r) slots keys targets rows₀ rows₁ entries₀ entries₁
-          go (Placed.TheVariants.Rows l) p = placed-told f l p.1
-          go Placed.TheVariants.Short p = placed-refused p.1
-          go Placed.TheVariants.Unread p = clash readable fronts-readable p.0
+      module _ {r : code.Result Listed Refusal} (p : fronts_placed z words initials runs targets firsts started keys turns r rows₀ rows₁ entries₀ entries₁) where
+        pub none-placed : {e : Refusal} → r ≡ Err e → RefusedBy xs holders held changes (refusal_number e) rows₀ rows₁ entries₀ entries₁
+        none-placed {e} w = placed-refused e (subst (λ (x : code.Result Listed Refusal). placed_told readable nations x rows₀ rows₁ entries₀ entries₁) w p)
+
+        pub rows-placed : not b ≡ false → {l : Listed} → r ≡ Ok l
+            → NationsPlaced xs holders held changes z provinces l slots keys targets rows₀ rows₁ entries₀ entries₁
+        rows-placed f {l} w = placed-told f l (subst (λ (x : code.Result Listed Refusal). placed_told readable nations x rows₀ rows₁ entries₀ entries₁) w p).1
 
 -- A record that is refused.
-pub record-refused : (xs : List ℕ) (holders held changes n : ℕ) (rows₀ entries₀ : List ℕ) → (0 < n) × (n ≡ refusal xs)
-    → RefusedBy xs holders held changes n rows₀ rows₀ entries₀ entries₀
-record-refused xs holders held changes n rows₀ entries₀ h =
-    record { refuses = λ holders₀ held₀ changes₀ _ _ _. nations-refused xs (nation_cells rows₀ entries₀ holders₀ held₀ changes₀) n h.0 h.1 }
+pub record-refused : (xs : List ℕ) (holders held changes : ℕ) (e : Refusal) (rows₀ entries₀ : List ℕ) → refusal_number e ≡ refusal xs
+    → RefusedBy xs holders held changes (refusal_number e) rows₀ rows₀ entries₀ entries₀
+record-refused xs holders held changes e rows₀ entries₀ h =
+    record {
+      refuses =
+          λ holders₀ held₀ changes₀ _ _ _.
+          nations-refused xs (nation_cells rows₀ entries₀ holders₀ held₀ changes₀) (refusal_number e) (refusal_above e) h;
+    }
 
 -- ## The nations are written
 

@@ -1,21 +1,24 @@
--- What the functions of an answer know before their first call, and in each arm behind one: new cells have room for the tables, and an answer that is
--- an enum tells by its case.
-use mathlib.Core.Path.{◌≡◌, subst}
+-- What the functions of an answer know before their first call, and in each arm behind one: new cells have room for the tables, and an answer tells
+-- by its case.
+use Rattle.std.specs.Prelude as code
+use Rattle.std.specs.Prelude.{Ok, Err, IsErr, IsErrAnd}
+use mathlib.Core.Path.{◌≡◌, refl, subst}
 use mathlib.Core.List.{List}
-use Prim.Native.Nat.{ℕ, ◌≤◌, ◌<◌}
+use Prim.Native.Nat.{ℕ, ◌≤◌}
 use native.Mathlib.Omega.{arith}
 use lib.ListN.{length, replicate, length-replicate}
-use Rattle.record.specs.declared.cursors.Provinces.{Provinces}
+use Rattle.format.specs.declared.refused.Refusal.{Refusal}
+use Rattle.format.specs.Refused.{refusal_number}
 use Rattle.format.specs.Refusal.{refusal}
-use Rattle.change_keys.specs.ChangeSteps.{most_changes}
-use Rattle.nation_tables.specs.declared.gathering.TableSizes.{TableSizes}
+use Rattle.rules.specs.Lent.{refused, outcome_of}
+use Rattle.rules.specs.Outcomes.{NationCells}
+use Rattle.chronicle_rows.specs.declared.counts.NationCounts.{NationCounts}
+use Rattle.chronicle_rows.specs.Cases.{counts_in}
 use Rattle.nation_tables.specs.declared.gathering.TablesGathered.{TablesGathered}
-use Rattle.nation_tables.specs.declared.gathering.TablesGathered.TheVariants.{Tables, Refused}
-use Rattle.nation_tables.specs.Layout.{most_countries, most_settling, most_slots, rows_within}
-use Rattle.nation_tables.specs.Gathering.{TableRoom, Gathered, gathered_told}
-use Rattle.nation_listing.specs.declared.listing.Listed.{Listed}
-use Rattle.nations.specs.declared.telling.NationsTold as NationsTold
-use Rattle.nations.specs.NationSteps.{small_record, few_rows, RowsRoom, NationsPlaced, RefusedBy, nations_told}
+use Rattle.nation_tables.specs.Layout.{most_countries, most_slots}
+use Rattle.nation_tables.specs.Gathering.{TableRoom, Gathered, RightlyGathered}
+use Rattle.nations.specs.declared.telling.NationsTold.{NationsTold}
+use Rattle.nations.specs.NationSteps.{RowsRoom, NationsPlaced, RefusedBy, nations_told}
 
 -- ## Room
 
@@ -25,18 +28,6 @@ made n = length-replicate {A = ℕ} n 0
 
 room : (m n : ℕ) → m ≤ n → m ≤ length {A = ℕ} (replicate n 0)
 room m n l = omega (arith, made n)
-
--- The cells of a small record suffice for it, and those for the largest record for any.
-pub small-room : (bytes : ℕ) → bytes ≤ small_record
-    → RowsRoom bytes (replicate few_rows 0) (replicate few_rows 0) (replicate few_rows 0) (replicate few_rows 0)
-small-room bytes l =
-    let changes = room (rows_within most_changes bytes) few_rows (omega arith) in
-    record { runs = room (rows_within most_settling bytes) few_rows (omega arith); keys = changes; cells = changes; turns = changes }
-
-pub large-room : (bytes : ℕ) → RowsRoom bytes (replicate most_settling 0) (replicate most_changes 0) (replicate most_changes 0) (replicate most_changes 0)
-large-room bytes =
-    let changes = room (rows_within most_changes bytes) most_changes (omega arith) in
-    record { runs = room (rows_within most_settling bytes) most_settling (omega arith); keys = changes; cells = changes; turns = changes }
 
 -- With new cells for the countries there is room for all tables.
 pub made-room : (bytes : ℕ) (runs keys cells turns slots : List ℕ) → RowsRoom bytes runs keys cells turns × (most_slots ≤ length slots)
@@ -79,20 +70,32 @@ room-kept words initials runs keys cells slots started turns firsts r w i u k c 
 
 -- ## What callers know in each arm
 
-module _ (xs words initials runs keys targets slots started turns firsts : List ℕ) (r : TablesGathered)
-    (told : gathered_told xs r words initials runs keys targets slots started turns firsts) where
-  pub tables-told : {z : TableSizes} {provinces : Provinces} → r ≡ Tables z provinces
-      → Gathered xs z provinces words initials runs keys targets slots started turns firsts
-  tables-told e = subst (λ (g : TablesGathered). gathered_told xs g words initials runs keys targets slots started turns firsts) e told
+module _ {xs words initials runs keys targets slots started turns firsts : List ℕ} {r : code.Result TablesGathered Refusal}
+    (told : RightlyGathered xs r words initials runs keys targets slots started turns firsts) where
+  pub tables-told : {t : TablesGathered} → r ≡ Ok t → Gathered xs t.sizes t.provinces words initials runs keys targets slots started turns firsts
+  tables-told e = rw e at told.tables
 
-  pub tables-refused : {n : ℕ} → r ≡ Refused n → (0 < n) × (n ≡ refusal xs)
-  tables-refused e = subst (λ (g : TablesGathered). gathered_told xs g words initials runs keys targets slots started turns firsts) e told
+  pub tables-refused : {e : Refusal} → r ≡ Err e → refusal_number e ≡ refusal xs
+  tables-refused e = rw e at told.number
 
-module _ (xs : List ℕ) (holders held changes : ℕ) (slots keys cells rows₀ rows₁ entries₀ entries₁ : List ℕ) (r : NationsTold.NationsTold)
+module _ (xs : List ℕ) (holders held changes : ℕ) (slots keys cells rows₀ rows₁ entries₀ entries₁ : List ℕ) (r : code.Result NationsTold Refusal)
     (told : nations_told xs holders held changes r slots keys cells rows₀ rows₁ entries₀ entries₁) where
-  pub nations-placed : {z : TableSizes} {provinces : Provinces} {l : Listed} → r ≡ NationsTold.TheVariants.Rows z provinces l
-      → NationsPlaced xs holders held changes z provinces l slots keys cells rows₀ rows₁ entries₀ entries₁
-  nations-placed e = subst (λ (t : NationsTold.NationsTold). nations_told xs holders held changes t slots keys cells rows₀ rows₁ entries₀ entries₁) e told
+  pub nations-placed : {t : NationsTold} → r ≡ Ok t
+      → NationsPlaced xs holders held changes t.sizes t.provinces t.listed slots keys cells rows₀ rows₁ entries₀ entries₁
+  nations-placed e = subst (λ (x : code.Result NationsTold Refusal). nations_told xs holders held changes x slots keys cells rows₀ rows₁ entries₀ entries₁) e told
 
-  pub none_told : {n : ℕ} → r ≡ NationsTold.TheVariants.Refused n → RefusedBy xs holders held changes n rows₀ rows₁ entries₀ entries₁
-  none_told e = subst (λ (t : NationsTold.NationsTold). nations_told xs holders held changes t slots keys cells rows₀ rows₁ entries₀ entries₁) e told
+  pub none_told : {e : Refusal} → r ≡ Err e → RefusedBy xs holders held changes (refusal_number e) rows₀ rows₁ entries₀ entries₁
+  none_told e = subst (λ (x : code.Result NationsTold Refusal). nations_told xs holders held changes x slots keys cells rows₀ rows₁ entries₀ entries₁) e told
+
+-- What `?` hands on refuses by the same number.
+module _ (xs : List ℕ) (holders held changes : ℕ) (slots keys cells rows₀ rows₁ entries₀ entries₁ : List ℕ) where
+  pub told-on : (r : code.Result NationsTold Refusal) (e : Refusal) → IsErr r × IsErrAnd r (λ x. x ≡ e)
+      → RefusedBy xs holders held changes (refusal_number e) rows₀ rows₁ entries₀ entries₁
+      → nations_told xs holders held changes r slots keys cells rows₀ rows₁ entries₀ entries₁
+  told-on (Ok t) e h q = absurd h.1
+  told-on (Err x) e h q = rw h.1 q
+
+pub outcome-on : (r : code.Result NationCounts Refusal) (e : Refusal) (m : NationCells) → IsErr r × IsErrAnd r (λ x. x ≡ e)
+    → outcome_of counts_in r m ≡ record { answer = refused (refusal_number e); memory = m }
+outcome-on (Ok n) e m h = absurd h.1
+outcome-on (Err x) e m h = rw h.1 refl

@@ -1,4 +1,5 @@
 -- The fronts of tables, as the code takes them: of those that nations are read from, and of the slots, keys and cells that `write_rest` lends on.
+use Rattle.std.specs.Prelude as code
 use mathlib.Core.Path.{◌≡◌, sym, subst, ◌∙◌}
 use mathlib.Core.List.{List}
 use Prim.Native.Nat.{ℕ, ◌-◌, ◌*◌, ◌≤◌}
@@ -8,20 +9,21 @@ use lib.Dec.{leb}
 use lib.ListN.{length, take}
 use lib.Seq.{length-take-le}
 use Rattle.sorting.specs.Sort.{sort_by}
-use Rattle.record.specs.declared.cursors.Provinces.{Provinces}
+use Rattle.format.specs.declared.refused.Refusal.{Refusal}
+use Rattle.record.specs.declared.provinces.Provinces.{Provinces}
 use Rattle.rules.specs.Changes.{change_width}
 use Rattle.change_keys.specs.ChangeSteps.{entered, change_keys_from}
 use Rattle.nation_tables.specs.declared.gathering.TableSizes.{TableSizes}
 use Rattle.nation_tables.specs.Holders.{SlotsRoom, SlotsPut}
 use Rattle.nation_tables.specs.Gathering.{cells_from}
-use Rattle.nation_listing.specs.declared.placing.Placed.{Placed}
+use Rattle.nation_listing.specs.declared.listing.Listed.{Listed}
 use Rattle.nation_listing.specs.Listing.{nations_at}
 use Rattle.nation_listing.specs.Reading.{is_readable}
 use Rattle.nation_listing.specs.Placing.{placed_told}
 use Rattle.nations.specs.NationSteps.{RestReady, fronts_placed}
 
 -- What is placed of the fronts, as they are lent.
-pub fronts-placed : (z : TableSizes) (words initials runs targets firsts started keys turns : List ℕ) (r : Placed) (rows₀ rows₁ entries₀ entries₁ : List ℕ)
+pub fronts-placed : (z : TableSizes) (words initials runs targets firsts started keys turns : List ℕ) (r : code.Result Listed Refusal) (rows₀ rows₁ entries₀ entries₁ : List ℕ)
     → placed_told
     (is_readable (take (z.countries - 0) words) (take (z.countries - 0) initials) (take (z.switches - 0) runs) firsts (take (z.countries - 0) started)
     (take (z.changes - 0) keys) (take (z.changes - 0) turns))

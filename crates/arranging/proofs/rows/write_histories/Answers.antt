@@ -1,73 +1,99 @@
 -- Those with players fill the front, the leftovers that stay stand behind them.
-use mathlib.Core.Path.{◌≡◌, ap, ◌∙◌}
+use mathlib.Core.Path.{◌≡◌, ap, subst, ◌∙◌}
 use mathlib.Core.Bool.{true}
-use mathlib.Core.List.{◌++◌}
-use Prim.Native.Nat.{◌-◌, ◌*◌}
+use mathlib.Core.List.{[], ◌++◌}
+use Prim.Native.Nat.{◌+◌, ◌-◌, ◌*◌, ◌≤◌}
 use native.Mathlib.Omega.{arith}
 use lib.ListN.{length, take, drop, length-take, length-drop}
+use Rattle.std.proofs.Common.{rules, tests}
+use Rattle.std.specs.Prelude as code
+use Rattle.std.specs.Prelude.{is_some, IfSome, Some}
+use Rattle.lists.specs.Lists.{keep, last_or}
+use Rattle.lists.proofs.ElementLaws.{keep-short}
 use Rattle.rules.specs.Lent.{written}
-use Rattle.rules.specs.HistoryRows.{HistoryRow, history_rows_in}
-use Rattle.arranging.specs.Arranging.{has_names, kept_words, draft_words}
-use Rattle.arranging.proofs.ArrangeLaws.{length-written, sum-part, sum-idle, length-drafted, kept-written, kept-long, drafted-plain, drafted-popped}
-use Rattle.arranging.proofs.rows.write_histories.Goals.{After-write_kind-2}
+use Rattle.rules.specs.HistoryRows.{HistoryRow, history_row_of}
+use Rattle.history_rows.specs.declared.rows.History.{History}
+use Rattle.history_rows.specs.Cases.{history_told}
+use Rattle.arranging.specs.Drafts.{drafts_left, is_played, is_leftover}
+use Rattle.arranging.specs.Arranging.{kept_words}
+use Rattle.arranging.proofs.DraftLaws.{drafts-kept, drafts-taken}
+use Rattle.arranging.proofs.ArrangeLaws.{Fronted, sum-part, sum-idle, sum-taken, kept-written, drafted-plain, drafted-popped}
+use Rattle.arranging.proofs.rows.write_histories.Goals.{After-write_drafts-at, After-write_drafts}
 use Rattle.arranging.proofs.rows.write_histories.Goals as goal
 
+-- The first pass has written.
+front : (c : After-write_drafts-at) → Fronted (drafts_left c.args.drafts) c.args.out.now c.write_drafts-at.result c.write_drafts-at.new.out
+front c =
+    c.write_drafts-at.ensures _ (drafts-kept _ is_played c.args.drafts c.filter.ensures.source c.filter.ensures.closure (λ x b q k. search (rules, tests))).runs
+
+pub write_drafts-at-requires-clause-ready : goal.write_drafts-at-requires-clause-ready
+write_drafts-at-requires-clause-ready c =
+    let ds = drafts_left c.args.drafts in (
+      keep is_played ds,
+      (drafts-kept _ is_played c.args.drafts c.filter.ensures.source c.filter.ensures.closure (λ x b q k. search (rules, tests))).runs,
+      record {
+        many = omega (arith, keep-short is_played ds, c.requires.many);
+        room = omega (arith, c.requires.room);
+        few = omega (arith, sum-part is_played ds, c.requires.named, c.requires.few);
+      },
+    )
+
+-- There is room behind it.
+behind : (c : After-write_drafts-at) → (c.write_drafts-at.result ≤ 14000) × (c.write_drafts-at.result + 7 * c.args.kept ≤ length c.write_drafts-at.new.out)
+behind c =
+    let at = (front c).0 in
+    (omega (arith, at, keep-short is_played (drafts_left c.args.drafts), c.requires.many), omega (arith, at, c.requires.room, c.write_drafts-at.auto.out))
+
+pub offset_bounds-out-at : goal.offset_bounds-out-at
+offset_bounds-out-at c =
+    omega (arith, (behind (goal.at.offset_bounds-out-at c).After-write_drafts-at).0)
+
+pub slice_bounds-write_drafts-count : goal.slice_bounds-write_drafts-count
+slice_bounds-write_drafts-count c =
+    omega (arith, (behind (goal.at.slice_bounds-write_drafts-count c).After-write_drafts-at).1)
+
+pub slice_bounds-write_drafts-start : goal.slice_bounds-write_drafts-start
+slice_bounds-write_drafts-start c =
+    omega (arith, (behind (goal.at.slice_bounds-write_drafts-start c).After-write_drafts-at).1)
+
+pub write_drafts-requires-clause-ready : goal.write_drafts-requires-clause-ready
+write_drafts-requires-clause-ready c =
+    let ls = keep is_leftover (drafts_left c.args.drafts) in
+    let f = c.filter-leftovers.ensures in
+    let t = c.take.ensures in
+    let room = behind (goal.at.write_drafts-requires-clause-ready c).After-write_drafts-at in (
+      take c.args.kept ls,
+      (drafts-taken _ is_leftover c.args.drafts c.args.kept f.source f.closure t.source t.count (λ x b q k. search (rules, tests))).runs,
+      record {
+        many = omega (arith, length-take c.args.kept ls, keep-short is_leftover (drafts_left c.args.drafts), c.requires.many);
+        room = simp (length-take, length-drop) (omega (arith, room.1));
+        few = omega (arith, sum-taken c.args.kept ls, sum-idle (drafts_left c.args.drafts), c.requires.few);
+      },
+    )
+
 -- Both passes have written.
-wholly : (c : After-write_kind-2) → take (7 * c.args.played) c.write_kind.new.out ++ (c.write_kind-2.new.out ++ drop (length c.write_kind.new.out - 7 * c.args.played) (drop (7 * c.args.played) c.write_kind.new.out)) ≡ written (kept_words (history_rows_in c.args.rows.now) c.args.kept) c.args.out.now
-wholly c = kept-written (history_rows_in c.args.rows.now) c.args.popped c.args.played c.args.kept c.requires.counted c.requires.left c.args.names c.args.out.now _ _ c.requires.named c.requires.room
-    c.write_kind.ensures c.write_kind-2.ensures
+wholly : (c : After-write_drafts) → Fronted (drafts_left c.args.drafts) c.args.out.now c.write_drafts-at.result c.write_drafts-at.new.out
+    → take c.write_drafts-at.result c.write_drafts-at.new.out
+    ++ (c.write_drafts.new.out ++ drop (length c.write_drafts-at.new.out - c.write_drafts-at.result) (drop c.write_drafts-at.result c.write_drafts-at.new.out))
+    ≡ written (kept_words (drafts_left c.args.drafts) c.args.kept) c.args.out.now
+wholly c done = let f = c.filter-leftovers.ensures in
+    let t = c.take.ensures in
+    kept-written (drafts_left c.args.drafts) (is_some c.args.vanished) c.args.kept c.requires.left c.args.names _ c.args.out.now _ _ c.requires.named c.requires.room done
+    (c.write_drafts.ensures _ (drafts-taken _ is_leftover c.args.drafts c.args.kept f.source f.closure t.source t.count (λ x b q k. search (rules, tests))).runs).1
 
 -- And the first history has taken an initial.
-pub returns-then-popped : goal.returns-then-popped
-returns-then-popped c =
-    let e = c.if-popped.true in
-    drafted-popped (history_rows_in c.args.rows.now) c.args.popped _ _ c.requires.counted c.requires.left e (c.requires.sole e) _ _ _
-    (c.word.ensures ∙ ap (λ (d : HistoryRow). d.initial.0) c.last_draft-last.ensures) (wholly (goal.at.returns-then-popped c).After-write_kind-2)
+pub returns-in-Some : goal.returns-in-Some
+returns-in-Some c =
+    let at = goal.at.returns-in-Some c in
+    let ds = drafts_left c.args.drafts in
+    let told : is_some c.args.vanished ≡ true = ap is_some c.in-Some.is in
+    let last : history_told c.in-Some.last ≡ last_or (history_row_of []) (keep is_leftover ds) =
+    subst (λ (v : code.Option History). IfSome v (λ h. history_told h ≡ last_or (history_row_of []) (keep is_leftover ds))) c.in-Some.is c.requires.last in
+    drafted-popped ds (is_some c.args.vanished) _ c.requires.left told (c.requires.sole told) _ _ _ (c.from.ensures ∙ ap (λ (d : HistoryRow). d.initial.0) last)
+    (wholly at.After-write_drafts (front at.After-write_drafts-at))
 
-pub write_kind-requires : goal.write_kind-requires
-write_kind-requires c =
-    record {
-      many = c.requires.many.0;
-      room = omega (arith, c.requires.room);
-      few = omega (arith, sum-part (has_names true) (history_rows_in c.args.rows.now), c.requires.named, c.requires.few);
-    }
-
-pub overflow_mul-played : goal.overflow_mul-played
-overflow_mul-played c =
-    omega (arith, c.requires.many.0)
-
-pub offset_bounds-out-played : goal.offset_bounds-out-played
-offset_bounds-out-played c =
-    omega (arith, c.requires.many.0)
-
-pub slice_bounds-write_kind-count : goal.slice_bounds-write_kind-count
-slice_bounds-write_kind-count c =
-    omega (arith, c.requires.room, c.write_kind.auto.out)
-
-pub slice_bounds-write_kind-start : goal.slice_bounds-write_kind-start
-slice_bounds-write_kind-start c =
-    omega (arith, c.requires.room, c.write_kind.auto.out)
-
-pub slice_bounds-write_kind-end : goal.slice_bounds-write_kind-end
-slice_bounds-write_kind-end c =
-    omega (arith, c.requires.room, c.write_kind.auto.out)
-
-pub write_kind-requires-2 : goal.write_kind-requires-2
-write_kind-requires-2 c =
-    record {
-      many = c.requires.many.1;
-      room = simp (length-take, length-drop) (omega (arith, c.requires.room, c.write_kind.auto.out));
-      few = omega (arith, sum-idle (history_rows_in c.args.rows.now), c.requires.few);
-    }
-
-pub bounds-out-0 : goal.bounds-out-0
-bounds-out-0 c =
-    omega (arith, ap length (wholly (goal.at.bounds-out-0 c).After-write_kind-2), kept-long (history_rows_in c.args.rows.now) c.args.popped _ _ c.requires.counted c.requires.left (c.requires.sole c.if-popped.true) c.args.out.now)
-
-pub shape_of-out-then-popped : goal.shape_of-out-then-popped
-shape_of-out-then-popped c =
-    ap length (returns-then-popped c) ∙ length-written (draft_words c.args.popped (history_rows_in c.args.rows.now)) c.args.out.now (omega (arith, length-drafted c.args.popped (history_rows_in c.args.rows.now), c.requires.counted, c.requires.left, c.requires.room))
-
-pub returns-else-popped : goal.returns-else-popped
-returns-else-popped c =
-    drafted-plain (history_rows_in c.args.rows.now) c.args.popped _ _ c.requires.counted c.requires.left c.if-popped.false _ _ (wholly (goal.at.returns-else-popped c).After-write_kind-2)
+pub returns-in_default : goal.returns-in_default
+returns-in_default c =
+    let at = goal.at.returns-in_default c in
+    drafted-plain (drafts_left c.args.drafts) (is_some c.args.vanished) _ c.requires.left (ap is_some c.in_default.is) _ _
+    (wholly at.After-write_drafts (front at.After-write_drafts-at))

@@ -1,13 +1,8 @@
--- Invariant: the best of all initials is the best so far, held against those of the nations that are left.
+-- Invariant: no nation from the number on has the initial, so that the best is that of the nations before it.
 use mathlib.Core.Path.{◌≡◌}
-use Prim.Native.Nat.{◌-◌}
-use Rattle.lists.specs.Lists.{keep}
-use Rattle.lists.proofs.ScanLaws.{scan}
-use Rattle.claims.specs.Claims.{initial_claims, is_asked, claim_day, best_of, so_far_told}
+use Rattle.claims.specs.Claims.{initial_claims, best_of}
+use Rattle.claims.proofs.ClaimLaws.{first_initials}
 use Rattle.claims.proofs.claims.best_initial.Given as goal
 
 abbrev pub invariant-loop-nation : goal.invariant-loop-nation
-invariant-loop-nation l = scan claim_day (so_far_told l.best) (keep (is_asked l.tag l.start) (initial_claims l.nations l.nation)) ≡ best_of l.tag l.start (initial_claims l.nations 0)
-
-abbrev pub decreases-loop-nation : goal.decreases-loop-nation
-decreases-loop-nation l = l.n - l.nation
+invariant-loop-nation l = best_of l.tag (record { 0 = 0 }) (first_initials l.nations l.nation) ≡ best_of l.tag (record { 0 = 0 }) (initial_claims l.nations 0)

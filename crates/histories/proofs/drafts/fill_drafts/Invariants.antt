@@ -1,7 +1,6 @@
--- The invariant: the drafts of the countries passed stand at the front. Those left measure the loop.
+-- The invariant: the drafts of the countries passed stand at the front.
 use mathlib.Core.List.{map}
 use Prim.Native.Nat.{◌*◌}
-use lib.ListN.{length}
 use Rattle.lists.specs.Lists.{join_of}
 use Rattle.lists.proofs.FillLaws.{Filling}
 use Rattle.rules.specs.HistoryRows.{history_row_words}
@@ -11,7 +10,6 @@ use Rattle.histories.proofs.drafts.fill_drafts.Given as goal
 
 abbrev pub invariant-loop-row : goal.invariant-loop-row
 invariant-loop-row l =
-    Filling (join_of history_row_words (map (draft_for l.nations (tags_left l.s l.initial.at) l.cells l.keys) (played_left l.s l.initial.at))) (join_of history_row_words (map (draft_for l.nations (tags_left l.s l.initial.at) l.cells l.keys) (played_left l.s l.at))) l.initial.out (7 * l.n) l.out
-
-abbrev pub decreases-loop-row : goal.decreases-loop-row
-decreases-loop-row l = length (played_left l.s l.at)
+    let draft = draft_for l.fn.nations (tags_left l.fn.countries) l.fn.cells l.fn.keys in
+    Filling (join_of history_row_words (map draft (played_left l.fn.countries))) (join_of history_row_words (map draft (played_left l.row-iterator)))
+    l.fn.out (7 * l.n) l.out

@@ -1,14 +1,11 @@
--- The invariant: the keys of the countries passed stand at the front. The countries left measure the loop.
-use lib.ListN.{length}
+-- The invariant: the keys of the countries passed stand at the front.
+use Rattle.std.specs.Iterator.Adapters.{enumerate_source, enumerate_count}
 use Rattle.lists.proofs.FillLaws.{Filling}
-use Rattle.record.specs.Cursors.{countries_left}
 use Rattle.search.specs.Places.{tag_keys_from}
 use Rattle.histories.specs.Tables.{tags_left}
 use Rattle.histories.proofs.tables.fill_countries.Given as goal
 
-abbrev pub invariant-loop-row : goal.invariant-loop-row
-invariant-loop-row l =
-    Filling (tag_keys_from 0 (tags_left l.s l.initial.at)) (tag_keys_from l.n (tags_left l.s l.at)) l.initial.keys l.n l.keys
-
-abbrev pub decreases-loop-row : goal.decreases-loop-row
-decreases-loop-row l = length (countries_left l.s l.at)
+abbrev pub invariant-loop-n : goal.invariant-loop-n
+invariant-loop-n l =
+    let n = enumerate_count l.n-iterator in
+    Filling (tag_keys_from 0 (tags_left l.fn.countries)) (tag_keys_from n (tags_left (enumerate_source l.n-iterator))) l.fn.keys n l.keys

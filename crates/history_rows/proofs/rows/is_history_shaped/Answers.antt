@@ -1,11 +1,16 @@
 -- Torn words, or the test of each row.
 use mathlib.Core.Path.{◌∙◌}
-use Rattle.history_rows.proofs.HistoryLaws.{torn-rows, whole-rows}
 use borrow.Author.Rules.{rules}
+use Rattle.history_rows.proofs.HistoryLaws.{torn-rows, whole-rows}
 use Rattle.history_rows.proofs.rows.is_history_shaped.Goals as goal
 
-pub returns-then-histories-ne0 : goal.returns-then-histories-ne0
-returns-then-histories-ne0 c = λ ns e. torn-rows _ ns (search rules)
+pub returns-then-is_empty : goal.returns-then-is_empty
+returns-then-is_empty c =
+    λ ns e.
+    whole-rows _ ns _ _ c.as_chunks.ensures.front c.as_chunks.ensures.back_len (search rules) _ e _ c.rows_shaped.ensures.0 c.rows_shaped.ensures.1
 
-pub returns : goal.returns
-returns c = λ ns e. c.rows_shaped.ensures ∙ whole-rows _ ns (search rules) _ e
+pub returns-else-is_empty : goal.returns-else-is_empty
+returns-else-is_empty c =
+    λ ns e.
+    c.if-is_empty.false
+    ∙ torn-rows _ ns _ _ c.as_chunks.ensures.front c.as_chunks.ensures.back_len (search rules)

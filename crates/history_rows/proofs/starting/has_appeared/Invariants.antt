@@ -1,11 +1,8 @@
--- The invariant: the entries from at on tell of all entries of the nation.
+-- The invariant: the entries from the number on tell of all entries of the nation.
 use mathlib.Core.Path.{◌≡◌}
-use Prim.Native.Nat.{◌-◌}
+use Rattle.history_rows.specs.LackSteps.{appeared_in}
 use Rattle.history_rows.proofs.LackLaws.{appeared_from}
 use Rattle.history_rows.proofs.starting.has_appeared.Given as goal
 
-abbrev pub invariant-loop-at : goal.invariant-loop-at
-invariant-loop-at l = appeared_from l.entries l.at l.end ≡ appeared_from l.entries l.initial.at l.end
-
-abbrev pub decreases-loop-at : goal.decreases-loop-at
-decreases-loop-at l = l.end - l.at
+abbrev pub invariant-loop-number : goal.invariant-loop-number
+invariant-loop-number l = appeared_from l.entries l.number l.end ≡ appeared_in l.fn.nations l.entries l.fn.nation

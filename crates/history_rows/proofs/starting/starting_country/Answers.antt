@@ -24,4 +24,4 @@ returns-then-not-is_history_shaped c =
 pub returns : goal.returns
 returns c =
     let tested : c.is_history_shaped.result ≡ histories_shaped (nations_in c.args.nations.now c.args.entries.now) c.args.histories.now = c.is_history_shaped.ensures _ (c.nation_count.ensures ∙ sym (nations-many _ _ (shaped (goal.at.returns c).Else-not-is_well_shaped))) in
-    c.starting_in.ensures ∙ starting-gives _ _ _ (shaped (goal.at.returns c).Else-not-is_well_shaped) (sym tested ∙ not-false _ c.if-not-is_history_shaped.false-raw)
+    starting-gives _ _ _ (shaped (goal.at.returns c).Else-not-is_well_shaped) (sym tested ∙ not-false _ c.if-not-is_history_shaped.false-raw) _ c.starting_in.ensures

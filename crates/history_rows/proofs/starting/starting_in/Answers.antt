@@ -1,21 +1,18 @@
 -- By how many histories lack it.
-use mathlib.Core.Path.{sym, ◌∙◌}
-use Rattle.history_rows.proofs.LackLaws.{sole-told, none_told, one_told, more-told}
-use native.Mathlib.Omega.{arith}
-use borrow.Author.Rules.{rules}
+use mathlib.Core.Path.{ap, ◌∙◌}
+use mathlib.Core.List.{List, ◌∷◌}
+use Rattle.rules.specs.HistoryRows.{HistoryRow}
+use Rattle.history_rows.specs.Cases.{history_told}
+use Rattle.history_rows.proofs.LackLaws.{sole-told, one_told, more-told}
 use Rattle.history_rows.proofs.starting.starting_in.Goals as goal
 
-pub returns-then-history_count-eq1 : goal.returns-then-history_count-eq1
-returns-then-history_count-eq1 c =
-    sole-told _ _ (sym c.lacking_in.ensures ∙ c.in-Nobody.is) (sym c.history_count.ensures ∙ search rules) _ c.history_at-row.ensures
+pub returns-in_default : goal.returns-in_default
+returns-in_default c = sole-told _ _ c.in_default.ensures.steps.0 _ c.history_count-sole.ensures _ c.history_at.ensures _ c.then_some.ensures
 
-pub returns-else-history_count-eq1 : goal.returns-else-history_count-eq1
-returns-else-history_count-eq1 c =
-    none_told _ _ (sym c.lacking_in.ensures ∙ c.in-Nobody.is) (λ e. omega (arith, c.if-history_count-eq1.false, c.history_count.ensures))
+pub returns-in-None : goal.returns-in-None
+returns-in-None c =
+    one_told _ _ (history_told c.in-Some.row) (c.in-Some.ensures.steps ∙ ap (λ (l : List HistoryRow). history_told c.in-Some.row ∷ l) c.in-None.ensures.steps.0)
 
-pub returns-in-One : goal.returns-in-One
-returns-in-One c =
-    one_told _ _ _ (sym c.lacking_in.ensures ∙ c.in-One.is)
-
-pub returns-in-More : goal.returns-in-More
-returns-in-More c = more-told _ _ (sym c.lacking_in.ensures ∙ c.in-More.is)
+pub returns-in-Some-next : goal.returns-in-Some-next
+returns-in-Some-next c =
+    more-told _ _ (history_told c.in-Some.row) _ _ (c.in-Some.ensures.steps ∙ ap (λ (l : List HistoryRow). history_told c.in-Some.row ∷ l) c.in-Some-next.ensures.steps)

@@ -1,24 +1,31 @@
--- The outcome by its case: a refused record, or what all nations give.
-use Rattle.record.proofs.ToldLaws.{accepted-told, refused-told}
-use Rattle.ledger.proofs.LedgerLaws.{record-framed}
-use Rattle.ledger.proofs.LedgerOutcomeLaws.{ledgers-refused}
+-- The outcome by its case: a refused record or chronicle, too little room in either slice, or all rows and counts.
+use Rattle.std.proofs.Common.{ap, sym, subst, arith, ◌∙◌}
+use Rattle.ledger.specs.Cases.{ledgers_outcome}
+use Rattle.ledger.specs.Ledgers.{Framed}
+use Rattle.ledger.proofs.LedgerOutcomeLaws.{handed-on, ledgers-refused, ledgers-torn, counts-short, rows_short, ledgers-given}
 use Rattle.ledger.proofs.ledgers.nation_ledgers.Goals as goal
 
-pub asked_ledgers-requires : goal.asked_ledgers-requires
-asked_ledgers-requires c =
-    let told = accepted-told c.open_record.ensures c.in-Accepted.is in
-    record-framed _ _ told.0 told.1
+pub returns-in_err-frame : goal.returns-in_err-frame
+returns-in_err-frame c =
+    ap (λ r. ledgers_outcome r c.args.out.now c.args.counts.now) (handed-on _ _ c.from_residual.ensures)
+    ∙ ledgers-refused c.args.s.now c.args.nations.now c.args.entries.now c.args.out.now c.args.counts.now _ c.in_err-frame.ensures.number
 
-pub shape_of-out : goal.shape_of-out
-shape_of-out c = c.asked_ledgers.auto.out
+pub returns-then-not-is_well_shaped : goal.returns-then-not-is_well_shaped
+returns-then-not-is_well_shaped c =
+    ledgers-torn c.args.s.now c.args.nations.now c.args.entries.now c.args.out.now c.args.counts.now (sym c.in_ok-frame.ensures.number) (sym c.is_well_shaped.ensures ∙ c.if-not-is_well_shaped.true)
 
-pub shape_of-counts : goal.shape_of-counts
-shape_of-counts c = c.asked_ledgers.auto.counts
+pub returns-then-counts-nation_count : goal.returns-then-counts-nation_count
+returns-then-counts-nation_count c =
+    counts-short c.args.s.now c.args.nations.now c.args.entries.now c.args.out.now c.args.counts.now (sym c.in_ok-frame.ensures.number)
+    c.in_ok-frame.ensures.frame (sym c.is_well_shaped.ensures ∙ c.if-not-is_well_shaped.false) (omega (arith, c.nation_count.ensures, c.if-counts-nation_count.true))
 
-pub returns-in-Accepted : goal.returns-in-Accepted
-returns-in-Accepted c = c.asked_ledgers.ensures
+pub returns-then-room-n : goal.returns-then-room-n
+returns-then-room-n c =
+    rows_short c.args.s.now c.args.nations.now c.args.entries.now c.args.out.now c.args.counts.now (sym c.in_ok-frame.ensures.number)
+    (subst (Framed c.args.s.now) (sym c.of-ledgers.ensures) c.in_ok-frame.ensures.frame) (sym c.is_well_shaped.ensures ∙ c.if-not-is_well_shaped.false) _ c.count_all-n.ensures c.if-room-n.true
 
-pub returns-in-Refused : goal.returns-in-Refused
-returns-in-Refused c =
-    let told = refused-told c.open_record.ensures c.in-Refused.is in
-    ledgers-refused _ _ _ _ _ _ told.0 told.1
+pub returns : goal.returns
+returns c =
+    ledgers-given c.args.s.now c.args.nations.now c.args.entries.now c.args.out.now c.args.counts.now (sym c.in_ok-frame.ensures.number)
+    (subst (Framed c.args.s.now) (sym c.of-ledgers.ensures) c.in_ok-frame.ensures.frame) (sym c.is_well_shaped.ensures ∙ c.if-not-is_well_shaped.false) _ c.count_all-n.ensures c.if-room-n.false
+    (omega (arith, c.nation_count.ensures, c.if-counts-nation_count.false)) _ _ c.write_all.ensures

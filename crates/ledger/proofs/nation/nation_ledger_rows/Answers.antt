@@ -1,18 +1,21 @@
--- The answer by its case: a refused record, or what the nation's number gives.
-use Rattle.record.proofs.ToldLaws.{accepted-told, refused-told}
-use Rattle.ledger.proofs.LedgerLaws.{record-framed}
-use Rattle.ledger.proofs.LedgerOutcomeLaws.{rows-refused}
+-- The answer by its case: a refused record, chronicle or number, or the count.
+use Rattle.std.proofs.Common.{ap, sym, subst, ◌∙◌}
+use Rattle.ledger.specs.Cases.{ledger_answer}
+use Rattle.ledger.specs.Ledgers.{Framed}
+use Rattle.ledger.proofs.LedgerOutcomeLaws.{handed-on, rows-refused, rows-unasked, rows-given}
 use Rattle.ledger.proofs.nation.nation_ledger_rows.Goals as goal
 
-pub asked_rows-requires : goal.asked_rows-requires
-asked_rows-requires c =
-    let told = accepted-told c.open_record.ensures c.in-Accepted.is in
-    record-framed _ _ told.0 told.1
+pub returns-in_err-frame : goal.returns-in_err-frame
+returns-in_err-frame c =
+    ap ledger_answer (handed-on _ _ c.from_residual.ensures)
+    ∙ rows-refused c.args.s.now c.args.nations.now c.args.entries.now c.args.nation c.args.most _ c.in_err-frame.ensures.number
 
-pub returns-in-Accepted : goal.returns-in-Accepted
-returns-in-Accepted c = c.asked_rows.ensures
+pub returns-in_err-row : goal.returns-in_err-row
+returns-in_err-row c =
+    ap ledger_answer (handed-on _ _ c.from_residual-in_err-row.ensures)
+    ∙ rows-unasked c.args.s.now c.args.nations.now c.args.entries.now c.args.nation c.args.most (sym c.in_ok-frame.ensures.number) _ c.in_err-row.ensures.number
 
-pub returns-in-Refused : goal.returns-in-Refused
-returns-in-Refused c =
-    let told = refused-told c.open_record.ensures c.in-Refused.is in
-    rows-refused _ _ _ _ _ _ told.0 told.1
+pub returns : goal.returns
+returns c =
+    rows-given c.args.s.now c.args.nations.now c.args.entries.now c.args.nation c.args.most (sym c.in_ok-frame.ensures.number)
+    (subst (Framed c.args.s.now) (sym c.of-ledgers.ensures) c.in_ok-frame.ensures.frame) (sym c.in_ok-row.ensures.number) _ c.in_ok-row.ensures.row _ c.count.ensures

@@ -13,5 +13,5 @@ bounds-out-2 c = simp length-set (omega arith)
 
 pub returns : goal.returns
 returns c =
-    rw (c.word.ensures, c.kind_word.ensures, c.target_word.ensures)
+    rw (c.from.ensures, c.kind_word.ensures, c.target_word.ensures)
     (sets-eq (_ ∷ _ ∷ _ ∷ []) c.args.out.now 0 (omega arith))

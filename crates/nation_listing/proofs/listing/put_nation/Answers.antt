@@ -19,5 +19,5 @@ bounds-out-4 c = simp length-set (omega arith)
 
 pub returns : goal.returns
 returns c =
-    rw (c.word.ensures, c.word-2.ensures, c.word-3.ensures)
+    rw (c.from.ensures, c.from-2.ensures, c.from-3.ensures)
     (sets-eq (_ ∷ _ ∷ _ ∷ _ ∷ _ ∷ []) c.args.out.now 0 (omega arith))

@@ -1,21 +1,20 @@
 -- Tables that pass the test are counted, and where there is room they are written.
-use Rattle.nation_listing.proofs.PlacingLaws.{place-unread, place-counted, place-few, place_short, place-asked, place-put}
+use Rattle.nation_listing.proofs.PlacingLaws.{place-readable, place-few, place_short, place-asked, place-put}
 use Rattle.nation_listing.proofs.placing.place_nations.Goals as goal
 
-pub returns-then-not-is_readable : goal.returns-then-not-is_readable
-returns-then-not-is_readable c = place-unread c.args.tag_words.now c.args.initial_keys.now c.args.runs.now c.args.targets.now c.args.firsts.now c.args.started.now c.args.keys.now c.args.turns.now c.args.start _ c.is_readable.ensures c.if-not-is_readable.true-raw _ _
-
 pub count_nations-listed-requires : goal.count_nations-listed-requires
-count_nations-listed-requires c = place-counted c.args.tag_words.now c.args.initial_keys.now c.args.runs.now c.args.targets.now c.args.firsts.now c.args.started.now c.args.keys.now c.args.turns.now c.args.start _ c.is_readable.ensures c.if-not-is_readable.false-raw
+count_nations-listed-requires c = place-readable c.args.tables.now _ c.is_readable.ensures c.if-not-is_readable.false-raw
 
 pub nations_fit-requires : goal.nations_fit-requires
-nations_fit-requires c = place-few c.args.tag_words.now c.args.initial_keys.now c.args.runs.now c.args.targets.now c.args.firsts.now c.args.started.now c.args.keys.now c.args.turns.now c.args.start _ c.is_readable.ensures c.if-not-is_readable.false-raw _ c.count_nations-listed.ensures
+nations_fit-requires c = place-few c.args.tables.now _ c.is_readable.ensures c.if-not-is_readable.false-raw _ c.count_nations-listed.ensures
 
 pub returns-then-not-nations_fit : goal.returns-then-not-nations_fit
-returns-then-not-nations_fit c = place_short c.args.tag_words.now c.args.initial_keys.now c.args.runs.now c.args.targets.now c.args.firsts.now c.args.started.now c.args.keys.now c.args.turns.now c.args.start _ c.is_readable.ensures c.if-not-is_readable.false-raw _ c.count_nations-listed.ensures _ _ _ c.nations_fit.ensures c.if-not-nations_fit.true-raw
+returns-then-not-nations_fit c = place_short c.args.tables.now _ c.is_readable.ensures c.if-not-is_readable.false-raw _ c.count_nations-listed.ensures _ _ _ c.nations_fit.ensures c.if-not-nations_fit.true-raw
 
 pub write_nations-requires : goal.write_nations-requires
-write_nations-requires c = let asked = place-asked c.args.tag_words.now c.args.initial_keys.now c.args.runs.now c.args.targets.now c.args.firsts.now c.args.started.now c.args.keys.now c.args.turns.now c.args.start _ c.is_readable.ensures c.if-not-is_readable.false-raw _ c.count_nations-listed.ensures _ _ _ c.nations_fit.ensures c.if-not-nations_fit.false-raw in record { readable = asked.0; nations_room = asked.1 }
+write_nations-requires c =
+    let asked = place-asked c.args.tables.now _ c.is_readable.ensures c.if-not-is_readable.false-raw _ c.count_nations-listed.ensures _ _ _ c.nations_fit.ensures c.if-not-nations_fit.false-raw in
+    record { readable = asked.0; nations_room = asked.1 }
 
 pub shape_of-nations : goal.shape_of-nations
 shape_of-nations c = c.write_nations.auto.nations
@@ -24,4 +23,4 @@ pub shape_of-entries : goal.shape_of-entries
 shape_of-entries c = c.write_nations.auto.entries
 
 pub returns : goal.returns
-returns c = place-put c.args.tag_words.now c.args.initial_keys.now c.args.runs.now c.args.targets.now c.args.firsts.now c.args.started.now c.args.keys.now c.args.turns.now c.args.start _ c.is_readable.ensures c.if-not-is_readable.false-raw _ c.count_nations-listed.ensures _ _ _ c.nations_fit.ensures c.if-not-nations_fit.false-raw _ _ c.write_nations.ensures
+returns c = place-put c.args.tables.now _ c.is_readable.ensures c.if-not-is_readable.false-raw _ c.count_nations-listed.ensures _ _ _ c.nations_fit.ensures c.if-not-nations_fit.false-raw _ _ c.write_nations.ensures

@@ -3,11 +3,11 @@ use Rattle.nation_listing.specs.Reading.{few_slots}
 use Rattle.nation_listing.proofs.ReadingLaws.{each_more, each-end}
 use Rattle.nation_listing.proofs.reading.few_slots.Goals as goal
 
-pub loop-i-init : goal.loop-i-init
-loop-i-init c = refl
+pub loop-slots-init : goal.loop-slots-init
+loop-slots-init c = refl
 
-pub loop-i-preserved : goal.loop-i-preserved
-loop-i-preserved c = each_more few_slots _ c.loop-i.good c.loop-i.i c.loop-i.invariant c.loop-i-test.true
+pub loop-slots-preserved : goal.loop-slots-preserved
+loop-slots-preserved c = each_more few_slots _ c.loop-slots.good c.loop-slots.slots-index c.loop-slots.invariant c.loop-slots-test.true
 
 pub returns : goal.returns
-returns c = each-end few_slots _ c.loop-i.good c.loop-i.i c.loop-i.invariant c.loop-i-test.false
+returns c = each-end few_slots _ c.loop-slots.good c.loop-slots.slots-index c.loop-slots.invariant c.loop-slots-test.false

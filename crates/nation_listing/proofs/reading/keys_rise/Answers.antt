@@ -2,11 +2,11 @@ use mathlib.Core.Path.{refl}
 use Rattle.nation_listing.proofs.ReadingLaws.{rise-more, rise-end}
 use Rattle.nation_listing.proofs.reading.keys_rise.Goals as goal
 
-pub loop-i-init : goal.loop-i-init
-loop-i-init c = refl
+pub loop-key-init : goal.loop-key-init
+loop-key-init c = refl
 
-pub loop-i-preserved : goal.loop-i-preserved
-loop-i-preserved c = rise-more _ c.loop-i.good c.loop-i.last c.loop-i.i c.loop-i.invariant c.loop-i-test.true
+pub loop-key-preserved : goal.loop-key-preserved
+loop-key-preserved c = rise-more _ c.loop-key.good c.loop-key.last c.loop-key.key-index c.loop-key.invariant c.loop-key-test.true
 
 pub returns : goal.returns
-returns c = rise-end _ c.loop-i.good c.loop-i.last c.loop-i.i c.loop-i.invariant c.loop-i-test.false
+returns c = rise-end _ c.loop-key.good c.loop-key.last c.loop-key.key-index c.loop-key.invariant c.loop-key-test.false

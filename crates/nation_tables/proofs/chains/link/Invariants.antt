@@ -5,6 +5,3 @@ use Rattle.nation_tables.proofs.chains.link.Given as goal
 
 abbrev pub invariant-loop-k : goal.invariant-loop-k
 invariant-loop-k l = BothLinking l.initial.turns l.initial.firsts l.turns l.firsts l.k
-
-abbrev pub decreases-loop-k : goal.decreases-loop-k
-decreases-loop-k l = l.k

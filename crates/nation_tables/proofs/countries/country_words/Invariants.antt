@@ -1,5 +1,4 @@
 -- The invariant: the words of the countries passed stand in front of both slices, and those of the countries left find room behind them.
-use lib.ListN.{length}
 use Rattle.lists.proofs.FillLaws.{Filling}
 use Rattle.record.specs.Cursors.{countries_left}
 use Rattle.nation_tables.specs.Countries.{words_of_tags, initial_words}
@@ -7,8 +6,5 @@ use Rattle.nation_tables.proofs.countries.country_words.Given as goal
 
 abbrev pub invariant-loop-row : goal.invariant-loop-row
 invariant-loop-row l =
-    Filling (words_of_tags (countries_left l.s l.initial.left)) (words_of_tags (countries_left l.s l.left)) l.initial.tags l.n l.tags
-    × Filling (initial_words (countries_left l.s l.initial.left)) (initial_words (countries_left l.s l.left)) l.initial.initials l.n l.initials
-
-abbrev pub decreases-loop-row : goal.decreases-loop-row
-decreases-loop-row l = length (countries_left l.s l.left)
+    Filling (words_of_tags (countries_left l.fn.countries)) (words_of_tags (countries_left l.row-iterator)) l.initial.tags l.n l.tags
+    × Filling (initial_words (countries_left l.fn.countries)) (initial_words (countries_left l.row-iterator)) l.initial.initials l.n l.initials

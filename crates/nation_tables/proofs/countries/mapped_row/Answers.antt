@@ -1,5 +1,5 @@
 -- The keys of an initial are those from its word times key_rows on, below the next word's.
-use mathlib.Core.Path.{◌≡◌}
+use mathlib.Core.Path.{◌≡◌, ◌∙◌}
 use Prim.Native.Nat.{◌+◌, ◌*◌, ◌/◌}
 use native.Mathlib.Omega.{arith}
 use Rattle.nation_tables.specs.Layout.{key_rows}
@@ -8,6 +8,6 @@ use Rattle.nation_tables.proofs.countries.mapped_row.Goals as goal
 
 pub returns : goal.returns
 returns c =
-    let w = c.word.result in
+    let w = c.from-low.result in
     let even : (w * key_rows + key_rows) / 2 * 2 ≡ w * key_rows + key_rows = omega arith in
-    row-mapped _ _ _ _ c.word.ensures (rw even at (c.last_within.ensures c.requires))
+    row-mapped _ c.args.tag _ _ (c.from-low.ensures ∙ c.from.ensures) (rw even at (c.last_within.ensures c.requires))

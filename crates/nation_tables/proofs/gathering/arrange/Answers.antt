@@ -1,11 +1,13 @@
 -- No row has a first change yet; then chains, keys and targets by the promises of the functions that make them.
-use mathlib.Core.Path.{◌∙◌}
+use mathlib.Core.Path.{refl, ◌∙◌}
 use native.Mathlib.Omega.{arith}
+use Rattle.std.proofs.lemmas.Simd.{splat_is_map}
+use Rattle.nation_tables.specs.Layout.{no_firsts}
 use Rattle.nation_tables.proofs.slots.TableStepLaws.{runs-front, targets-front, runs-asked, targets-asked, fresh-firsts}
 use Rattle.nation_tables.proofs.gathering.arrange.Goals as goal
 
 pub link-requires : goal.link-requires
-link-requires c = record { turns_len_bound = c.requires.turns_len_bound; fresh = fresh-firsts c.args.firsts.now _ c.set_all.ensures }
+link-requires c = record { turns_len_bound = c.requires.turns_len_bound; fresh = fresh-firsts c.args.firsts.now _ (c.fill.ensures.after (λ y e. e) ∙ splat_is_map c.args.firsts.now _ no_firsts refl) }
 
 pub run_keys-requires : goal.run_keys-requires
 run_keys-requires c = let asked = runs-asked _ _ _ c.requires.keyed.1 c.requires.keyed.0 in record { countries_len_bound = asked.0; countries_in_bounds = asked.1 }
@@ -17,7 +19,7 @@ pub shape_of-turns : goal.shape_of-turns
 shape_of-turns c = c.link.auto.turns
 
 pub shape_of-firsts : goal.shape_of-firsts
-shape_of-firsts c = omega (arith, c.link.auto.firsts, c.set_all.auto)
+shape_of-firsts c = omega (arith, c.link.auto.firsts, c.fill.ensures.len)
 
 pub shape_of-runs : goal.shape_of-runs
 shape_of-runs c = c.run_keys.auto.keys

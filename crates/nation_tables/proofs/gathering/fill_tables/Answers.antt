@@ -1,10 +1,12 @@
 -- Each table by the promise of the function that fills it.
 use mathlib.Core.Path.{◌≡◌, sym, ◌∙◌}
-use Prim.Native.Nat.{ℕ}
+use Prim.Native.Nat.{ℕ, ◌≤◌}
 use native.Mathlib.Omega.{arith}
 use lib.ListN.{length, replicate, length-replicate}
+use lib.Seq.{length-take-le}
 use Rattle.nation_tables.specs.Layout.{most_countries}
 use Rattle.nation_tables.proofs.slots.TableStepLaws.{tables-filled}
+use Rattle.nation_tables.proofs.gathering.fill_tables.Goals.{After-country_words-c}
 use Rattle.nation_tables.proofs.gathering.fill_tables.Goals as goal
 
 -- New cells are as many as were asked for.
@@ -17,14 +19,19 @@ slice_bounds-country_words-end c = sym (made most_countries)
 pub country_words-c-requires : goal.country_words-c-requires
 country_words-c-requires c = let p = c.requires.tables_room in (p.words, omega (arith, p.few, made most_countries))
 
+-- There are no more countries than initial words.
+inside : (c : After-country_words-c) → c.country_words-c.result ≤ length c.country_words-c.new.initials
+inside c = omega (arith, c.country_words-c.ensures.counted, c.requires.tables_room.few, c.country_words-c.auto.initials, made most_countries)
+
 pub slice_bounds-row_keys-end : goal.slice_bounds-row_keys-end
-slice_bounds-row_keys-end c = sym (c.country_words-c.auto.initials ∙ made most_countries)
+slice_bounds-row_keys-end c = sym (length-take-le _ _ (inside (goal.at.slice_bounds-row_keys-end c).After-country_words-c))
 
 pub row_keys-requires : goal.row_keys-requires
 row_keys-requires c =
     let p = c.requires.tables_room in
     let n = c.country_words-c.ensures.counted in
-    (omega (arith, n, p.few), omega (arith, n, p.few, c.country_words-c.auto.initials, made most_countries), omega (arith, n, p.initials))
+    let l = length-take-le _ _ (inside (goal.at.row_keys-requires c).After-country_words-c) in
+    (omega (arith, n, l, p.few), omega (arith, n, l, p.initials))
 
 pub settling_keys-m-requires : goal.settling_keys-m-requires
 settling_keys-m-requires c = (c.requires.keyed, c.requires.tables_room.switches)

@@ -1,68 +1,44 @@
 use mathlib.Core.Path.{◌≡◌, refl, sym, ap, ◌∙◌}
 use mathlib.Core.List.{◌∷◌, map}
 use native.Mathlib.Omega.{arith}
-use lib.ListN.{length, length-set}
-use lib.Seq.{take_all}
-use Rattle.format.specs.Campaign.{campaign_of}
-use Rattle.format.proofs.CampaignLaws.{told-row, told-end}
-use Rattle.change_keys.specs.ChangeSteps.{change_of, changes_left, change_told}
-use Rattle.nation_tables.specs.Countries.{settling_keys_from}
+use lib.ListN.{length, length-map}
+use Rattle.lists.proofs.FillLaws.{filling-new, filling-put, filling-whole}
+use Rattle.change_keys.specs.ChangeSteps.{change_of, changes_left}
 use Rattle.nation_tables.specs.Holders.{holder_cell}
-use Rattle.change_keys.proofs.EnteringLaws.{all-entered, entering-none, entering-next, entering-more, entering-done}
-use Rattle.nation_tables.proofs.slots.ChangeCellLaws.{entered-small, small-next, all-sorted, cell-made}
-use Rattle.nation_tables.proofs.holders.fill_holders.Goals.{In-Row}
+use Rattle.nation_tables.proofs.slots.ChangeCellLaws.{small-next, cell-made}
+use Rattle.nation_tables.proofs.holders.fill_holders.Goals.{In-Some}
 use Rattle.nation_tables.proofs.holders.fill_holders.Goals as goal
 
 -- The change that was told is the first of those left.
-more : (c : In-Row) → changes_left c.args.s.now c.loop-x.at ≡ change_of c.in-Row.x ∷ changes_left c.args.s.now c.in-Row.rest
-more c = told-row (change_told _) c.next_change.ensures c.in-Row.is refl
+more : (c : In-Some) → changes_left c.loop-x.x-iterator ≡ change_of c.in-Some.x ∷ changes_left c.next.new.self
+more c = c.in-Some.ensures.steps
 
 pub loop-x-init : goal.loop-x-init
 loop-x-init c =
-    let cell = holder_cell (campaign_of c.args.s.now).countries in
-    let all = all-entered _ c.args.provinces c.next-at.result c.requires.at_first_province c.next-at.ensures in (
-      refl,
-      entering-none (λ _. map cell) _ c.args.provinces _ _ c.requires.at_first_province all (omega (arith, c.requires.s_len)),
-      rw all (entered-small _ c.requires.at_first_province.accepted),
+    rw c.into_iter-x-iterator.ensures.into_iter_gives (
+      (λ ks q. filling-new _ _ (omega (arith, length-map (changes_left c.args.changes) (holder_cell ks), c.requires.changes_len))),
+      c.requires.small,
+      omega (arith, c.requires.changes_len),
     )
 
 pub holder_row-row-requires : goal.holder_row-row-requires
 holder_row-row-requires c =
-    let q = c.requires.settler in
-    let ks = (campaign_of c.args.s.now).countries in
-    let small = (small-next (more (goal.at.holder_row-row-requires c).In-Row) c.loop-x.invariant.2).0 in
-    (all-sorted (settling_keys_from 0 ks) _ q.keys, small.to)
+    (c.requires.sorted, (small-next (more (goal.at.holder_row-row-requires c).In-Some) c.loop-x.invariant.1).0.to)
 
 pub bounds-cells-n : goal.bounds-cells-n
-bounds-cells-n c =
-    let cell = holder_cell (campaign_of c.args.s.now).countries in
-    (entering-next (λ _. map cell) _ c.loop-x.n c.loop-x.cells c.loop-x.invariant.1 (more (goal.at.bounds-cells-n c).In-Row)).0
-
-pub overflow_add-n : goal.overflow_add-n
-overflow_add-n c =
-    let cell = holder_cell (campaign_of c.args.s.now).countries in
-    omega (arith, (entering-next (λ _. map cell) _ c.loop-x.n c.loop-x.cells c.loop-x.invariant.1 (more (goal.at.overflow_add-n c).In-Row)).1)
-
-pub loop-x-smaller : goal.loop-x-smaller
-loop-x-smaller c =
-    omega (arith, ap length (more (goal.at.loop-x-smaller c).In-Row))
+bounds-cells-n c = omega (arith, ap length (more (goal.at.bounds-cells-n c).In-Some), c.loop-x.invariant.2, c.loop-x.auto.cells)
 
 pub loop-x-preserved : goal.loop-x-preserved
 loop-x-preserved c =
-    let cell = holder_cell (campaign_of c.args.s.now).countries in
-    let small = small-next (more (goal.at.loop-x-preserved c).In-Row) c.loop-x.invariant.2 in
-    let made = cell-made _ _ _ c.requires.settler (change_of c.in-Row.x) small.0 c.holder_row-row.result c.holder_row-row.ensures _ refl in (
-      simp length-set c.loop-x.invariant.0,
-      entering-more (λ _. map cell) _ c.loop-x.n c.loop-x.cells c.loop-x.invariant.1 (more (goal.at.loop-x-preserved c).In-Row) c.cell_of.result (rw (c.cell_of.ensures ∙ made)),
+    let told = more (goal.at.loop-x-preserved c).In-Some in
+    let small = small-next told c.loop-x.invariant.1 in (
+      (λ ks q. filling-put _ _ _ _ _ (c.loop-x.invariant.0 ks q) _ _ (ap (map (holder_cell ks)) told) _
+          (c.cell_of.ensures ∙ cell-made _ _ _ q (change_of c.in-Some.x) small.0 c.unwrap_or.result (rw (sym c.unwrap_or.ensures) at c.holder_row-row.ensures) _ refl)),
       small.1,
+      omega (arith, ap length told, c.loop-x.invariant.2),
     )
 
-pub shape_of-cells-in-End : goal.shape_of-cells-in-End
-shape_of-cells-in-End c = c.loop-x.invariant.0
-
-pub returns-in-End : goal.returns-in-End
-returns-in-End c =
-    let cell = holder_cell (campaign_of c.args.s.now).countries in
-    let end = told-end (change_told _) c.next_change.ensures c.in-End.is refl in
-    let done = entering-done (λ _. map cell) _ _ c.loop-x.n c.loop-x.cells c.loop-x.invariant.1 end refl in
-    sym (take_all c.loop-x.n c.loop-x.cells (omega (arith, done.0, c.loop-x.invariant.0, c.requires.s_len))) ∙ done.1
+pub returns : goal.returns
+returns c = λ ks q.
+    filling-whole _ _ _ _ _ (c.loop-x.invariant.0 ks q) (ap (map (holder_cell ks)) c.in-None.ensures.steps.0)
+    (omega (arith, length-map (changes_left c.args.changes) (holder_cell ks), c.requires.changes_len))

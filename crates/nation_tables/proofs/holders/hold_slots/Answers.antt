@@ -1,40 +1,50 @@
 -- The start, then the steps, then the pass over them. There is room for as many changes as there are.
 use mathlib.Core.Path.{◌≡◌, ◌∙◌}
+use mathlib.Core.List.{List}
+use Prim.Native.Nat.{ℕ}
 use native.Mathlib.Omega.{arith}
 use lib.ListN.{length, length-take}
+use Rattle.record.specs.declared.provinces.Provinces.{Provinces}
 use Rattle.change_keys.specs.ChangeSteps.{entered}
+use Rattle.nation_tables.specs.Holders.{StartAsked, StepsAsked, HoldingAsked}
 use Rattle.nation_tables.proofs.slots.HoldersLaws.{held}
 use Rattle.nation_tables.proofs.holders.hold_slots.Goals.{After-sort_steps-n}
 use Rattle.nation_tables.proofs.holders.hold_slots.Goals as goal
 
+module _ {xs : List ℕ} {provinces : Provinces} {ws is ss keys cells slots started turns : List ℕ}
+    (asked : HoldingAsked xs provinces ws is ss keys cells slots started turns) where
+  -- What the start and the changes ask.
+  start-asked : StartAsked xs provinces ws is slots started
+  start-asked = record { ready = asked.ready; words = asked.tables.settler.words; initials = asked.tables.initials; slots = asked.room.slots; started = asked.room.started }
+
+  steps-asked : StepsAsked xs provinces ws ss keys cells
+  steps-asked = record { ready = asked.ready; settler = asked.tables.settler; keys = asked.room.keys; cells = asked.room.cells }
+
 -- So many changes there are.
-count : (c : After-sort_steps-n) → c.sort_steps-n.result ≡ length (entered c.args.s.now)
-count c = c.sort_steps-n.ensures.counted
+count : (c : After-sort_steps-n) → c.sort_steps-n.result ≡ length (entered c.requires.0)
+count c = (c.sort_steps-n.ensures _ (steps-asked c.requires.1)).counted
 
 pub start_slots-requires : goal.start_slots-requires
-start_slots-requires c =
-    let tables = c.requires.tables in
-    let room = c.requires.holding_room in record { at_first_province = c.requires.at_first_province; tag_words_value = tables.settler.words; initial_keys_value = tables.initials; slots_len = (room.slots, room.started) }
+start_slots-requires c = (c.requires.0, start-asked c.requires.1)
 
 pub sort_steps-n-requires : goal.sort_steps-n-requires
-sort_steps-n-requires c =
-    let room = c.requires.holding_room in record { at_first_province = c.requires.at_first_province; settler = c.requires.tables.settler; s_in_bounds = (room.keys, room.cells) }
+sort_steps-n-requires c = (c.requires.0, steps-asked c.requires.1)
 
 pub slice_bounds-pass-end : goal.slice_bounds-pass-end
 slice_bounds-pass-end c =
-    omega (arith, count (goal.at.slice_bounds-pass-end c).After-sort_steps-n, c.sort_steps-n.auto.keys, c.requires.holding_room.keys)
+    omega (arith, count (goal.at.slice_bounds-pass-end c).After-sort_steps-n, c.sort_steps-n.auto.keys, c.requires.1.room.keys)
 
 pub slice_bounds-pass-end-2 : goal.slice_bounds-pass-end-2
 slice_bounds-pass-end-2 c =
-    omega (arith, count (goal.at.slice_bounds-pass-end-2 c).After-sort_steps-n, c.sort_steps-n.auto.cells, c.requires.holding_room.cells)
+    omega (arith, count (goal.at.slice_bounds-pass-end-2 c).After-sort_steps-n, c.sort_steps-n.auto.cells, c.requires.1.room.cells)
 
 pub slice_bounds-pass-end-3 : goal.slice_bounds-pass-end-3
 slice_bounds-pass-end-3 c =
-    omega (arith, count (goal.at.slice_bounds-pass-end-3 c).After-sort_steps-n, c.requires.holding_room.turns)
+    omega (arith, count (goal.at.slice_bounds-pass-end-3 c).After-sort_steps-n, c.requires.1.room.turns)
 
 pub pass-requires : goal.pass-requires
 pass-requires c =
-    let room = c.requires.holding_room in
+    let room = c.requires.1.room in
     simp length-take (omega (arith, count (goal.at.pass-requires c).After-sort_steps-n, c.sort_steps-n.auto.keys, room.keys, room.turns))
 
 pub shape_of-keys : goal.shape_of-keys
@@ -53,5 +63,5 @@ pub shape_of-turns : goal.shape_of-turns
 shape_of-turns c = c.turns-1.given.1
 
 pub returns : goal.returns
-returns c =
-    held _ c.requires.at_first_province.accepted _ _ _ _ _ c.start_slots.ensures c.sort_steps-n.ensures _ _ _ c.pass.ensures
+returns c = λ xs asked.
+    held xs asked.ready.accepted _ _ _ _ _ (c.start_slots.ensures xs (start-asked asked)) (c.sort_steps-n.ensures xs (steps-asked asked)) _ _ _ c.pass.ensures

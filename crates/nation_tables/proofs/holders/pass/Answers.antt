@@ -1,3 +1,4 @@
+use mathlib.Core.Path.{sym}
 use native.Mathlib.Omega.{arith}
 use Rattle.nation_tables.proofs.slots.SlotPassLaws.{pass-none, pass_step, pass-done}
 use Rattle.nation_tables.proofs.holders.pass.Goals as goal
@@ -11,7 +12,7 @@ bounds-turns-k c =
 
 pub loop-k-preserved : goal.loop-k-preserved
 loop-k-preserved c =
-    pass_step _ _ _ _ _ _ c.loop-k.k c.loop-k.invariant c.loop-k-test.true _ _ _ _ c.kept-id.ensures c.cell-cell.ensures c.replace-old.ensures
+    pass_step _ _ _ _ _ _ c.loop-k.k c.loop-k.invariant c.loop-k-test.true _ _ _ _ c.kept-id.ensures c.cell_at-cell.ensures (rw (sym c.unwrap_or-old.ensures) at c.replace.ensures)
 
 pub shape_of-slots : goal.shape_of-slots
 shape_of-slots c = c.loop-k.invariant.long

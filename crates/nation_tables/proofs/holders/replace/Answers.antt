@@ -10,7 +10,7 @@ use Rattle.nation_tables.proofs.holders.replace.Goals as goal
 
 pub returns-then-slots-slot : goal.returns-then-slots-slot
 returns-then-slots-slot c =
-    let e = c.word-slot.ensures in
+    let e = c.from-slot.ensures in
     let h = c.if-slots-slot.true in
     record {
       old = sym (get_or-eq_default c.args.slots.now nobody_cell {n = c.args.id.0} (omega arith));
@@ -19,9 +19,9 @@ returns-then-slots-slot c =
 
 pub returns : goal.returns
 returns c =
-    let e = c.word-slot.ensures in
+    let e = c.from-slot.ensures in
     let h = c.if-slots-slot.false in
     record {
-      old = at-any c.args.slots.now _ 0 nobody_cell h ∙ ap (λ (i : ℕ). get_or c.args.slots.now i nobody_cell) e;
-      cells = ap (λ (i : ℕ). set c.args.slots.now i c.args.cell) e;
+      old = c.replace.ensures.value ∙ at-any c.args.slots.now _ 0 nobody_cell h ∙ ap (λ (i : ℕ). get_or c.args.slots.now i nobody_cell) e;
+      cells = ap (set c.args.slots.now c.from-slot.result) c.replace.ensures.after ∙ ap (λ (i : ℕ). set c.args.slots.now i c.args.cell) e;
     }

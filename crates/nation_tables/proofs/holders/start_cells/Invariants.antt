@@ -1,7 +1,7 @@
 -- The invariant: the cells of the slots passed stand in front, and those left are as they were.
 use mathlib.Core.List.{List, map}
-use Prim.Native.Nat.{ℕ, ◌-◌, ◌%◌, ◌≤◌}
-use lib.ListN.{length, drop}
+use Prim.Native.Nat.{ℕ, ◌%◌}
+use lib.ListN.{drop}
 use Rattle.lists.proofs.FillLaws.{Filling}
 use Rattle.nation_tables.specs.Layout.{half}
 use Rattle.nation_tables.specs.Holders.{row_cell}
@@ -11,8 +11,5 @@ use Rattle.nation_tables.proofs.holders.start_cells.Given as goal
 abbrev pub made : List ℕ → ℕ → ℕ
 made tags r = row_cell tags (r % half)
 
-abbrev pub invariant-loop-i : goal.invariant-loop-i
-invariant-loop-i l = (l.i ≤ length l.initial.slots) × Filling (map (made l.tags) l.initial.slots) (map (made l.tags) (drop l.i l.initial.slots)) l.initial.slots l.i l.slots
-
-abbrev pub decreases-loop-i : goal.decreases-loop-i
-decreases-loop-i l = length l.initial.slots - l.i
+abbrev pub invariant-loop-slot : goal.invariant-loop-slot
+invariant-loop-slot l = Filling (map (made l.tags) l.initial.slots) (map (made l.tags) (drop l.slot-index l.initial.slots)) l.initial.slots l.slot-index l.slots

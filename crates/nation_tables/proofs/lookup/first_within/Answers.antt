@@ -1,21 +1,20 @@
 -- The count of keys below `low` is the place of the first key that is not: if there is one below `high`, it is the first between.
-use mathlib.Core.Path.{◌∙◌}
-use borrow.Author.Rules.{rules}
-use Prim.Native.Nat.{◌*◌, ◌/◌}
+use Rattle.std.proofs.Common.{sym, ap, ◌∙◌, is_some, ltb-false}
 use Rattle.nation_tables.proofs.tables.LookupLaws.{no-first, first-too-high, first_found}
 use Rattle.nation_tables.proofs.lookup.first_within.Goals as goal
 
-pub returns-then-keys-i : goal.returns-then-keys-i
-returns-then-keys-i c =
-    no-first (c.args.low / 2 * 2) c.args.high c.args.keys.now c.requires _ (c.count_between-i.ensures.counted c.requires) (search rules)
-
-pub returns-then-high-key : goal.returns-then-high-key
-returns-then-high-key c =
-    first-too-high (c.args.low / 2 * 2) c.args.high c.args.keys.now c.requires _ (c.count_between-i.ensures.counted c.requires) (search rules)
-    (search rules)
-
-pub returns : goal.returns
-returns c =
+pub returns-in-Some : goal.returns-in-Some
+returns-in-Some c =
+    let found = c.in-Some.ensures.lookup.3 in
     c.row_in.ensures
-    ∙ first_found (c.args.low / 2 * 2) c.args.high c.args.keys.now c.requires _ (c.count_between-i.ensures.counted c.requires) (search rules)
-    (search rules)
+    ∙ first_found _ _ c.args.keys.now c.requires _ (c.count_between.ensures.counted c.requires) _ found.0 (found.1 0) c.if-key-high.true
+
+pub returns-in_default : goal.returns-in_default
+returns-in_default c =
+    let found = c.in-Some.ensures.lookup.3 in
+    first-too-high _ _ c.args.keys.now c.requires _ (c.count_between.ensures.counted c.requires) _ found.0 (found.1 0) c.if-key-high.false
+
+pub returns-in_default-2 : goal.returns-in_default-2
+returns-in_default-2 c =
+    no-first _ _ c.args.keys.now c.requires _ (c.count_between.ensures.counted c.requires)
+    (ltb-false _ _ (sym c.get.ensures.lookup.0 ∙ ap is_some c.in_default.is))

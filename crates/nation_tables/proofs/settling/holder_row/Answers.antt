@@ -11,5 +11,5 @@ use Rattle.nation_tables.proofs.settling.holder_row.Goals as goal
 pub returns : goal.returns
 returns c =
     let low : c.settling_key-low.result / 2 * 2 ≡ settling_key c.args.to.0 c.args.date.0 0 = omega (arith, c.settling_key-low.ensures) in
-    let high : (c.word-word.result + 1) * tag_span ≡ settling_key (c.args.to.0 + 1) 0 0 = omega (arith, c.word-word.ensures) in
+    let high : (c.from-word.result + 1) * tag_span ≡ settling_key (c.args.to.0 + 1) 0 0 = omega (arith, c.from-word.ensures) in
     row-holds _ _ _ _ _ _ low high c.first_within.ensures

@@ -1,11 +1,7 @@
 -- The invariant: the table keeps its length. What it holds is not said.
 use mathlib.Core.Path.{◌≡◌}
-use Prim.Native.Nat.{◌-◌}
 use lib.ListN.{length}
 use Rattle.nation_tables.proofs.settling.raise_starts.Given as goal
 
-abbrev pub invariant-loop-i : goal.invariant-loop-i
-invariant-loop-i l = length l.starts ≡ length l.initial.starts
-
-abbrev pub decreases-loop-i : goal.decreases-loop-i
-decreases-loop-i l = length l.initial.starts - l.i
+abbrev pub invariant-loop-start : goal.invariant-loop-start
+invariant-loop-start l = length l.starts ≡ length l.initial.starts

@@ -1,48 +1,35 @@
 use mathlib.Core.Path.{◌≡◌, refl, ◌∙◌}
 use mathlib.Core.List.{◌∷◌}
-use Prim.Native.Nat.{◌<◌}
 use native.Mathlib.Omega.{arith}
-use borrow.Author.Rules.{rules}
-use lib.ListN.{length, take, length-set}
-use Rattle.record.specs.Cursors.{province_of, provinces_left, province_told}
-use Rattle.format.proofs.CampaignLaws.{told-row, told-length, told-end}
+use lib.ListN.{length-set}
+use Rattle.record.specs.Cursors.{province_of, provinces_left}
 use Rattle.nation_tables.specs.Countries.{initial_row}
 use Rattle.nation_tables.proofs.slots.StartingLaws.{put_next, put-end, ids_next}
-use Rattle.nation_tables.proofs.starting.put_owners.Goals.{In-Row}
+use Rattle.nation_tables.proofs.starting.put_owners.Goals.{In-Some}
 use Rattle.nation_tables.proofs.starting.put_owners.Goals as goal
 
--- what was left is the province of the row, and what the next cursor has left
-told : (c : In-Row) → provinces_left c.args.s.now c.loop-province.left ≡ province_of c.args.s.now c.in-Row.province ∷ provinces_left c.args.s.now c.in-Row.rest
-told c = told-row (province_told _) c.next.ensures c.in-Row.is refl
+-- what was left is the province of the row, and what is left then
+told : (c : In-Some) → provinces_left c.loop-province.province-iterator ≡ province_of c.in-Some.province ∷ provinces_left c.next.new.self
+told c = c.in-Some.ensures.steps
 
 pub loop-province-init : goal.loop-province-init
-loop-province-init c = (refl, c.requires.1, refl)
-
-pub offset_bounds-rows-at : goal.offset_bounds-rows-at
-offset_bounds-rows-at c =
-    let here : c.word-at.result < length c.loop-province.rows = omega (arith, (ids_next _ _ _ _ (told (goal.at.offset_bounds-rows-at c).In-Row) c.loop-province.invariant.1).0, c.word-at.ensures, c.loop-province.invariant.0) in
-    let l = here in search rules
+loop-province-init c = rw c.into_iter-province-iterator.ensures.into_iter_gives (refl, c.requires.1, refl)
 
 pub bounds-rows-at : goal.bounds-rows-at
 bounds-rows-at c =
-    let here : c.word-at.result < length c.loop-province.rows = omega (arith, (ids_next _ _ _ _ (told (goal.at.bounds-rows-at c).In-Row) c.loop-province.invariant.1).0, c.word-at.ensures, c.loop-province.invariant.0) in
-    here
-
-pub loop-province-smaller : goal.loop-province-smaller
-loop-province-smaller c =
-    omega (arith, told-length (province_told _) c.next.ensures c.in-Row.is refl)
+    omega (arith, (ids_next _ _ _ _ (told (goal.at.bounds-rows-at c).In-Some) c.loop-province.invariant.1).0, c.from-at.ensures, c.loop-province.invariant.0)
 
 pub loop-province-preserved : goal.loop-province-preserved
 loop-province-preserved c =
-    let f = initial_row (take c.args.n c.args.keys.now) in (
+    let f = initial_row c.args.keys.now in
+    let more = told (goal.at.loop-province-preserved c).In-Some in (
       length-set c.loop-province.rows _ _ ∙ c.loop-province.invariant.0,
-      (ids_next _ _ _ _ (told (goal.at.loop-province-preserved c).In-Row) c.loop-province.invariant.1).1,
-      put_next f _ _ _ c.loop-province.rows _ _ (told (goal.at.loop-province-preserved c).In-Row) c.word-at.ensures c.mapped_row.ensures.key ∙ c.loop-province.invariant.2,
+      (ids_next _ _ _ _ more c.loop-province.invariant.1).1,
+      put_next f _ _ _ c.loop-province.rows _ _ more c.from-at.ensures (c.row_cell.ensures ∙ c.mapped_row.ensures.key) ∙ c.loop-province.invariant.2,
     )
 
-pub shape_of-rows-in-End : goal.shape_of-rows-in-End
-shape_of-rows-in-End c = c.loop-province.invariant.0
+pub shape_of-rows : goal.shape_of-rows
+shape_of-rows c = c.loop-province.invariant.0
 
-pub returns-in-End : goal.returns-in-End
-returns-in-End c =
-    put-end _ _ c.loop-province.rows (told-end (province_told _) c.next.ensures c.in-End.is refl) ∙ c.loop-province.invariant.2
+pub returns : goal.returns
+returns c = put-end _ _ c.loop-province.rows c.in-None.ensures.steps.0 ∙ c.loop-province.invariant.2

@@ -2,7 +2,7 @@
 use mathlib.Core.Path.{◌≡◌}
 use mathlib.Core.Bool.{true}
 use lib.Dec.{ltb}
-use lib.ListN.{length, take}
+use lib.ListN.{length}
 use Rattle.lists.specs.Lists.{all_of}
 use Rattle.record.specs.Cursors.{provinces_left}
 use Rattle.nation_tables.specs.Countries.{initial_row}
@@ -12,8 +12,5 @@ use Rattle.nation_tables.proofs.starting.put_owners.Given as goal
 abbrev pub invariant-loop-province : goal.invariant-loop-province
 invariant-loop-province l =
     (length l.rows ≡ length l.initial.rows)
-    × (all_of (λ p. ltb p.id.0 (length l.initial.rows)) (provinces_left l.s l.left) ≡ true)
-    × (put_owners (initial_row (take l.n l.keys)) (provinces_left l.s l.left) l.rows ≡ put_owners (initial_row (take l.n l.keys)) (provinces_left l.s l.initial.left) l.initial.rows)
-
-abbrev pub decreases-loop-province : goal.decreases-loop-province
-decreases-loop-province l = length (provinces_left l.s l.left)
+    × (all_of (λ p. ltb p.id.0 (length l.initial.rows)) (provinces_left l.province-iterator) ≡ true)
+    × (put_owners (initial_row l.keys) (provinces_left l.province-iterator) l.rows ≡ put_owners (initial_row l.keys) (provinces_left l.fn.provinces) l.initial.rows)

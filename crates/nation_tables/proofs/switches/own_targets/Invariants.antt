@@ -8,11 +8,11 @@ use Rattle.record.specs.Cursors.{switches_left, previous_left}
 use Rattle.nation_tables.specs.Switches.{chain_words}
 use Rattle.nation_tables.proofs.switches.own_targets.Given as goal
 
-abbrev pub invariant-loop-rest : goal.invariant-loop-rest
-invariant-loop-rest l =
-    let end = get_or (previous_left l.s l.initial.tags) (length (switches_left l.s l.initial.left)) l.tag in
-    Filling (take l.at l.initial.targets ++ chain_words end (switches_left l.s l.initial.left)) (chain_words end (switches_left l.s l.left)) l.initial.targets l.k l.targets
-    × (get_or (previous_left l.s l.tags) (length (switches_left l.s l.left)) l.tag ≡ end)
+abbrev pub invariant-loop-switches : goal.invariant-loop-switches
+invariant-loop-switches l =
+    let end = get_or (previous_left l.fn.previous) (length (switches_left l.fn.switches)) l.tag in
+    Filling (take l.at l.initial.targets ++ chain_words end (switches_left l.fn.switches)) (chain_words end (switches_left l.switches)) l.initial.targets l.k l.targets
+    × (get_or (previous_left l.previous) (length (switches_left l.switches)) l.tag ≡ end)
 
-abbrev pub decreases-loop-rest : goal.decreases-loop-rest
-decreases-loop-rest l = length (switches_left l.s l.left)
+abbrev pub decreases-loop-switches : goal.decreases-loop-switches
+decreases-loop-switches l = length (switches_left l.switches)

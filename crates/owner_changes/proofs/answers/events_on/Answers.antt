@@ -1,29 +1,35 @@
 -- The outcome by its case: a refused record, a bad date, or the counts.
-use mathlib.Core.Path.{◌∙◌}
+use mathlib.Core.Path.{sym, ap, ◌∙◌}
+use native.Mathlib.Omega.{arith}
+use lib.ListN.{length}
+use Rattle.std.proofs.lemmas.Result.{err_from_is_err_and}
 use Rattle.record.proofs.ToldLaws.{accepted-told, refused-told}
-use Rattle.format.proofs.DateLaws.{date-told, no-date-told}
+use Rattle.change_keys.specs.ChangeSteps.{AtFirstProvince}
+use Rattle.change_keys.proofs.ChangeLaws.{entered-few}
+use Rattle.change_keys.proofs.EnteringLaws.{ahead-entered}
 use Rattle.owner_changes.proofs.OutcomeLaws.{events-refused, events-bad, events-run}
+use Rattle.owner_changes.proofs.answers.events_on.Goals.{In_ok-record}
 use Rattle.owner_changes.proofs.answers.events_on.Goals as goal
+
+-- The record's provinces are those of an accepted record.
+ready : (c : In_ok-record) → AtFirstProvince c.args.s.now c.in_ok-record.record.provinces
+ready c = let told = accepted-told c.open_record.ensures c.in_ok-record.was in record { accepted = told.0; rows = told.1.provinces }
+
+pub returns-in_err-record : goal.returns-in_err-record
+returns-in_err-record c =
+    let told = refused-told c.open_record.ensures c.in_err-record.was in
+    let p = err_from_is_err_and c.from_residual.result c.from_residual.ensures.1 in
+    rw (p.1, p.2) (events-refused _ _ _ told.0 told.1)
+
+pub returns-then-not-good : goal.returns-then-not-good
+returns-then-not-good c =
+    events-bad _ _ (ready (goal.at.returns-then-not-good c).In_ok-record).accepted (sym c.good.ensures ∙ c.if-not-good.true)
 
 pub count_on-requires : goal.count_on-requires
 count_on-requires c =
-    let told = accepted-told c.open_record.ensures c.in-Accepted.is in
-    record { accepted = told.0; rows = told.1.provinces }
+    let first = ready (goal.at.count_on-requires c).In_ok-record in
+    omega (arith, ap length (ahead-entered _ c.in_ok-record.record.provinces first), entered-few _ first.accepted)
 
-pub returns-in-Date : goal.returns-in-Date
-returns-in-Date c =
-    let told = accepted-told c.open_record.ensures c.in-Accepted.is in
-    let day = date-told _ c.of_word.ensures c.in-Date.is in
-    let same = c.word.ensures in
-    rw (day.1, same) at c.count_on.ensures ∙ events-run _ _ told.0 (rw same at day.0)
-
-pub returns-in-NoDate : goal.returns-in-NoDate
-returns-in-NoDate c =
-    let told = accepted-told c.open_record.ensures c.in-Accepted.is in
-    let bad = no-date-told _ c.of_word.ensures c.in-NoDate.is in
-    events-bad _ _ told.0 (rw c.word.ensures at bad)
-
-pub returns-in-Refused : goal.returns-in-Refused
-returns-in-Refused c =
-    let told = refused-told c.open_record.ensures c.in-Refused.is in
-    events-refused _ _ _ told.0 told.1
+pub returns : goal.returns
+returns c =
+    events-run _ _ c.in_ok-record.record.provinces _ (ready (goal.at.returns c).In_ok-record) (sym c.good.ensures ∙ c.if-not-good.false) c.count_on.ensures

@@ -1,29 +1,18 @@
--- The number of histories is the same signed number: a slice has room for seven words of each.
-use mathlib.Core.Path.{sym, ap, ◌∙◌}
-use Prim.Native.Nat.{◌*◌, ◌≤◌}
+-- A slice that has room for seven words of each history has more words than histories.
 use native.Mathlib.Omega.{arith}
-use lib.ListN.{length}
-use mir.Syntax.{w64}
-use mir.Facts.{to_z_pos, to_z-of_z}
-use Rattle.histories.specs.Cases.{histories_answer, histories_outcome}
-use Rattle.page.proofs.PlayingLaws.{histories-given, histories-of}
-use Rattle.page.proofs.playing.player_histories.Goals.{After-struct_known-1}
+use mathlib.Core.Path.{◌≡◌}
+use borrow.Author.Rules.{rules}
+use Rattle.rules.specs.Lent.{outcome_of}
+use Rattle.host_answers.specs.Playing.{call_player_histories_given}
+use Rattle.histories.specs.Cases.{history_cells}
+use Rattle.page.proofs.HostLaws.{outcome-returned}
+use Rattle.page.proofs.PlayingLaws.{first-given}
 use Rattle.page.proofs.playing.player_histories.Goals as goal
 
--- The rows had room.
-few : (c : After-struct_known-1) → 7 * c.in-Rows.n.histories ≤ length c.args.histories.now
-few c = histories-given _ _ _ _ _ (sym (ap histories_answer c.in-Rows.is) ∙ ap (λ o. o.answer) c.player_histories.ensures)
-
-pub overflow_cast-result : goal.overflow_cast-result
-overflow_cast-result c =
-    omega (arith, few (goal.at.overflow_cast-result c).After-struct_known-1)
-
-pub returns-in-Rows : goal.returns-in-Rows
-returns-in-Rows c =
-    let told = sym (ap (λ r. histories_outcome r c.player_histories.new.histories c.player_histories.new.names) c.in-Rows.is) in
-    histories-of _ _ _ _ _ _ (told ∙ c.player_histories.ensures) (to_z_pos w64 (omega (arith, few (goal.at.returns-in-Rows c).After-struct_known-1)))
-
-pub returns-in-Refused : goal.returns-in-Refused
-returns-in-Refused c =
-    let told = sym (ap (λ r. histories_outcome r c.player_histories.new.histories c.player_histories.new.names) c.in-Refused.is) in
-    histories-of _ _ _ _ _ _ (told ∙ c.player_histories.ensures) (to_z-of_z {w = w64} (record { sfits = c.minus.type_inv }) ∙ c.minus.ensures)
+pub returns : goal.returns
+unfolding call_player_histories_given
+returns c =
+    let called = c.player_histories-answer in
+    let before = history_cells c.args.histories.now c.args.names.now in
+    let told : outcome_of (λ n. n) c.map.result (history_cells called.new.histories called.new.names) ≡ call_player_histories_given c.args.s.now c.args.nations.now c.args.entries.now before = search rules in
+    outcome-returned _ _ c.returned.type_inv c.returned.ensures _ _ told (λ n e. omega (arith, first-given _ _ _ _ n e))

@@ -1,51 +1,26 @@
-use mathlib.Core.Path.{◌≡◌, sym, ap, ◌∙◌}
-use mathlib.Core.List.{◌∷◌}
-use mathlib.Core.Option.{map}
-use Prim.Native.Nat.{◌+◌, ◌≤◌}
-use native.Mathlib.Omega.{arith}
-use lib.ListN.{length, drop}
+-- Bytes behind the last whole line are no tags; whole lines are, if each of them is one.
+use Rattle.std.proofs.Common.{◌≡◌, sym, ap, ◌∙◌, ℕ, ◌*◌, ◌/◌, length, map, Bool, cond, arith}
+use Rattle.std.proofs.Math.Option.{some, none}
+use Rattle.std.specs.List.{list_all}
+use Rattle.format.specs.Bytes.{tag_at}
 use Rattle.rules.specs.Page.{selection_of}
-use Rattle.page_lines.specs.Selecting.{tag_told}
-use Rattle.page_lines.proofs.SelectionLaws.{more_tags, tags-zero, tags-end, tags-more, tag-inside}
-use Rattle.page_lines.proofs.selection.read_selection.Goals.{In-Row}
+use Rattle.page_lines.specs.Selecting.{is_line}
+use Rattle.page_lines.proofs.SelectionLaws.{lines_read, torn_read}
+use Rattle.page_lines.proofs.selection.read_selection.Goals.{Else-rest-gt0}
 use Rattle.page_lines.proofs.selection.read_selection.Goals as goal
 
--- What the step told.
-told : (c : In-Row) → selection_of (drop c.loop-count.at c.args.selection.now) ≡ map (λ ts. c.in-Row.field-0 ∷ ts) (selection_of (drop (c.loop-count.at + 4) c.args.selection.now))
-told c = c.next_tag.ensures ∙ ap (tag_told c.args.selection.now c.loop-count.at) c.in-Row.is
+pub returns-then-rest-gt0 : goal.returns-then-rest-gt0
+returns-then-rest-gt0 c =
+    torn_read (length c.args.selection.now / 4) c.args.selection.now (omega arith) (omega arith)
 
--- The line that the loop stands at is whole.
-inside : (c : In-Row) → c.loop-count.at + 4 ≤ length c.args.selection.now
-inside c = tag-inside _ _ c.in-Row.field-0 (told c)
+told : (c : Else-rest-gt0) → selection_of c.args.selection.now
+    ≡ cond (list_all is_line c.as_chunks.result.0.now) (some (map (λ line. tag_at line 0) c.as_chunks.result.0.now)) none
+told c = rw c.as_chunks.ensures.front (lines_read (length c.args.selection.now / 4) c.args.selection.now (omega arith))
 
-pub loop-count-init : goal.loop-count-init
-loop-count-init c = (omega arith, omega arith, tags-zero (selection_of c.args.selection.now))
+pub returns-then-are_tag_lines : goal.returns-then-are_tag_lines
+returns-then-are_tag_lines c =
+    told (goal.at.returns-then-are_tag_lines c).Else-rest-gt0 ∙ simp (sym c.are_tag_lines.ensures ∙ c.if-are_tag_lines.true)
 
-pub overflow_add-count : goal.overflow_add-count
-overflow_add-count c =
-    omega (arith, inside (goal.at.overflow_add-count c).In-Row, c.loop-count.invariant.1)
-
-pub returns-in-End : goal.returns-in-End
-returns-in-End c =
-    let end = c.next_tag.ensures ∙ ap (tag_told c.args.selection.now c.loop-count.at) c.in-End.is in
-    sym (tags-end c.loop-count.count) ∙ sym (ap (more_tags c.loop-count.count) end) ∙ c.loop-count.invariant.2
-
-pub returns-in-NoTag : goal.returns-in-NoTag
-returns-in-NoTag c =
-    let end = c.next_tag.ensures ∙ ap (tag_told c.args.selection.now c.loop-count.at) c.in-NoTag.is in
-    sym (ap (more_tags c.loop-count.count) end) ∙ c.loop-count.invariant.2
-
-pub overflow_add-at : goal.overflow_add-at
-overflow_add-at c =
-    omega (arith, inside (goal.at.overflow_add-at c).In-Row)
-
-pub loop-count-smaller : goal.loop-count-smaller
-loop-count-smaller c =
-    omega (arith, inside (goal.at.loop-count-smaller c).In-Row)
-
-pub loop-count-preserved : goal.loop-count-preserved
-loop-count-preserved c = (
-  (inside (goal.at.loop-count-preserved c).In-Row),
-  omega (arith, c.loop-count.invariant.1),
-  tags-more c.loop-count.count c.in-Row.field-0 (selection_of (drop (c.loop-count.at + 4) c.args.selection.now)) ∙ sym (ap (more_tags c.loop-count.count) (told (goal.at.loop-count-preserved c).In-Row)) ∙ c.loop-count.invariant.2,
-)
+pub returns-else-are_tag_lines : goal.returns-else-are_tag_lines
+returns-else-are_tag_lines c =
+    told (goal.at.returns-else-are_tag_lines c).Else-rest-gt0 ∙ simp (sym c.are_tag_lines.ensures ∙ c.if-are_tag_lines.false)

@@ -1,12 +1,10 @@
--- Invariant: with the status so far, the entries from `at` on tell what all entries do.
+-- Invariant: with the status so far, the entries from `i` on tell what all entries do.
 use mathlib.Core.Path.{◌≡◌}
 use mathlib.Core.Bool.{true}
-use Prim.Native.Nat.{◌-◌}
+use Prim.Native.Nat.{◌+◌}
 use Rattle.page_text.proofs.StatusLaws.{lives_from}
 use Rattle.page_text.proofs.status.is_living.Given as goal
 
-abbrev pub invariant-loop-at : goal.invariant-loop-at
-invariant-loop-at l = lives_from l.entries l.living l.at l.end ≡ lives_from l.entries true l.initial.at l.end
-
-abbrev pub decreases-loop-at : goal.decreases-loop-at
-decreases-loop-at l = l.end - l.at
+abbrev pub invariant-loop-i : goal.invariant-loop-i
+invariant-loop-i l =
+    lives_from l.entries l.living l.i (l.fn.nation.first + l.fn.nation.count) ≡ lives_from l.entries true l.fn.nation.first (l.fn.nation.first + l.fn.nation.count)

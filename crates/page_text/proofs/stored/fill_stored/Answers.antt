@@ -28,18 +28,10 @@ pub bounds-keys-i : goal.bounds-keys-i
 bounds-keys-i c =
     filling-room _ _ _ _ _ c.loop-i.invariant _ _ (keys-next _ _ _ (inside (goal.at.bounds-keys-i c).After-tag_key))
 
-pub overflow_add-i : goal.overflow_add-i
-overflow_add-i c =
-    omega (arith, few (goal.at.overflow_add-i c).After-tag_key)
-
-pub loop-i-smaller : goal.loop-i-smaller
-loop-i-smaller c =
-    let h = (inside (goal.at.loop-i-smaller c).After-tag_key) in omega (arith, h)
-
 pub loop-i-preserved : goal.loop-i-preserved
 loop-i-preserved c =
     filling-put _ _ _ _ _ c.loop-i.invariant _ _ (keys-next _ _ _ (inside (goal.at.loop-i-preserved c).After-tag_key)) _
-    (stored-key _ _ _ _ (omega (arith, few (goal.at.loop-i-preserved c).After-tag_key)) c.tag_key.ensures (ap (λ r. r.stored) c.nation_at-row.ensures))
+    (stored-key _ _ _ _ (omega (arith, few (goal.at.loop-i-preserved c).After-tag_key)) c.tag_key.ensures (ap (λ r. r.stored) c.nation_at.ensures))
 
 pub returns : goal.returns
 returns c =

@@ -7,6 +7,3 @@ use Rattle.page_text.proofs.stored.fill_stored.Given as goal
 
 abbrev pub invariant-loop-i : goal.invariant-loop-i
 invariant-loop-i l = Filling (tag_keys_from 0 (stored_tags l.nations 0 l.n)) (tag_keys_from l.i (stored_tags l.nations l.i (l.n - l.i))) l.initial.keys l.i l.keys
-
-abbrev pub decreases-loop-i : goal.decreases-loop-i
-decreases-loop-i l = l.n - l.i

@@ -15,10 +15,6 @@ pub bounds-cells-i : goal.bounds-cells-i
 bounds-cells-i c =
     filling-room _ _ _ _ _ c.loop-i.invariant _ _ (numbered_next _ _ _ c.loop-i-test.true)
 
-pub overflow_add-i : goal.overflow_add-i
-overflow_add-i c =
-    omega (arith, c.loop-i-test.true, c.nation_count-n.ensures, c.requires, c.well_formed.1.1.0.0)
-
 pub loop-i-preserved : goal.loop-i-preserved
 loop-i-preserved c =
     filling-put _ _ _ _ _ c.loop-i.invariant _ _ (numbered_next _ _ _ c.loop-i-test.true) _

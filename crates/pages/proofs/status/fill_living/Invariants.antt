@@ -6,6 +6,3 @@ use Rattle.pages.proofs.status.fill_living.Given as goal
 
 abbrev pub invariant-loop-i : goal.invariant-loop-i
 invariant-loop-i l = Filling (living_cells l.nations l.entries 0 l.n) (living_cells l.nations l.entries l.i (l.n - l.i)) l.initial.cells l.i l.cells
-
-abbrev pub decreases-loop-i : goal.decreases-loop-i
-decreases-loop-i l = l.n - l.i

@@ -1,44 +1,38 @@
-use mathlib.Core.Path.{◌≡◌, refl, ap, ◌∙◌}
-use mathlib.Core.List.{◌∷◌}
-use Prim.Native.Nat.{◌+◌, ◌≤◌}
-use native.Mathlib.Omega.{arith}
-use lib.ListN.{length, length-take, length-drop}
-use Rattle.format.proofs.CampaignLaws.{told-row, told-end}
+use Rattle.std.proofs.Common.{◌+◌, ◌≤◌, length, ap, ◌∙◌, arith, length-take, length-drop}
 use Rattle.lists.proofs.FillLaws.{filling-written}
 use Rattle.lists.proofs.WriteLaws.{behind, writing-none, writing_more}
 use Rattle.rules.specs.Players.{player_words, player_rows}
-use Rattle.players.specs.PlayerSteps.{player_in, players_left, player_told}
-use Rattle.players.proofs.PlayerLaws.{length-player_rows, rows_next, rows_none, filling-full}
-use Rattle.players.proofs.player_rows.write_players.Goals.{In-Row}
+use Rattle.players.specs.PlayerSteps.{player_in, players_left}
+use Rattle.players.proofs.PlayerLaws.{length-player_rows, rows_next, rows_none}
+use Rattle.players.proofs.player_rows.write_players.Goals.{In-Some}
 use Rattle.players.proofs.player_rows.write_players.Goals as goal
 
--- The player that was told is the first of those left.
-more : (c : In-Row) → players_left c.args.s.now c.args.multiplayer c.loop-k.at ≡ player_in c.in-Row.player ∷ players_left c.args.s.now c.args.multiplayer c.in-Row.rest
-more c = told-row (player_told _ _) c.next_player.ensures c.in-Row.is refl
+-- The row of the next player finds room.
+room : (c : In-Some) → c.loop-player.at + 2 ≤ length c.loop-player.out
+room c =
+    omega (
+      arith,
+      c.loop-player.invariant.fits,
+      c.loop-player.invariant.long,
+      length-player_rows (players_left c.loop-player.player-iterator),
+      ap length c.in-Some.ensures.steps,
+    )
 
--- Its row finds room.
-room : (c : In-Row) → c.loop-k.k + 2 ≤ length c.loop-k.out
-room c = omega (arith, c.loop-k.invariant.fits, c.loop-k.invariant.long, length-player_rows (players_left c.args.s.now c.args.multiplayer c.loop-k.at), ap length (more c))
-
-pub loop-k-init : goal.loop-k-init
-loop-k-init c =
-    writing-none _ _ (omega (arith, length-player_rows (players_left c.args.s.now c.args.multiplayer c.args.start), c.requires))
+pub loop-player-init : goal.loop-player-init
+loop-player-init c =
+    rw c.into_iter-player-iterator.ensures.into_iter_gives
+    (writing-none _ _ (omega (arith, length-player_rows (players_left c.args.players), c.requires)))
 
 pub put_player-requires : goal.put_player-requires
 put_player-requires c =
-    simp (length-take, length-drop) (omega (arith, room (goal.at.put_player-requires c).In-Row))
+    simp (length-take, length-drop) (omega (arith, room (goal.at.put_player-requires c).In-Some))
 
-pub returns-in-End : goal.returns-in-End
-returns-in-End c =
-    let end = told-end (player_told _ _) c.next_player.ensures c.in-End.is refl in
-    filling-written _ _ _ _ _ c.loop-k.invariant (ap player_rows end ∙ rows_none)
-
-pub loop-k-preserved : goal.loop-k-preserved
-loop-k-preserved c =
-    let row = player_words (player_in c.in-Row.player) in
-    let wrote = behind c.loop-k.out row c.put_player.new.out c.loop-k.k (room (goal.at.loop-k-preserved c).In-Row) c.put_player.ensures in
-    writing_more _ _ _ _ row c.loop-k.out _ c.loop-k.k (ap player_rows (more (goal.at.loop-k-preserved c).In-Row) ∙ rows_next _ _) c.loop-k.invariant wrote
+pub loop-player-preserved : goal.loop-player-preserved
+loop-player-preserved c =
+    let row = player_words (player_in c.in-Some.player) in
+    let wrote = behind c.loop-player.out row c.put_player.new.out c.loop-player.at (room (goal.at.loop-player-preserved c).In-Some) c.put_player.ensures in
+    writing_more _ _ _ _ row c.loop-player.out _ c.loop-player.at (ap player_rows c.in-Some.ensures.steps ∙ rows_next _ _) c.loop-player.invariant wrote
 
 pub returns : goal.returns
 returns c =
-    filling-written _ _ _ _ _ c.loop-k.invariant (filling-full _ _ _ _ _ c.loop-k.invariant (omega (arith, c.loop-k-test.false)))
+    filling-written _ _ _ _ _ c.loop-player.invariant (ap player_rows c.in-None.ensures.steps.0 ∙ rows_none)

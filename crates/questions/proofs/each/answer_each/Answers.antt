@@ -12,8 +12,8 @@ loop-i-init c = (search rules, passing-start _ _)
 pub loop-i-preserved : goal.loop-i-preserved
 loop-i-preserved c = (
   search rules,
-  passing-put _ _ _ _ c.loop-i.invariant.1 _ _ _ c.put_words.ensures (omega (arith, c.requires, c.question_count-n.ensures, c.loop-i-test.true))
-      (claim-row c.args.nations.now c.args.entries.now c.args.questions.now c.loop-i.i _ _ _ c.answer_row.ensures c.best_claim.ensures c.question_at-q.ensures),
+  passing-put _ _ _ _ c.loop-i.invariant.1 _ _ (search rules) c.put_row.ensures (omega (arith, c.requires, c.question_count-i-end.ensures, c.loop-i-test.true))
+      (claim-row c.args.nations.now c.args.entries.now c.args.questions.now c.loop-i.i _ _ _ c.answer_row.ensures c.best_claim-best.ensures c.question_at-question.ensures),
 )
 
 pub shape_of-out : goal.shape_of-out

@@ -1,4 +1,6 @@
+use Prim.Native.Nat.{◌/◌}
 use borrow.Author.Rules.{rules}
+use lib.ListN.{length}
 use Rattle.questions.specs.Passes.{finished_row}
 use Rattle.questions.proofs.PassLaws.{passing-start, passing-put, passing-done, second-still, finished-row}
 use Rattle.questions.proofs.each.finish_rows.Goals as goal
@@ -9,7 +11,7 @@ loop-i-init c = (search rules, passing-start _ _)
 pub loop-i-preserved : goal.loop-i-preserved
 loop-i-preserved c = (
   search rules,
-  passing-put _ _ _ _ c.loop-i.invariant.1 _ _ _ c.put_words.ensures (search rules)
+  passing-put _ _ _ _ c.loop-i.invariant.1 _ _ (search rules) c.put_row.ensures (search rules)
       (finished-row c.args.nations.now c.args.out.now c.loop-i.i _ _ c.finished_row.ensures (second-still _ _ _ _ c.loop-i.invariant.1)),
 )
 
@@ -18,4 +20,4 @@ shape_of-out c = c.loop-i.invariant.1.long
 
 pub returns : goal.returns
 returns c =
-    passing-done (finished_row c.args.nations.now c.args.out.now) c.args.out.now c.loop-i.i c.args.n _ c.loop-i.invariant.1 (search rules) (search rules)
+    passing-done (finished_row c.args.nations.now c.args.out.now) c.args.out.now c.loop-i.i (length c.args.out.now / 2) _ c.loop-i.invariant.1 (search rules) (search rules)

@@ -1,63 +1,53 @@
-use mathlib.Core.Path.{◌≡◌, refl, sym, ap, ap₂, ◌∙◌}
+use mathlib.Core.Path.{◌≡◌, refl, sym, ap, ◌∙◌}
 use mathlib.Core.Bool.{true, false, ◌||◌}
-use Prim.Native.Nat.{ℕ, ◌+◌, ◌-◌, ◌<◌, ◌≤◌}
+use mathlib.Core.List.{List, [], map}
+use Prim.Native.Nat.{ℕ, ◌+◌, ◌<◌}
 use native.Mathlib.Omega.{arith}
-use borrow.Author.Tests.{lt-ltb, le-ltb}
+use borrow.Author.Tests.{le-ltb}
 use lib.Dec.{ltb}
-use lib.ListN.{length, set, replicate, length-set}
+use lib.ListN.{length, get_or, set, drop, replicate, length-set}
+use Rattle.std.proofs.lemmas.List.{at_drop_all}
 use Rattle.lists.specs.Lists.{any_of}
-use Rattle.lists.proofs.BoolLaws.{or-true}
 use Rattle.lists.proofs.TableLaws.{blank}
-use Rattle.format.specs.Bytes.{id_at}
-use Rattle.format.specs.Rows.{rows_at}
-use Rattle.format.proofs.RowLaws.{rows_none}
-use Rattle.record_check.proofs.RepeatLaws.{repeats, repeats-start, repeats-nil, id_seen, rows-hit, id-marked, rows_above, rows-not-above}
-use borrow.Author.Rules.{rules}
+use Rattle.format.specs.Rows.{province_at}
+use Rattle.record_check.proofs.RepeatLaws.{repeats-start, id_seen, ids_bad, ids-nil, id-hit, id-marked, row-ahead}
 use Rattle.record_check.proofs.repeats.id_twice_or_above.Goals as goal
 
-pub loop-left-init : goal.loop-left-init
-loop-left-init c =
-    let rows = rows_at (λ (x : ℕ). (id_at c.args.s.now x).0) 7 c.args.s.now c.args.at c.args.n in
-    (search rules, refl, ap (λ r. r || any_of (ltb c.args.n) rows) (repeats-start (id_seen (replicate 8192 false)) (λ y. blank false 8192 y) rows))
+abbrev word : List ℕ → ℕ
+word row = (province_at row 0).id.0
 
-pub returns-then-n-id : goal.returns-then-n-id
-unfolding id_at
-returns-then-n-id c =
-    let rows = rows_at (λ (x : ℕ). (id_at c.args.s.now x).0) 7 c.args.s.now c.loop-left.a c.loop-left.left in
-    let above = sym (ap (ltb c.args.n) c.u16_at-id.ensures.same) ∙ lt-ltb _ _ c.if-n-id.true in
-    sym (ap (λ x. repeats (id_seen c.loop-left.seen) rows || x) (rows_above (λ (x : ℕ). (id_at c.args.s.now x).0) 7 c.args.s.now c.loop-left.a c.loop-left.left c.loop-left-test.true (omega arith) c.args.n above)
-    ∙ or-true (repeats (id_seen c.loop-left.seen) rows))
-    ∙ c.loop-left.invariant.2
+pub loop-row-init : goal.loop-row-init
+loop-row-init c =
+    let ids = map word c.args.rows.now in
+    record { size = refl; same = ap (λ b. b || any_of (ltb (length c.args.rows.now)) ids) (repeats-start (id_seen (replicate 8192 false)) (λ y. blank false 8192 y) ids) }
 
 pub returns-then-seen-id : goal.returns-then-seen-id
-unfolding id_at
 returns-then-seen-id c =
-    let rows = rows_at (λ (x : ℕ). (id_at c.args.s.now x).0) 7 c.args.s.now c.loop-left.a c.loop-left.left in
-    let hit = ap (id_seen c.loop-left.seen) (sym c.u16_at-id.ensures.same) ∙ c.if-seen-id.true in
-    sym (ap (λ x. x || any_of (ltb c.args.n) rows) (rows-hit (λ (x : ℕ). (id_at c.args.s.now x).0) 7 c.args.s.now c.loop-left.a c.loop-left.left c.loop-left-test.true (omega arith) (id_seen c.loop-left.seen) hit))
-    ∙ c.loop-left.invariant.2
+    let l = c.loop-row in
+    let id = c.from-id.ensures ∙ ap (λ p. p.id.0) c.unpack.ensures in
+    let hit = ap (id_seen l.seen) (sym id) ∙ c.if-seen-id.true in
+    sym (row-ahead word c.args.rows.now l.row-index [] (omega arith) (ids_bad (length c.args.rows.now) l.seen) ∙ id-hit (length c.args.rows.now) l.seen _ _ hit)
+    ∙ l.invariant.same
 
-pub loop-left-preserved : goal.loop-left-preserved
-unfolding id_at
-loop-left-preserved c =
-    let some = c.loop-left-test.true in
-    let inside : c.loop-left.a + 7 ≤ length c.args.s.now = omega arith in
-    let id = c.u16_at-id.ensures.same in
-    let above = sym (ap (ltb c.args.n) id) ∙ le-ltb _ _ c.if-n-id.false in
-    let miss = ap (id_seen c.loop-left.seen) (sym id) ∙ c.if-seen-id.false in
-    let small : (id_at c.args.s.now c.loop-left.a).0 < length c.loop-left.seen = omega (arith, id) in
-    let rest = rows_at (λ (x : ℕ). (id_at c.args.s.now x).0) 7 c.args.s.now (c.loop-left.a + 7) (c.loop-left.left - 1) in (
-      omega arith,
-      simp length-set c.loop-left.invariant.1,
-      ap (λ (k : ℕ). repeats (id_seen (set c.loop-left.seen k true)) rest || any_of (ltb c.args.n) rest) id
-          ∙ ap₂ ◌||◌ (sym (id-marked (λ (x : ℕ). (id_at c.args.s.now x).0) 7 c.args.s.now c.loop-left.a c.loop-left.left some inside c.loop-left.seen small miss))
-          (sym (rows-not-above (λ (x : ℕ). (id_at c.args.s.now x).0) 7 c.args.s.now c.loop-left.a c.loop-left.left some inside c.args.n above))
-          ∙ c.loop-left.invariant.2,
-    )
+pub loop-row-preserved : goal.loop-row-preserved
+loop-row-preserved c =
+    let l = c.loop-row in
+    let n = length c.args.rows.now in
+    let id : c.from-id.result ≡ word (get_or c.args.rows.now l.row-index []) = c.from-id.ensures ∙ ap (λ p. p.id.0) c.unpack.ensures in
+    let miss = ap (id_seen l.seen) (sym id) ∙ c.if-seen-id.false in
+    let low = ap (ltb n) (sym id) ∙ le-ltb n c.from-id.result c.if-above.false in
+    let small : word (get_or c.args.rows.now l.row-index []) < length l.seen = omega (arith, id, l.invariant.size, c.requires) in
+    record {
+      size = simp length-set l.invariant.size;
+      same =
+          ap (λ k. ids_bad n (set l.seen k true) (map word (drop (l.row-index + 1) c.args.rows.now))) id
+          ∙ sym (id-marked n l.seen _ _ low small miss)
+          ∙ sym (row-ahead word c.args.rows.now l.row-index [] (omega arith) (ids_bad n l.seen))
+          ∙ l.invariant.same;
+    }
 
 pub returns : goal.returns
 returns c =
-    let none : c.loop-left.left ≡ 0 = omega arith in
-    let nothing = rows_none (λ (x : ℕ). (id_at c.args.s.now x).0) 7 c.args.s.now c.loop-left.a in
-    let end = ap₂ ◌||◌ (ap (repeats (id_seen c.loop-left.seen)) nothing ∙ repeats-nil (id_seen c.loop-left.seen)) (ap (any_of (ltb c.args.n)) nothing) in
-    sym end ∙ (rw none at c.loop-left.invariant.2)
+    let l = c.loop-row in
+    sym (at_drop_all (λ r. ids_bad (length c.args.rows.now) l.seen (map word r)) c.args.rows.now l.row-index (omega arith) ∙ ids-nil (length c.args.rows.now) l.seen)
+    ∙ l.invariant.same

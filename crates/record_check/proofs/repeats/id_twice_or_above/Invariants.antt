@@ -1,21 +1,19 @@
--- One of the ids that are left is marked, stands twice or is above n exactly where one of all stands twice or is above n.
+-- An id stands twice or is above the number of rows, or one that is left was seen before or is above it.
 use mathlib.Core.Path.{◌≡◌}
 use mathlib.Core.Bool.{◌||◌}
-use Prim.Native.Nat.{ℕ, ◌+◌, ◌*◌, ◌≤◌}
+use mathlib.Core.List.{map}
 use lib.Dec.{ltb}
-use lib.ListN.{length}
+use lib.ListN.{length, drop}
 use Rattle.lists.specs.Lists.{any_of, twice}
-use Rattle.format.specs.Bytes.{id_at}
-use Rattle.format.specs.Rows.{rows_at}
-use Rattle.record_check.proofs.RepeatLaws.{repeats, id_seen}
+use Rattle.format.specs.Rows.{province_at}
+use Rattle.record_check.proofs.RepeatLaws.{ids_bad}
 use Rattle.record_check.proofs.repeats.id_twice_or_above.Given as goal
 
-abbrev pub invariant-loop-left : goal.invariant-loop-left
-invariant-loop-left l =
-    (l.a + 7 * l.left ≤ length l.s)
-    × (length l.seen ≡ 8192)
-    × (repeats (id_seen l.seen) (rows_at (λ (x : ℕ). (id_at l.s x).0) 7 l.s l.a l.left) || any_of (ltb l.n) (rows_at (λ (x : ℕ). (id_at l.s x).0) 7 l.s l.a l.left)
-    ≡ twice (rows_at (λ (x : ℕ). (id_at l.s x).0) 7 l.s l.at l.n) || any_of (ltb l.n) (rows_at (λ (x : ℕ). (id_at l.s x).0) 7 l.s l.at l.n))
-
-abbrev pub decreases-loop-left : goal.decreases-loop-left
-decreases-loop-left l = l.left
+abbrev pub invariant-loop-row : goal.invariant-loop-row
+invariant-loop-row l =
+    record {
+      size : length l.seen ≡ 8192;
+      same :
+          ids_bad (length l.rows) l.seen (map (λ row. (province_at row 0).id.0) (drop l.row-index l.rows))
+          ≡ twice (map (λ row. (province_at row 0).id.0) l.rows) || any_of (ltb (length l.rows)) (map (λ row. (province_at row 0).id.0) l.rows);
+    }

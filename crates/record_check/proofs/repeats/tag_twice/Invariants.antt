@@ -1,20 +1,15 @@
--- The tags that are left are good, and one of them is marked or stands twice exactly where one of all stands twice.
+-- A tag stands twice, or one that is left was seen before.
 use mathlib.Core.Path.{◌≡◌}
-use mathlib.Core.Bool.{true}
-use Prim.Native.Nat.{ℕ, ◌+◌, ◌*◌, ◌≤◌}
-use lib.ListN.{length}
-use Rattle.lists.specs.Lists.{all_of, twice}
-use Rattle.format.specs.Bytes.{tag_at}
-use Rattle.format.specs.Rows.{rows_at}
-use Rattle.record_check.proofs.RepeatLaws.{repeats, tag_word, tag_seen}
+use mathlib.Core.List.{map}
+use lib.ListN.{length, drop}
+use Rattle.lists.specs.Lists.{twice}
+use Rattle.format.specs.Rows.{country_at}
+use Rattle.record_check.proofs.RepeatLaws.{repeats, tag_seen}
 use Rattle.record_check.proofs.repeats.tag_twice.Given as goal
 
-abbrev pub invariant-loop-left : goal.invariant-loop-left
-invariant-loop-left l =
-    (l.a + 12 * l.left ≤ length l.s)
-    × (length l.seen ≡ 6859)
-    × (all_of tag_word (rows_at (λ (x : ℕ). (tag_at l.s x).0) 12 l.s l.a l.left) ≡ true)
-    × (repeats (tag_seen l.seen) (rows_at (λ (x : ℕ). (tag_at l.s x).0) 12 l.s l.a l.left) ≡ twice (rows_at (λ (x : ℕ). (tag_at l.s x).0) 12 l.s l.at l.n))
-
-abbrev pub decreases-loop-left : goal.decreases-loop-left
-decreases-loop-left l = l.left
+abbrev pub invariant-loop-row : goal.invariant-loop-row
+invariant-loop-row l =
+    record {
+      size : length l.seen ≡ 6859;
+      same : repeats (tag_seen l.seen) (map (λ row. (country_at row 0).tag.0) (drop l.row-index l.rows)) ≡ twice (map (λ row. (country_at row 0).tag.0) l.rows);
+    }

@@ -1,28 +1,25 @@
-use mathlib.Core.Path.{◌≡◌}
+use mathlib.Core.Path.{ap, ◌∙◌}
+use native.Mathlib.Nat.{zero-add}
 use native.Mathlib.Omega.{arith}
-use Prim.Native.Nat.{ℕ, ◌+◌}
-use Rattle.format.proofs.SizeLaws.{sum-rows-none, sum-rows-more}
-use Rattle.format.proofs.RowLaws.{one-row}
-use Rattle.format.specs.Bytes.{le16}
+use Rattle.record_check.proofs.TotalLaws.{sum-more, sum-all}
 use Rattle.record_check.proofs.sizes.total.Goals as goal
 
-pub overflow_add-a : goal.overflow_add-a
-overflow_add-a c = omega (arith, one-row c.args.width c.loop-left.left c.loop-left-test.true)
+pub overflow_add-sum : goal.overflow_add-sum
+overflow_add-sum g c = omega (arith, c.loop-row.invariant.small, c.requires.few)
 
-pub u16_at-requires : goal.u16_at-requires
-u16_at-requires c =
-    omega (arith, one-row c.args.width c.loop-left.left c.loop-left-test.true)
+pub loop-row-init : goal.loop-row-init
+loop-row-init g c = record { small = omega arith; same = λ number f. zero-add _ }
 
-pub overflow_add-a-in-loop-left : goal.overflow_add-a-in-loop-left
-overflow_add-a-in-loop-left c = omega (arith, one-row c.args.width c.loop-left.left c.loop-left-test.true)
-
-pub loop-left-preserved : goal.loop-left-preserved
-loop-left-preserved c =
-    let more = sum-rows-more (λ (x : ℕ). le16 c.args.s.now (x + c.args.k)) c.args.width c.args.s.now c.loop-left.a c.loop-left.left c.loop-left-test.true (omega (arith, one-row c.args.width c.loop-left.left c.loop-left-test.true)) in
-    (omega (arith, one-row c.args.width c.loop-left.left c.loop-left-test.true), omega arith, omega (arith, more, c.loop-left.invariant.2, c.u16_at.ensures.same))
+pub loop-row-preserved : goal.loop-row-preserved
+loop-row-preserved g c =
+    let l = c.loop-row in
+    record {
+      small = omega (arith, l.invariant.small);
+      same =
+          λ number f. sum-more number g.R.Packed.unpacked c.args.rows.now l.row-index c.row-item.result (omega arith) c.row-item.is l.sum c.count.result
+          (f c.unpack.result c.count.result c.count.ensures ∙ ap number c.unpack.ensures) (l.invariant.same number f);
+    }
 
 pub returns : goal.returns
-returns c =
-    let none : c.loop-left.left ≡ 0 = omega arith in
-    let end = sum-rows-none (λ (x : ℕ). le16 c.args.s.now (x + c.args.k)) c.args.width c.args.s.now c.loop-left.a in
-    omega (arith, end, rw none at c.loop-left.invariant.2)
+returns g c =
+    λ number f. sum-all number g.R.Packed.unpacked c.args.rows.now c.loop-row.row-index (omega arith) c.loop-row.sum (c.loop-row.invariant.same number f)

@@ -1,17 +1,15 @@
--- Invariant: the sum so far and the sum of the counts left make the whole sum; each count is below 65,536, so that it fits.
+-- The sum so far with the counts that are left is the sum of all; no count has more than 32 bits.
 use mathlib.Core.Path.{◌≡◌}
 use Prim.Native.Nat.{ℕ, ◌+◌, ◌*◌, ◌≤◌}
-use lib.ListN.{length}
-use Rattle.lists.specs.Lists.{sum_of}
-use Rattle.format.specs.Rows.{rows_at}
-use Rattle.format.specs.Bytes.{le16}
+use lib.ListN.{drop}
+use Rattle.record_check.proofs.TotalLaws.{left}
 use Rattle.record_check.proofs.sizes.total.Given as goal
 
-abbrev pub invariant-loop-left : goal.invariant-loop-left
-invariant-loop-left l =
-    (l.a + l.width * l.left ≤ length l.s)
-    × (l.sum + 65536 * l.left ≤ 65536 * l.n)
-    × (l.sum + sum_of (λ (x : ℕ). x) (rows_at (λ (x : ℕ). le16 l.s (x + l.k)) l.width l.s l.a l.left) ≡ sum_of (λ (x : ℕ). x) (rows_at (λ (x : ℕ). le16 l.s (x + l.k)) l.width l.s l.at l.n))
-
-abbrev pub decreases-loop-left : goal.decreases-loop-left
-decreases-loop-left l = l.left
+abbrev pub invariant-loop-row : goal.invariant-loop-row
+invariant-loop-row g l =
+    record {
+      small : l.sum ≤ l.row-index * 4294967295;
+      same :
+          (number : g.row.R.Denot → ℕ) → ((row : g.row.R.Denot) (n : ℕ) → goal.F-post g l.count row n → n ≡ number row)
+          → l.sum + left number g.R.Packed.unpacked (drop l.row-index l.rows) ≡ left number g.R.Packed.unpacked l.rows;
+    }

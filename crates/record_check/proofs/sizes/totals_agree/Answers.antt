@@ -1,12 +1,12 @@
--- Five totals, each told of the head's own section.
-use Rattle.format.proofs.SizeLaws.{totals-told}
+use Rattle.std.proofs.Common.{rules}
+use Rattle.record_check.proofs.TotalLaws.{totals-told}
 use Rattle.record_check.proofs.sizes.totals_agree.Goals as goal
 
 pub returns : goal.returns
 returns c =
-    totals-told c.args.s.now c.args.h _ _ _ _ _ c.requires.head
-    c.previous_total.ensures
-    c.switches_total.ensures
-    c.events_total.ensures
-    c.war_events_total.ensures
-    c.points_total.ensures
+    λ xs e s. totals-told xs c.args.head c.args.sections c.total.result c.total-2.result c.total-3.result c.total-4.result c.total-5.result e s
+    (c.total.ensures (λ r. r.previous) (λ row n p. search rules))
+    (c.total-2.ensures (λ r. r.switches) (λ row n p. search rules))
+    (c.total-3.ensures (λ r. r.events) (λ row n p. search rules))
+    (c.total-4.ensures (λ n. n) (λ row n p. search rules))
+    (c.total-5.ensures (λ r. r.points) (λ row n p. search rules))

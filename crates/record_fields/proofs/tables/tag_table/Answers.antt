@@ -1,21 +1,45 @@
-use mathlib.Core.Path.{refl}
+use mathlib.Core.Path.{◌≡◌, refl, sym, ◌∙◌}
 use mathlib.Core.Bool.{false}
+use Prim.Native.Nat.{ℕ, ◌≤◌}
+use native.Mathlib.Decide.{dec_lt}
 use native.Mathlib.Omega.{arith}
-use borrow.Author.Rules.{rules}
-use lib.ListN.{length-set}
+use borrow.Author.Tests.{le-leb, lt-leb, ne_eqb}
+use lib.ListN.{get_or, length-set, get_or-eq_default}
 use Rattle.lists.proofs.TableLaws.{entry_set}
 use Rattle.format.specs.Tags.{tag_byte}
 use Rattle.record_fields.proofs.tables.tag_table.Goals as goal
 
+-- A number that is no byte is no tag's byte.
+past : (b : ℕ) → 256 ≤ b → tag_byte b ≡ false
+unfolding tag_byte
+past b h =
+    simp (
+      le-leb 48 b (omega arith),
+      lt-leb b 57 (omega arith),
+      le-leb 65 b (omega arith),
+      lt-leb b 90 (omega arith),
+      le-leb 97 b (omega arith),
+      lt-leb b 122 (omega arith),
+      ne_eqb b 45 (λ e. omega arith),
+    )
+
 pub loop-b-init : goal.loop-b-init
-loop-b-init c = (search rules, refl, λ k h. absurd (omega arith))
+loop-b-init c = record { size = refl; below = λ k h. absurd (omega arith) }
 
 pub loop-b-preserved : goal.loop-b-preserved
-loop-b-preserved c = (
-  search rules,
-  simp length-set c.loop-b.invariant.1,
-  λ k h. entry_set tag_byte false c.loop-b.table c.loop-b.b k _ (omega arith) c.tag_byte.ensures (λ e. c.loop-b.invariant.2 k (omega arith)),
-)
+loop-b-preserved c =
+    record {
+      size = simp length-set c.loop-b.invariant.size;
+      below = λ k h. entry_set tag_byte false c.loop-b.cell-items c.loop-b.b k _ (omega arith) c.tag_byte.ensures (λ e. c.loop-b.invariant.below k (omega arith));
+    }
 
 pub returns : goal.returns
-returns c = record { rule = λ b h. c.loop-b.invariant.2 b (omega arith) }
+returns c =
+    let l = c.loop-b in
+    record {
+      rule =
+          λ b. elim (dec_lt b 256) as (λ _. get_or l.cell-items b false ≡ tag_byte b) [
+            | yes p ↦ l.invariant.below b (omega arith)
+            | no p ↦ get_or-eq_default l.cell-items false (omega (arith, l.invariant.size)) ∙ sym (past b (omega arith))
+          ];
+    }

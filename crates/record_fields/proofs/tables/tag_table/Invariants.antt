@@ -1,13 +1,11 @@
 -- The entries below `b` hold the rule, each by the one test of a byte.
 use mathlib.Core.Path.{◌≡◌}
 use mathlib.Core.Bool.{false}
-use Prim.Native.Nat.{ℕ, ◌-◌, ◌<◌, ◌≤◌}
+use Prim.Native.Nat.{ℕ, ◌<◌}
 use lib.ListN.{length, get_or}
 use Rattle.format.specs.Tags.{tag_byte}
 use Rattle.record_fields.proofs.tables.tag_table.Given as goal
 
 abbrev pub invariant-loop-b : goal.invariant-loop-b
-invariant-loop-b l = (l.b ≤ 256) × (length l.table ≡ 256) × ((k : ℕ) → k < l.b → get_or l.table k false ≡ tag_byte k)
-
-abbrev pub decreases-loop-b : goal.decreases-loop-b
-decreases-loop-b l = 256 - l.b
+invariant-loop-b l =
+    record { size : length l.cell-items ≡ 256; below : (k : ℕ) → k < l.b → get_or l.cell-items k false ≡ tag_byte k }

@@ -1,21 +1,7 @@
--- Each field is read at its offset.
-use Rattle.record_head.proofs.ReadLaws.{head-told}
+-- The head of the bytes that are there, and of zeros for the others.
+use mathlib.Core.Path.{◌∙◌}
+use Rattle.record_head.proofs.ReadLaws.{head-filled}
 use Rattle.record_head.proofs.opening.read_head.Goals as goal
 
 pub returns : goal.returns
-returns c =
-    head-told _
-    c.u16_at.ensures.same
-    c.byte.ensures.same
-    c.date_at.ensures
-    c.date_at-2.ensures
-    c.u16_at-2.ensures.same
-    c.u16_at-3.ensures.same
-    c.u32_at.ensures.same
-    c.u32_at-2.ensures.same
-    c.u32_at-3.ensures.same
-    c.u16_at-4.ensures.same
-    c.u16_at-5.ensures.same
-    c.u32_at-4.ensures.same
-    c.u16_at-6.ensures.same
-    c.u32_at-5.ensures.same
+returns c = c.unpack.ensures ∙ head-filled c.args.s.now c.copy_from_slice.new.self c.min-n.result c.min-n.ensures c.copy_from_slice.ensures.after

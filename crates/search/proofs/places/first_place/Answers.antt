@@ -1,17 +1,16 @@
 -- The key behind all that are below the tag's lowest is the tag's, or it has none.
-use borrow.Author.Rules.{rules}
-use native.Mathlib.Omega.{arith}
-use Rattle.search.proofs.PlaceLaws.{even-key, placed_past, placed-above, placed-there}
+use Rattle.std.proofs.Common.{sym, ap, ◌∙◌, arith, ltb-false, ltb-true}
+use Rattle.lists.specs.Options.{option_of}
+use Rattle.search.proofs.PlaceLaws.{placed_past, placed-key}
 use Rattle.search.proofs.places.first_place.Goals as goal
 
-pub returns-then-keys-i : goal.returns-then-keys-i
-returns-then-keys-i c =
-    λ ts few e. placed_past c.args.tag ts few c.args.keys.now e _ (even-key _ _ _ _ c.tag_key-low.ensures c.count_below-i.ensures) (search rules)
-
-pub returns-then-high-key : goal.returns-then-high-key
-returns-then-high-key c =
-    λ ts few e. placed-above c.args.tag ts few c.args.keys.now e _ (even-key _ _ _ _ c.tag_key-low.ensures c.count_below-i.ensures) (search rules) (omega (arith, c.if-high-key.true, c.tag_key-low.ensures))
+pub returns-in_err-key : goal.returns-in_err-key
+returns-in_err-key c =
+    λ ts few e. ap option_of c.from_residual.ensures
+    ∙ placed_past c.args.tag ts few c.args.keys.now e _ c.tag_key-low.ensures _ c.count_below.ensures (ltb-false _ _ (sym c.in_err-key.ensures.lookup.0))
 
 pub returns : goal.returns
 returns c =
-    λ ts few e. placed-there c.args.tag ts few c.args.keys.now e _ (even-key _ _ _ _ c.tag_key-low.ensures c.count_below-i.ensures) (search rules) (omega (arith, c.if-high-key.false, c.tag_key-low.ensures))
+    λ ts few e. let lookup = c.in_ok-key.ensures.lookup in
+    ap option_of c.then_some.ensures
+    ∙ placed-key c.args.tag ts few c.args.keys.now e _ c.tag_key-low.ensures _ c.count_below.ensures _ (ltb-true _ _ (sym lookup.0)) (lookup.4 (omega arith) 0)

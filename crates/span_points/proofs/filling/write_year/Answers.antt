@@ -1,12 +1,7 @@
--- The point alone, or behind the zeros.
-use Rattle.span_points.proofs.FillsLaws.{fills-then, year-alone}
-use borrow.Author.Rules.{rules}
+-- The zeros, then the point.
+use Rattle.span_points.proofs.FillsLaws.{fills-then}
 use Rattle.span_points.proofs.filling.write_year.Goals as goal
-
-pub returns-then-point-running : goal.returns-then-point-running
-returns-then-point-running c =
-    year-alone _ _ _ _ _ _ (search rules) c.write_point.ensures
 
 pub returns : goal.returns
 returns c =
-    fills-then _ _ _ _ _ c.write_zeros-n.ensures _ c.write_point-2.new.out c.write_point-2.ensures
+    fills-then _ _ _ _ _ c.write_zeros-n.ensures _ c.write_point.new.out c.write_point.ensures

@@ -1,24 +1,14 @@
--- The numbers in their order, then the best claim to an initial.
-use mathlib.Core.Path.{◌≡◌, ◌∙◌}
-use mathlib.Core.List.{[], ◌∷◌}
-use Rattle.format.specs.Refusal.{first_of}
-use Rattle.rules.specs.Refusals.{chronicle_number, asked_tag_number, asked_date_number}
+-- The tests, then the best claim.
+use mathlib.Core.Path.{ap, ◌∙◌}
+use mathlib.Core.List.{[]}
+use Rattle.rules.specs.Lent.{gives}
 use Rattle.rules.specs.Outcomes.{call_initial_on}
-use Rattle.resolver.proofs.ResolverAnswerLaws.{numbered, number-refused, initial-on-gives}
-use borrow.Author.Rules.{rules}
-use Rattle.resolver.proofs.forms.TagResolverDated.initial_at.Goals.{After-first_number-number}
+use Rattle.resolver.proofs.ResolverAnswerLaws.{question-refused, initial-on-gives, day-in-front}
 use Rattle.resolver.proofs.forms.TagResolverDated.initial_at.Goals as goal
 
--- The first number that refuses.
-number : (c : After-first_number-number) → c.first_number-number.result ≡ first_of (chronicle_number c.args.nations.now c.args.entries.now ∷ asked_date_number c.args.self.day.0 ∷ asked_tag_number c.args.tag.0 ∷ [])
-number c = numbered _ _ _ _ _ _ _ c.asked_date_number.ensures c.asked_tag_number.ensures c.first_number-question.ensures c.chronicle_number.ensures c.first_number-number.ensures
-
-pub returns-then-number-ne0 : goal.returns-then-number-ne0
+pub returns-in_err-test_question : goal.returns-in_err-test_question
 unfolding call_initial_on
-returns-then-number-ne0 c =
-    number-refused _ _ _ (number (goal.at.returns-then-number-ne0 c).After-first_number-number) (search rules)
+returns-in_err-test_question c = question-refused _ _ _ _ c.from_residual.ensures (c.in_err-test_question.ensures ∙ day-in-front _ _ c.args.self.day _ [])
 
 pub returns : goal.returns
-returns c =
-    c.switched_answer.ensures
-    ∙ initial-on-gives c.args.nations.now c.args.entries.now _ _ (search rules) c.args.tag c.best_initial.ensures c.args.self.day (number (goal.at.returns c).After-first_number-number)
+returns c = ap gives c.switched_answer.ensures ∙ initial-on-gives c.args.nations.now c.args.entries.now _ c.args.tag c.best_initial-best.ensures c.args.self.day (c.in_ok-test_question.ensures ∙ day-in-front _ _ c.args.self.day _ [])

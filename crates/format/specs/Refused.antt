@@ -1,0 +1,28 @@
+-- 01's numbers, for an answer that says by an enum why it is refused.
+use Rattle.std.specs.Prelude as code
+use Rattle.std.specs.Prelude.{ℕ, Ok, Err}
+use Rattle.format.specs.declared.refused.Refusal.{Refusal}
+use Rattle.format.specs.declared.refused.Refusal.TheVariants.{NoRecord, UnknownVersion, WrongSizes, BadTag, BadDate, UndefinedBit, Repeated, EndsEarly, LongYear, NoRoom, NotShaped, BadQuestion, NoNation}
+
+-- 1 to 9 are of records: no head, another version, sizes that do not agree, a bad tag, a bad date, a flag bit or a kind without meaning, what
+-- stands twice, an end before the start, a year of five digits. 10 to 13 are of calls: no room, lent rows that are not well shaped, a bad
+-- question, a number of no nation.
+abbrev pub refusal_number : Refusal → ℕ
+refusal_number NoRecord = 1
+refusal_number UnknownVersion = 2
+refusal_number WrongSizes = 3
+refusal_number BadTag = 4
+refusal_number BadDate = 5
+refusal_number UndefinedBit = 6
+refusal_number Repeated = 7
+refusal_number EndsEarly = 8
+refusal_number LongYear = 9
+refusal_number NoRoom = 10
+refusal_number NotShaped = 11
+refusal_number BadQuestion = 12
+refusal_number NoNation = 13
+
+-- The number of a test: 0 if it passes.
+abbrev pub number_of : {A : Type 0} → code.Result A Refusal → ℕ
+number_of (Ok x) = 0
+number_of (Err refusal) = refusal_number refusal

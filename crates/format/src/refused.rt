@@ -1,0 +1,39 @@
+// Why a record, or a call that is given one, is refused.
+ghost use Rattle.std.specs.Prelude.{◌≡◌};
+ghost use Rattle.format.specs.Refused.{refusal_number};
+
+use std::fmt;
+
+// Each has a number, from 1 on in this order. The first nine are of records, the others of calls.
+#[derive(Clone, Copy, Debug, PartialEq, Eq)]
+pub enum Refusal {
+    NoRecord,
+    UnknownVersion,
+    WrongSizes,
+    BadTag,
+    BadDate,
+    UndefinedBit,
+    Repeated,
+    EndsEarly,
+    LongYear,
+    NoRoom,
+    NotShaped,
+    BadQuestion,
+    NoNation,
+}
+
+impl Refusal {
+    // The number that the host, and the program's output, know it by.
+    pub fn number(self) -> u32
+        ensures { result ≡ refusal_number self }
+    {
+        self as u32 + 1
+    }
+}
+
+impl fmt::Display for Refusal {
+    fn fmt<W: fmt::Write>(&self, f: &mut fmt::Formatter<W>) -> fmt::Result {
+        let number = self.number();
+        write!(f, "refused {number}")
+    }
+}

@@ -1,3 +1,0 @@
-pub mod HostLaws
-pub mod CountLaws
-pub mod FoundLaws

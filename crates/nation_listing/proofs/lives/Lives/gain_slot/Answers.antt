@@ -1,0 +1,28 @@
+-- The gain by itself tells Appeared exactly where the test holds.
+use mathlib.Core.Path.{◌≡◌}
+use borrow.Author.Rules.{rules}
+use Rattle.format.specs.Dates.{earlier}
+use Rattle.nation_listing.specs.Lives.{walk_in}
+use Rattle.nation_listing.proofs.WalkLaws.{gain-told, gain-silent}
+use Rattle.nation_listing.proofs.lives.Lives.gain_slot.Goals.{After-lt}
+use Rattle.nation_listing.proofs.lives.Lives.gain_slot.Goals as goal
+
+-- The order of dates is that of the definitions.
+before : (c : After-lt) → c.lt.result ≡ earlier c.args.self.now.start c.change_date-date.result
+before c = search rules
+
+pub returns-then-appears : goal.returns-then-appears
+returns-then-appears c =
+    let l = c.args.self.now in
+    let t =
+    gain-told _ _ _ _ l.chained (walk_in l) c.requires.0 c.requires.1 _ c.gain_at-self.ensures
+    _ c.change_date-date.ensures (rw (before (goal.at.returns-then-appears c).After-lt) at c.if-appears.true) in
+    record { told = t.0; less = t.1 }
+
+pub returns : goal.returns
+returns c =
+    let l = c.args.self.now in
+    let t =
+    gain-silent _ _ _ _ l.chained (walk_in l) c.requires.0 c.requires.1 _ c.gain_at-self.ensures
+    _ c.change_date-date.ensures (rw (before (goal.at.returns c).After-lt) at c.if-appears.false) in
+    record { told = t.0; less = t.1 }

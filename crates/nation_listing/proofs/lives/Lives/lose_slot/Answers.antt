@@ -1,0 +1,19 @@
+-- The loss by itself tells Annexed exactly where no slot is left.
+use native.Mathlib.Omega.{arith}
+use Rattle.nation_listing.specs.Lives.{walk_in}
+use Rattle.nation_listing.proofs.WalkLaws.{loss-told, loss-silent}
+use Rattle.nation_listing.proofs.lives.Lives.lose_slot.Goals as goal
+
+pub returns-then-self-gt0 : goal.returns-then-self-gt0
+returns-then-self-gt0 c =
+    let l = c.args.self.now in
+    let t = loss-silent _ _ _ _ l.chained (walk_in l) c.requires.0 c.requires.1 _ _ c.loss_at-self.ensures c.saturating_sub-self.ensures c.if-self-gt0.true in
+    record { told = t.0; less = t.1 }
+
+pub returns : goal.returns
+returns c =
+    let l = c.args.self.now in
+    let t =
+    loss-told _ _ _ _ l.chained (walk_in l) c.requires.0 c.requires.1 _ _ c.loss_at-self.ensures c.saturating_sub-self.ensures
+    _ c.change_date.ensures (omega (arith, c.if-self-gt0.false)) in
+    record { told = t.0; less = t.1 }

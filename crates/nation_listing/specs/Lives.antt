@@ -1,0 +1,27 @@
+-- The iterator over a country's lives, read as a walk over its two chains. No call of 01 is promised by these: they are how the nations are
+-- computed.
+use Rattle.std.specs.Prelude.{◌≡◌, List, Option, Some, None, ◌∷◌, ◌<◌}
+use Rattle.chronicle_rows.specs.declared.rows.Entry as code
+use Rattle.chronicle_rows.specs.Cases.{entry_told}
+use Rattle.rules.specs.Chronicle.{Entry}
+use Rattle.nation_tables.specs.Turning.{high_halves, low_halves}
+use Rattle.nation_listing.specs.declared.lives.Lives.{Lives}
+use Rattle.nation_listing.specs.Walks.{Walk, lived_left, ahead}
+
+-- Where it stands.
+abbrev pub walk_in : Lives → Walk
+walk_in l = record { lose = l.lose; gain = l.gain; held = l.held }
+
+-- The entries that it has left.
+abbrev pub lives_left : Lives → List Entry
+lives_left l = (lived_left l.start l.keys.now (high_halves l.turns.now) (low_halves l.turns.now) (walk_in l)).entries
+
+-- An entry, if one was told, before others.
+abbrev pub told_before : Option code.Entry → List Entry → List Entry
+told_before None es = es
+told_before (Some x) es = entry_told x ∷ es
+
+-- One change of the country: what was left is what is told and what is left now, and fewer links are ahead.
+pub record Steps (from : Lives) (r : Option code.Entry) (to : Lives) : Type 0 where
+  pub told : lives_left from ≡ told_before r (lives_left to)
+  pub less : ahead (walk_in to) < ahead (walk_in from)

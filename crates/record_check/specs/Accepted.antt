@@ -1,0 +1,14 @@
+-- An accepted record: refused by its number exactly when 01 refuses it, else its head and the rows of its sections.
+use Rattle.std.specs.Prelude as code
+use Rattle.std.specs.Prelude.{◌≡◌, List, ℕ, IfOk}
+use Rattle.format.specs.declared.refused.Refusal.{Refusal}
+use Rattle.format.specs.Head.{head_of}
+use Rattle.format.specs.Refused.{number_of}
+use Rattle.format.specs.Refusal.{refusal}
+use Rattle.record_head.specs.Sections.{SectionsOf}
+use Rattle.record_check.specs.declared.verdict.Accepted.{Accepted}
+
+-- What `accept` promises.
+pub record RightlyAccepted (xs : List ℕ) (r : code.Result Accepted Refusal) : Type 0 where
+  pub number : number_of r ≡ refusal xs
+  pub rows : IfOk r (λ a. (a.head ≡ head_of xs) × SectionsOf xs a.head a.sections)

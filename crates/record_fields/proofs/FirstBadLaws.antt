@@ -1,0 +1,71 @@
+-- The first bad row, the first section with one, and the fields of a record by its sections.
+use mathlib.Core.Path.{◌≡◌, refl, sym, ap, ◌∙◌}
+use mathlib.Core.Bool.{cond}
+use mathlib.Core.List.{List, [], ◌∷◌, map}
+use Prim.Native.Nat.{ℕ, ◌+◌, ◌<◌, ◌≤◌}
+use lib.Dec.{leb}
+use lib.ListN.{length, get_or, drop}
+use Rattle.std.proofs.lemmas.List.{at_drop_all, at_drop_more}
+use Rattle.lists.specs.Lists.{all_of}
+use Rattle.lists.proofs.BoolLaws.{cases}
+use Rattle.format.specs.declared.head.Head.{Head}
+use Rattle.format.specs.declared.refused.Refusal.{Refusal}
+use Rattle.format.specs.Bytes.{tag_at}
+use Rattle.format.specs.Head.{head_of}
+use Rattle.format.specs.Rows.{country_at, switch_at, province_at, owner_event_at, war_event_at, ledger_at, point_at}
+use Rattle.format.specs.Refused.{refusal_number}
+use Rattle.format.specs.Refusal.{first_of, first_in, tag_number, year_number, country_number, switch_number, owner_event_number, war_event_number, head_number, fields_number}
+use Rattle.format.proofs.FirstLaws.{first-pass}
+use Rattle.format.proofs.RefusedLaws.{stop}
+use Rattle.record_head.specs.declared.sections.Sections.{Sections}
+use Rattle.record_head.specs.Sections.{SectionsOf}
+
+-- So far all rows pass; the next one, read from the bytes of its place, passes too or refuses.
+module _ {B A : Type 0} (number : A → ℕ) (read : B → A) (rows : List B) (i : ℕ) where
+  abbrev pub left : List B → ℕ
+  left l = first_in number (map read l)
+
+  module _ (row : B) (some : i < length rows) (here : row ≡ get_or rows i row) where
+    more : left (drop i rows) ≡ left (row ∷ drop (i + 1) rows)
+    more = at_drop_more left rows i row some ∙ ap (λ x. left (x ∷ drop (i + 1) rows)) (sym here)
+
+    pub row-passes : 0 ≡ number (read row) → left (drop i rows) ≡ left (drop (i + 1) rows)
+    unfolding first_in
+    row-passes h = more ∙ first-pass (number (read row)) (map number (map read (drop (i + 1) rows))) (sym h)
+
+    pub row-refuses : (e : Refusal) → refusal_number e ≡ number (read row) → refusal_number e ≡ left (drop i rows)
+    unfolding first_in
+    row-refuses e h = stop (map number (map read (drop (i + 1) rows))) e h ∙ sym more
+
+  pub rows-pass : length rows ≤ i → 0 ≡ left (drop i rows)
+  unfolding first_in first_of
+  rows-pass h = sym (at_drop_all left rows i h)
+
+-- Whichever point has a long year, the number is 9.
+pub points-told : (rows : List (List ℕ))
+    → cond (all_of (λ row. leb (point_at row 0).year 9999) rows) 0 9 ≡ first_in (λ p. year_number p.year) (map (λ row. point_at row 0) rows)
+unfolding first_in first_of
+points-told [] = refl
+points-told (row ∷ rows) =
+    cases (leb (point_at row 0).year 9999)
+    (λ h. simp h (points-told rows))
+    (λ h. simp h)
+
+-- The numbers of the head and of each section, in the order of the file, are those of the record.
+pub fields-told : (xs : List ℕ) (h : Head) (z : Sections) {m : ℕ} → h ≡ head_of xs → SectionsOf xs h z
+    → m
+    ≡ first_of
+    (head_number h
+    ∷ first_in country_number (map (λ row. country_at row 0) z.countries.now)
+    ∷ first_in (λ t. tag_number t) (map (λ row. tag_at row 0) z.previous.now)
+    ∷ first_in switch_number (map (λ row. switch_at row 0) z.switches.now)
+    ∷ first_in (λ r. tag_number r.owner) (map (λ row. province_at row 0) z.provinces.now)
+    ∷ first_in owner_event_number (map (λ row. owner_event_at row 0) z.events.now)
+    ∷ first_in war_event_number (map (λ row. war_event_at row 0) z.war_events.now)
+    ∷ first_in (λ r. tag_number r.tag) (map (λ row. ledger_at row 0) z.ledgers.now)
+    ∷ first_in (λ p. year_number p.year) (map (λ row. point_at row 0) z.points.now)
+    ∷ [])
+    → m ≡ fields_number xs
+unfolding fields_number
+fields-told xs h z e s told =
+    rw (s.countries, s.previous, s.switches, s.provinces, s.events, s.war_events, s.ledgers, s.points, e) at told

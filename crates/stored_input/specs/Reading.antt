@@ -1,0 +1,12 @@
+-- What reading does to the bytes that an input has left, where those are known.
+use Rattle.std.specs.Prelude.{ℕ, ◌≤◌, List, Option, length, take, flat_map}
+use Rattle.std.specs.Io.KnownBytes.{Consumes}
+use Rattle.std.specs.Int.{to_le_bytes, w32}
+
+-- The buffer begins with n bytes, which were the next ones.
+abbrev pub BeginsRead : Option (List ℕ) → Option (List ℕ) → List ℕ → ℕ → Type 0
+BeginsRead old new buf n = (n ≤ length buf) × Consumes old new (take n buf)
+
+-- The bytes of numbers: four each, low byte first.
+abbrev pub number_bytes : List ℕ → List ℕ
+number_bytes ns = flat_map (to_le_bytes w32) ns

@@ -1,0 +1,110 @@
+// What a stored list has: bytes, and numbers of 32 bits, low byte first.
+ghost use Rattle.std.specs.Prelude.{◌≡◌, ◌≢◌, ◌++◌, ℕ, List, length, Ok, Err, IfOk, OnOk, MatchOption};
+ghost use Rattle.std.specs.Int.{to_le_bytes, w32};
+ghost use Rattle.std.specs.Io.KnownBytes.{Consumes, IsAtEnd};
+ghost use Rattle.stored_input.specs.Reading.{number_bytes};
+
+use crate::{ReadFailed, read_full};
+use std::io::Read;
+
+// A list that ends within a case, or a case that none can be.
+#[derive(Clone, Copy, Debug, PartialEq, Eq)]
+pub struct BrokenOff;
+
+impl From<ReadFailed> for BrokenOff {
+    fn from(_failed: ReadFailed) -> BrokenOff {
+        BrokenOff
+    }
+}
+
+// What stands in a list, each in as many bytes.
+pub trait Stored: Sized {
+    ghost bytes_of: { List Self → List ℕ };
+
+    // Fills the buffer with the next ones.
+    fn fill<R: Read>(list: &mut R, buf: &mut [Self]) -> Result<(), BrokenOff>
+        ensures { OnOk result (Consumes (R.remaining list.old) (R.remaining list.new) (bytes_of buf.new)) };
+}
+
+impl Stored for u8 {
+    ghost bytes_of = { λ bytes. bytes };
+
+    fn fill<R: Read>(list: &mut R, buf: &mut [u8]) -> Result<(), BrokenOff> {
+        if read_full(list, buf)? < buf.len() {
+            return Err(BrokenOff);
+        }
+        Ok(())
+    }
+}
+
+impl Stored for u32 {
+    ghost bytes_of = { number_bytes };
+
+    fn fill<R: Read>(list: &mut R, buf: &mut [u32]) -> Result<(), BrokenOff> {
+        for number in buf.iter_mut() {
+            let mut bytes = [0u8; 4];
+            u8::fill(list, &mut bytes)?;
+            *number = number_of(bytes);
+        }
+        Ok(())
+    }
+}
+
+// The number of four bytes.
+#[tactic(auto, using(std::proofs::lemmas::Nat::le_bytes_4))]
+fn number_of(bytes: [u8; 4]) -> u32
+    ensures { to_le_bytes w32 result ≡ bytes }
+{
+    u32::from_le_bytes(bytes)
+}
+
+// The next number, nothing at the list's end.
+pub fn next_number<R: Read>(list: &mut R) -> Result<Option<u32>, BrokenOff>
+    ensures { IfOk result (λ r. MatchOption r (IsAtEnd (R.remaining list.new)) (λ n. Consumes (R.remaining list.old) (R.remaining list.new) (to_le_bytes w32 n))) }
+{
+    let mut bytes = [0u8; 4];
+    match read_full(list, &mut bytes)? {
+        0 => Ok(None),
+        4 => Ok(Some(number_of(bytes))),
+        _ => Err(BrokenOff),
+    }
+}
+
+// Reads the next n into a buffer. More than it holds no case has.
+pub fn read_part<'a, T: Stored, R: Read>(
+    list: &mut R,
+    n: usize,
+    buf: &'a mut [T],
+) -> Result<&'a [T], BrokenOff>
+    ensures { IfOk result (λ part. (length part.now ≡ n) × Consumes (R.remaining list.old) (R.remaining list.new) (T.bytes_of part.now)) }
+{
+    let Some(part) = buf.get_mut(..n) else {
+        return Err(BrokenOff);
+    };
+    T::fill(list, part)?;
+    Ok(part)
+}
+
+// The next N numbers.
+pub fn read_head<const N: usize, R: Read>(list: &mut R) -> Result<[u32; N], BrokenOff>
+    ensures { IfOk result (λ ns. Consumes (R.remaining list.old) (R.remaining list.new) (number_bytes ns)) }
+{
+    let mut numbers = [0u32; N];
+    u32::fill(list, &mut numbers)?;
+    Ok(numbers)
+}
+
+// Takes the first n off those that are left.
+pub fn take_part<'a, T>(left: &mut &'a [T], n: usize) -> Result<&'a [T], BrokenOff>
+    ensures { IfOk result (λ part. (length part.now ≡ n) × (left.old.now ≡ part.now ++ left.new.now)) }
+{
+    left.split_off(..n).ok_or(BrokenOff)
+}
+
+// An answer as a list stores it: the number of its refusal, or 0 and a value.
+pub fn stored_answer<T: Drop>(number: u32, value: T) -> Result<T, u32>
+    ensures given { number ≡ 0 → result ≡ Ok value }
+    ensures refused { number ≢ 0 → result ≡ Err number }
+{
+    if number == 0 { Ok(value) } else { Err(number) }
+}
