@@ -165,9 +165,9 @@ enum chronicle_history {
  * data (a few KiB) in it. A thread that keeps more of its own adds that.
  */
 enum chronicle_stack {
-    CHRONICLE_STACK_CHECK = 96 * 1024,
+    CHRONICLE_STACK_CHECK = 72 * 1024,
     CHRONICLE_STACK_OWNERS = 1024 * 1024,   /* province_owners, events_on */
-    CHRONICLE_STACK_NATIONS = 1600 * 1024,  /* nation_events */
+    CHRONICLE_STACK_NATIONS = 1536 * 1024,  /* nation_events */
     CHRONICLE_STACK_RESOLVER = 32 * 1024,   /* its four forms */
     CHRONICLE_STACK_EACH = 1024 * 1024,     /* resolver_resolve_each */
     CHRONICLE_STACK_BOOKINGS = 1024 * 1024, /* war_participants */

@@ -3,31 +3,43 @@
 // entries, slots and countries follow; then these, of 4, 3, 5, 3, 1 and 1 numbers each. Held to the record are its changes, days and nations.
 #![tactic(auto)]
 
-ghost use Rattle.std.specs.Prelude.{◌≤◌, IfOk};
+ghost use Rattle.std.specs.Prelude.{◌≤◌, ℕ, List, IfOk, OnOk};
+ghost use Rattle.std.specs.Io.KnownBytes.{Consumes};
 
+use change_keys::CHANGE_WIDTH;
 use chronicle::{DateRun, NationCounts};
+use chronicle_rows::{ENTRY_WIDTH, NATION_WIDTH};
 use record::Eu4Date;
 use std::io;
 use std::io::Read;
-use stored_input::{BrokenOff, Counts, Replay, read_head, read_part, replay_list, take_part};
+use stored_input::{BrokenOff, Counts, Replay, read_head, read_part, replay_file, take_part};
+
+// How many bytes a record has at most, and how many rows of each kind a chronicle.
+const RECORD_BYTES: usize = 4096;
+
+const MOST_ROWS: usize = 1000;
+
+// How many numbers the parts of a chronicle have at most, which are read at once: nations, entries, slots and countries.
+const PART_NUMBERS: usize = (NATION_WIDTH + ENTRY_WIDTH + 2) * MOST_ROWS;
 
 // Room for the record of a campaign, and for the numbers of a part: of a fixed size, since nothing is allocated.
 #[derive(Drop)]
 struct Campaigns {
-    record: [u8; 4096],
-    numbers: [u32; 16384],
+    record: [u8; RECORD_BYTES],
+    numbers: [u32; PART_NUMBERS],
 }
 
 // Whether the owner changes are the stored ones.
 fn same_owners(s: &[u8], stored: &[u32]) -> bool {
-    let mut words = [0u32; 4096];
+    let mut words = [0u32; CHANGE_WIDTH * MOST_ROWS];
     let told = chronicle::province_owners(s, &mut words);
-    told == Ok(stored.len() / 4) && words.starts_with(stored)
+    told == Ok(stored.len() / CHANGE_WIDTH) && words.starts_with(stored)
 }
 
 // How many of the next days have another run of changes than stored.
-fn wrong_days(list: &mut impl Read, s: &[u8], days: u32) -> Result<usize, BrokenOff>
-    ensures { IfOk result (λ n. n ≤ days) }
+fn wrong_days<R: Read>(list: &mut R, s: &[u8], days: u32) -> Result<usize, BrokenOff>
+    ensures few { IfOk result (λ n. n ≤ days) }
+    ensures read { OnOk result ((bytes : List ℕ) × Consumes (R.remaining list.old) (R.remaining list.new) bytes) }
 {
     let mut wrong = 0;
     for _ in 0..days {
@@ -39,17 +51,6 @@ fn wrong_days(list: &mut impl Read, s: &[u8], days: u32) -> Result<usize, Broken
         wrong += usize::from(chronicle::events_on(s, Eu4Date::kept(date)) != Ok(run));
     }
     Ok(wrong)
-}
-
-// Counts as a list of numbers, which can be compared.
-fn listed(counts: NationCounts) -> [usize; 5] {
-    [
-        counts.changes,
-        counts.nations,
-        counts.entries,
-        counts.slots,
-        counts.countries,
-    ]
 }
 
 // What is stored of a campaign's nations: how many rows and slots, and their words.
@@ -64,11 +65,11 @@ struct Stored<'a> {
 
 // Whether nations, entries, holders and slots held are the stored ones, and so many.
 fn same_nations(s: &[u8], stored: Stored<'_>) -> bool {
-    let mut nations = [0u32; 5000];
-    let mut entries = [0u32; 3000];
-    let mut holders = [0u32; 1000];
-    let mut held = [0u32; 1000];
-    let mut changes = [0u32; 4000];
+    let mut nations = [0u32; NATION_WIDTH * MOST_ROWS];
+    let mut entries = [0u32; ENTRY_WIDTH * MOST_ROWS];
+    let mut holders = [0u32; MOST_ROWS];
+    let mut held = [0u32; MOST_ROWS];
+    let mut changes = [0u32; CHANGE_WIDTH * MOST_ROWS];
     let told = chronicle::nation_events(
         s,
         &mut nations,
@@ -77,7 +78,7 @@ fn same_nations(s: &[u8], stored: Stored<'_>) -> bool {
         &mut held,
         &mut changes,
     );
-    told.map(listed) == Ok(listed(stored.counts))
+    told == Ok(stored.counts)
         && nations.starts_with(stored.nations)
         && entries.starts_with(stored.entries)
         && holders.starts_with(stored.holders)
@@ -85,6 +86,11 @@ fn same_nations(s: &[u8], stored: Stored<'_>) -> bool {
 }
 
 impl Replay for Campaigns {
+    ghost use Rattle.std.specs.Prelude.{⊤};
+
+    // Of its cases nothing is promised: what they come to is held to the file stdout.
+    ghost comes_to = { λ _ _ _. ⊤ };
+
     fn replay<R: Read>(&mut self, len: u32, list: &mut R) -> Result<Counts, BrokenOff> {
         let [changes, days, nations, entries, slots, countries]: [u32; 6] = read_head(list)?;
         let counts = NationCounts {
@@ -95,15 +101,17 @@ impl Replay for Campaigns {
             changes: changes as usize,
         };
         let s = read_part(list, len as usize, &mut self.record)?;
-        let owners = read_part(list, 4 * counts.changes, &mut self.numbers)?;
+        let owners = read_part(list, CHANGE_WIDTH * counts.changes, &mut self.numbers)?;
         let wrong_owners = usize::from(!same_owners(s, owners));
         let wrong_days = wrong_days(list, s, days)?;
-        let n = 5 * counts.nations + 3 * counts.entries + counts.slots + counts.countries;
+        let nation_words = NATION_WIDTH * counts.nations;
+        let entry_words = ENTRY_WIDTH * counts.entries;
+        let n = nation_words + entry_words + counts.slots + counts.countries;
         let mut left = read_part(list, n, &mut self.numbers)?;
         let stored = Stored {
             counts,
-            nations: take_part(&mut left, 5 * counts.nations)?,
-            entries: take_part(&mut left, 3 * counts.entries)?,
+            nations: take_part(&mut left, nation_words)?,
+            entries: take_part(&mut left, entry_words)?,
             holders: take_part(&mut left, counts.slots)?,
             held: take_part(&mut left, counts.countries)?,
         };
@@ -116,12 +124,13 @@ impl Replay for Campaigns {
     }
 }
 
+// What is printed no promise tells: no clause of the host's output says which bytes reach it. It is held to the file stdout.
 fn main(rt: HostRuntime) -> io::Result<()> {
     let mut campaigns = Campaigns {
-        record: [0; 4096],
-        numbers: [0; 16384],
+        record: [0; RECORD_BYTES],
+        numbers: [0; PART_NUMBERS],
     };
-    let all = replay_list(&rt, "answers.bin", &mut campaigns);
+    let all = replay_file(&rt, "answers.bin", &mut campaigns).unwrap_or_default();
     println!(rt;
         "{} campaigns, {} days, {} wrong",
         all.cases, all.counts.questions, all.counts.wrong

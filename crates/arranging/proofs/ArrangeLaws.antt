@@ -6,13 +6,13 @@ use Prim.Native.Nat.{ℕ, zero, suc, ◌+◌, ◌-◌, ◌*◌, ◌<◌, ◌≤�
 use native.Mathlib.Omega.{arith}
 use borrow.Author.Tests.{le-leb, lt-ltb, le-ltb, leb-true, leb-false, ltb-false, eqb-true, not-true, not-false}
 use lib.Dec.{leb, ltb, eqb}
-use lib.ListN.{length, take, drop, set, length-append, length-take, length-set}
+use lib.ListN.{length, take, drop, set, length-append, length-take, length-set, length-map}
 use Rattle.std.specs.Prelude as code
-use Rattle.std.specs.Prelude.{None, is_some}
+use Rattle.std.specs.Prelude.{None, is_some, IfSome}
 use Rattle.std.specs.Int.{from_bool}
 use Rattle.std.specs.List.{last_or as code-last}
 use Rattle.std.specs.List.{list_any}
-use Rattle.lists.specs.Lists.{All, all_of, keep, last_or, sum_of, join_of}
+use Rattle.lists.specs.Lists.{All, any_of, all_of, keep, last_or, sum_of, join_of}
 use Rattle.lists.proofs.BoolLaws.{cases, and_left, and_right, neither}
 use Rattle.lists.proofs.EachLaws.{all_of-all}
 use Rattle.lists.proofs.ListLaws.{all_map}
@@ -20,14 +20,14 @@ use Rattle.lists.proofs.FillLaws.{Filling, filling-new, filling-more, filling-be
 use Rattle.lists.proofs.WriteLaws.{behind}
 use Rattle.rules.specs.Lent.{refused, gives, written}
 use Rattle.rules.specs.PlayerOutcomes.{HistoryCells, both_fit, both_written}
-use Rattle.rules.specs.HistoryRows.{HistoryRow, history_row_of, history_row_words}
+use Rattle.rules.specs.HistoryRows.{HistoryRow, history_row_words}
 use Rattle.rules.proofs.LentLaws.{outcome-refused, outcome-gives}
-use Rattle.history_rows.proofs.PutLaws.{length-rows}
-use Rattle.history_rows.specs.declared.rows.History.{History}
-use Rattle.history_rows.specs.Cases.{history_told}
-use Rattle.arranging.specs.Arranging.{leads_within, is_ready, arranged_outcome, is_popped, histories_from, names_at, kept_words, kept_of, draft_words, Vanishes, HistoriesReady, ArrangeReady, drafted_cells, drafted_counts, drafted_outcome}
+use Rattle.format.specs.declared.tag.CountryTag.{CountryTag}
+use Rattle.arranging.specs.declared.drafts.Draft.{Draft}
+use Rattle.arranging.proofs.PutLaws.{length-rows}
+use Rattle.arranging.specs.Arranging.{last_initial, leads_within, is_ready, arranged_outcome, is_popped, histories_from, names_at, kept_words, kept_of, draft_words, Vanishes, HistoriesReady, ArrangeReady, drafted_cells, drafted_counts, drafted_outcome}
 use Rattle.arranging.specs.Drafts.{is_played, is_leftover}
-use Rattle.arranging.proofs.DraftLaws.{any-sole, last-held}
+use Rattle.arranging.proofs.DraftLaws.{last-some}
 use Rattle.arranging.proofs.ArrangeStepLaws.{length-finished, length-all-names, sum-few}
 
 -- ## Two parts, one behind the other
@@ -50,29 +50,29 @@ set-written (x ∷ cells) before v h = refl
 
 -- ## Names of each kind
 
-pub sum-part : (p : HistoryRow → Bool) (ds : List HistoryRow) → sum_of (λ d. d.count) (keep p ds) ≤ sum_of (λ d. d.count) ds
+pub sum-part : (p : Draft → Bool) (ds : List Draft) → sum_of (λ d. d.count) (keep p ds) ≤ sum_of (λ d. d.count) ds
 sum-part p [] = omega arith
 sum-part p (d ∷ ds) = cases (p d) (λ h. simp h (omega (arith, sum-part p ds))) (λ h. simp h (omega (arith, sum-part p ds)))
 
-pub sum-idle : (ds : List HistoryRow) → sum_of (λ d. d.count) (keep is_leftover ds) ≡ 0
+pub sum-idle : (ds : List Draft) → sum_of (λ d. d.count) (keep is_leftover ds) ≡ 0
 sum-idle [] = refl
 sum-idle (d ∷ ds) =
     cases (ltb 0 d.count)
     (λ h. simp h (sum-idle ds))
     (λ h. simp h (omega (arith, ltb-false 0 d.count h, sum-idle ds)))
 
-pub sum-taken : (n : ℕ) (ds : List HistoryRow) → sum_of (λ d. d.count) (take n ds) ≤ sum_of (λ d. d.count) ds
+pub sum-taken : (n : ℕ) (ds : List Draft) → sum_of (λ d. d.count) (take n ds) ≤ sum_of (λ d. d.count) ds
 sum-taken zero ds = omega arith
 sum-taken (suc n) [] = omega arith
 sum-taken (suc n) (d ∷ ds) = omega (arith, sum-taken n ds)
 
 -- ## The words of all histories
 
-length-kept : (ds : List HistoryRow) (kept : ℕ) → kept ≤ length (keep is_leftover ds)
+length-kept : (ds : List Draft) (kept : ℕ) → kept ≤ length (keep is_leftover ds)
     → length (kept_words ds kept) ≡ 7 * (length (keep is_played ds) + kept)
 length-kept ds kept h =
     let ps : List HistoryRow = histories_from 0 (keep is_played ds) in
-    let ls : List HistoryRow = take kept (keep is_leftover ds) in
+    let ls : List Draft = take kept (keep is_leftover ds) in
     let total : ℕ = sum_of (λ d. d.count) ds in
     omega (
       arith,
@@ -84,15 +84,15 @@ length-kept ds kept h =
       length-take kept (keep is_leftover ds),
     )
 
-pub length-drafted : (popped : Bool) (ds : List HistoryRow) → length (draft_words popped ds) ≡ 7 * (length (keep is_played ds) + kept_of popped ds)
+pub length-drafted : (popped : Bool) (ds : List Draft) → length (draft_words popped ds) ≡ 7 * (length (keep is_played ds) + kept_of popped ds)
 length-drafted true ds = length-set (kept_words ds (kept_of true ds)) 0 _ ∙ length-kept ds (kept_of true ds) (omega arith)
 length-drafted false ds = length-kept ds (kept_of false ds) (omega arith)
 
 -- The first pass has written so many words.
-abbrev pub Fronted : List HistoryRow → List ℕ → ℕ → List ℕ → Type 0
+abbrev pub Fronted : List Draft → List ℕ → ℕ → List ℕ → Type 0
 Fronted ds before at now = (at ≡ 7 * length (keep is_played ds)) × (now ≡ written (join_of history_row_words (histories_from 0 (keep is_played ds))) before)
 
-module _ (ds : List HistoryRow) (popped : Bool) (kept : ℕ) (k : kept ≡ kept_of popped ds) where
+module _ (ds : List Draft) (popped : Bool) (kept : ℕ) (k : kept ≡ kept_of popped ds) where
   abbrev front : List ℕ
   front = join_of history_row_words (histories_from 0 (keep is_played ds))
 
@@ -104,7 +104,7 @@ module _ (ds : List HistoryRow) (popped : Bool) (kept : ℕ) (k : kept ≡ kept_
 
   back-wide : length back ≤ 7 * kept
   back-wide =
-      let ls : List HistoryRow = take kept (keep is_leftover ds) in
+      let ls : List Draft = take kept (keep is_leftover ds) in
       omega (arith, length-rows (histories_from (sum_of (λ d. d.count) ds) ls), length-finished (sum_of (λ d. d.count) ds) ls, length-take kept (keep is_leftover ds))
 
   -- Both passes have written.
@@ -120,7 +120,7 @@ module _ (ds : List HistoryRow) (popped : Bool) (kept : ℕ) (k : kept ≡ kept_
       let q : kept ≡ length (keep is_leftover ds) = k ∙ ap (λ (b : Bool). kept_of b ds) e in
       rw e (f ∙ ap (λ (n : ℕ). written (kept_words ds n) before) q)
 
-  pub drafted-popped : popped ≡ true → 0 < length (keep is_played ds) → (before out : List ℕ) (v : ℕ) → v ≡ (last_or (history_row_of []) (keep is_leftover ds)).initial.0
+  pub drafted-popped : popped ≡ true → 0 < length (keep is_played ds) → (before out : List ℕ) (v : ℕ) → v ≡ (last_initial (keep is_leftover ds)).0
       → out ≡ written (kept_words ds kept) before → set out 0 v ≡ written (draft_words popped ds) before
   drafted-popped e some before out v w f =
       let q : kept ≡ kept_of true ds = k ∙ ap (λ (b : Bool). kept_of b ds) e in
@@ -133,14 +133,23 @@ module _ (ds : List HistoryRow) (popped : Bool) (kept : ℕ) (k : kept ≡ kept_
 
 -- ## The leftover that vanishes
 
-module _ (ironman : Bool) (ds : List HistoryRow) (played : ℕ) (released : Bool) (p : played ≡ length (keep is_played ds))
-    (r : released ≡ list_any (λ d. ltb 1 d.human) (keep is_played ds)) where
+some_same : {A : Type 0} (p : A → Bool) (xs : List A) → list_any p xs ≡ any_of p xs
+some_same p [] = refl
+some_same p (x ∷ xs) = ap (λ b. p x || b) (some_same p xs)
+
+-- The last that came is there if any came, and is the last of all.
+last-held : (ts : List CountryTag) → (is_some (code-last None ts) ≡ ltb 0 (length ts)) × IfSome (code-last None ts) (λ t. t ≡ last_or (record { 0 = 0 }) ts)
+last-held [] = (refl, tt)
+last-held (t ∷ ts) =
+    let some : ltb 0 (length (t ∷ ts)) ≡ true = lt-ltb 0 (length (t ∷ ts)) (omega arith) in
+    rw (last-some t ts) (sym some, refl)
+
+module _ (ironman : Bool) (ds : List Draft) (played : ℕ) (released : Bool) (p : played ≡ length (keep is_played ds))
+    (r : released ≡ list_any (λ d. d.released) (keep is_played ds)) where
   popped-tested : is_popped ironman ds ≡ (ironman && eqb played 1 && released && ltb 0 (length (keep is_leftover ds)))
   popped-tested =
-      let some : Bool = ltb 0 (length (keep is_leftover ds)) in
-      rw (p, r)
-      (sym (any-sole (λ (d : HistoryRow). ltb 1 d.human) ironman some (history_row_of []) (keep is_played ds))
-      ∙ go (ironman && eqb (length (keep is_played ds)) 1) some (list_any (λ d. ltb 1 d.human) (keep is_played ds)))
+      rw (p, r, some_same (λ (d : Draft). d.released) (keep is_played ds))
+      (go (ironman && eqb (length (keep is_played ds)) 1) (ltb 0 (length (keep is_leftover ds))) (any_of (λ d. d.released) (keep is_played ds)))
     where
       go : (a b c : Bool) → (a && b && c) ≡ (a && c && b)
       go false b c = refl
@@ -152,21 +161,21 @@ module _ (ironman : Bool) (ds : List HistoryRow) (played : ℕ) (released : Bool
   pub vanishes-none : (ironman && eqb played 1 && released) ≡ false → Vanishes ironman ds None
   vanishes-none h = record { popped = sym (popped-tested ∙ rw h refl); last = tt }
 
-  pub vanishes-last : (ironman && eqb played 1 && released) ≡ true → (xs : List History) → map history_told xs ≡ keep is_leftover ds
-      → (v : code.Option History) → v ≡ code-last None xs → Vanishes ironman ds v
-  vanishes-last h xs m v e =
-      let held = last-held xs in
-      let told = rw m at held in
-      rw e (record { popped = told.0 ∙ sym (popped-tested ∙ rw h refl); last = told.1 })
+  pub vanishes-last : (ironman && eqb played 1 && released) ≡ true → (ts : List CountryTag) → ts ≡ map (λ d. d.initial) (keep is_leftover ds)
+      → (v : code.Option CountryTag) → v ≡ code-last None ts → Vanishes ironman ds v
+  vanishes-last h ts m v e =
+      let held = last-held (map (λ (d : Draft). d.initial) (keep is_leftover ds)) in
+      let many : length (map (λ (d : Draft). d.initial) (keep is_leftover ds)) ≡ length (keep is_leftover ds) = length-map (keep is_leftover ds) (λ d. d.initial) in
+      rw (e, m) (record { popped = held.0 ∙ ap (ltb 0) many ∙ sym (popped-tested ∙ rw h refl); last = held.1 })
 
 -- ## The outcome
 
-pub total-few : (keys : List ℕ) (ds : List HistoryRow) → ArrangeReady ds keys → sum_of (λ d. d.count) ds ≤ 2000000
+pub total-few : (keys : List ℕ) (ds : List Draft) → ArrangeReady ds keys → sum_of (λ d. d.count) ds ≤ 2000000
 total-few keys ds a =
     let each = all_map {Q = λ d. d.first + d.count ≤ 1000} (λ d h. omega (arith, a.short)) ds a.inside in
     omega (arith, sum-few 1000 ds each, a.few)
 
-popped-some : (ironman : Bool) (ds : List HistoryRow) → is_popped ironman ds ≡ true → 0 < length (keep is_played ds)
+popped-some : (ironman : Bool) (ds : List Draft) → is_popped ironman ds ≡ true → 0 < length (keep is_played ds)
 popped-some ironman ds h =
     let a = and_left (ironman && eqb (length (keep is_played ds)) 1 && ltb 0 (length (keep is_leftover ds))) _ h in
     let b = and_left (ironman && eqb (length (keep is_played ds)) 1) _ a in
@@ -174,24 +183,24 @@ popped-some ironman ds h =
     omega arith
 
 -- One leftover less stays where one vanishes.
-kept-of : (popped : Bool) (ds : List HistoryRow) → length (keep is_leftover ds) - from_bool popped ≡ kept_of popped ds
+kept-of : (popped : Bool) (ds : List Draft) → length (keep is_leftover ds) - from_bool popped ≡ kept_of popped ds
 kept-of true ds = refl
 kept-of false ds = omega arith
 
 -- What the code counts before it writes.
-pub record Counted (ironman : Bool) (ds : List HistoryRow) (v : code.Option History) (played kept total : ℕ) : Type 0 where
+pub record Counted (ironman : Bool) (ds : List Draft) (v : code.Option CountryTag) (played kept total : ℕ) : Type 0 where
   pub vanishes : Vanishes ironman ds v
   pub named : played ≡ length (keep is_played ds)
   pub left : kept ≡ kept_of (is_some v) ds
   pub names : total ≡ sum_of (λ d. d.count) ds
 
-module _ (ironman : Bool) (ds : List HistoryRow) (v : code.Option History) (played leftovers fewer kept total : ℕ) where
+module _ (ironman : Bool) (ds : List Draft) (v : code.Option CountryTag) (played leftovers fewer kept total : ℕ) where
   pub counted : Vanishes ironman ds v → played ≡ length (keep is_played ds) → leftovers ≡ length (keep is_leftover ds) → fewer ≡ from_bool (is_some v)
       → kept ≡ leftovers - fewer → total ≡ sum_of (λ d. d.count) ds → Counted ironman ds v played kept total
   counted w p l f k t = record { vanishes = w; named = p; left = k ∙ rw (l, f) (kept-of (is_some v) ds); names = t }
 
-module _ (ironman : Bool) (ds : List HistoryRow) (keys : List ℕ) (ready : ArrangeReady ds keys) (before : HistoryCells)
-    (v : code.Option History) (played kept total : ℕ) (c : Counted ironman ds v played kept total) where
+module _ (ironman : Bool) (ds : List Draft) (keys : List ℕ) (ready : ArrangeReady ds keys) (before : HistoryCells)
+    (v : code.Option CountryTag) (played kept total : ℕ) (c : Counted ironman ds v played kept total) where
   abbrev popped : Bool
   popped = is_some v
 
@@ -253,7 +262,7 @@ module _ (ironman : Bool) (ds : List HistoryRow) (keys : List ℕ) (ready : Arra
 
 -- ## Any drafts
 
-module _ (ds : List HistoryRow) (keys : List ℕ) where
+module _ (ds : List Draft) (keys : List ℕ) where
   pub ready_tested : is_ready ds keys ≡ true → ArrangeReady ds keys
   ready_tested h =
       let sized = and_left (leb (length ds) 2000 && leb (length keys) 1000) (all_of (leads_within (length keys)) ds) h in
@@ -267,7 +276,7 @@ module _ (ds : List HistoryRow) (keys : List ℕ) where
   tested-ready : ArrangeReady ds keys → is_ready ds keys ≡ true
   tested-ready a = rw (le-leb (length ds) 2000 a.few, le-leb (length keys) 1000 a.short) (go ds a.inside)
     where
-      go : (xs : List HistoryRow) → All (λ d. d.first + d.count ≤ length keys) xs → all_of (leads_within (length keys)) xs ≡ true
+      go : (xs : List Draft) → All (λ d. d.first + d.count ≤ length keys) xs → all_of (leads_within (length keys)) xs ≡ true
       go [] b = refl
       go (x ∷ xs) b = rw (le-leb (x.first + x.count) (length keys) b.0) (go xs b.1)
 

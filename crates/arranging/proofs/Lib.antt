@@ -1,3 +1,4 @@
+pub mod PutLaws
 pub mod DraftLaws
 pub mod ArrangeStepLaws
 pub mod ArrangeLaws

@@ -1,20 +1,12 @@
 // Histories from drafts, by the room that there is.
 ghost use Rattle.std.specs.Prelude.{◌≡◌};
-ghost use Rattle.rules.specs.HistoryRows.{history_rows_in};
 ghost use Rattle.arranging.specs.Cases.{histories_outcome, history_cells};
-ghost use Rattle.arranging.specs.Drafts.{drafts_left};
 ghost use Rattle.arranging.specs.Arranging.{is_ready, ArrangeReady, drafted_outcome, arranged_outcome};
 
-use crate::drafts::{Drafts, is_leftover, is_played};
+use crate::drafts::Draft;
 use crate::{names, rows};
-use format::Refusal;
-use history_rows::{HISTORY_WIDTH, history_count};
-
-// The most drafts that are taken: no record has more countries.
-const MOST_DRAFTS: usize = 2000;
-
-// The most keys of players: no record has more strings.
-const MOST_KEYS: usize = 1000;
+use format::{MOST_COUNTRIES, MOST_STRINGS, Refusal};
+use history_rows::HISTORY_WIDTH;
 
 // How many histories, and how many names.
 #[derive(Clone, Copy, Debug, PartialEq, Eq)]
@@ -23,28 +15,29 @@ pub struct HistoryCounts {
     pub names: usize,
 }
 
-// Whether drafts are few and lead to keys, of which there are few.
-fn is_ready(drafts: &[u32], keys: &[u64]) -> bool
-    ensures { result ≡ is_ready (history_rows_in drafts.now) keys.now }
+// Whether drafts and keys are no more than a record's countries and strings, and each draft leads to keys.
+fn is_ready(drafts: &[Draft], keys: &[u64]) -> bool
+    ensures { result ≡ is_ready drafts.now keys.now }
 {
-    history_count(drafts) <= MOST_DRAFTS
-        && keys.len() <= MOST_KEYS
-        && names::lead_within(Drafts::of(drafts), keys.len())
+    drafts.len() <= MOST_COUNTRIES
+        && keys.len() <= MOST_STRINGS
+        && names::lead_within(drafts, keys.len())
 }
 
+// Drafts and keys are no type with a ghost field: no other function asks for what stands in this condition.
 // Counts histories and names before the first cell is written.
 fn put_drafts(
     ironman: bool,
-    drafts: Drafts<'_>,
+    drafts: &[Draft],
     keys: &[u64],
     histories: &mut [u32],
     names: &mut [u32],
 ) -> Result<HistoryCounts, Refusal>
-    requires { ArrangeReady (drafts_left drafts) keys.now }
-    ensures { histories_outcome result histories.new names.new ≡ drafted_outcome ironman (drafts_left drafts.entry) keys.now (history_cells histories.old names.old) }
+    requires { ArrangeReady drafts.now keys.now }
+    ensures { histories_outcome result histories.new names.new ≡ drafted_outcome ironman drafts.now keys.now (history_cells histories.old names.old) }
 {
-    let played = drafts.filter(|draft| is_played(draft)).count();
-    let leftovers = drafts.filter(|draft| is_leftover(draft)).count();
+    let played = drafts.iter().filter(|draft| draft.is_played()).count();
+    let leftovers = drafts.iter().filter(|draft| draft.is_leftover()).count();
     let vanished = rows::vanishing(drafts, ironman, played);
     let kept = leftovers.saturating_sub(usize::from(vanished.is_some()));
     let n = played + kept;
@@ -66,15 +59,15 @@ fn put_drafts(
 #[tactic(auto, using(crate::proofs::ArrangeLaws::ready_tested))]
 pub fn arrange_drafts(
     ironman: bool,
-    drafts: &[u32],
+    drafts: &[Draft],
     keys: &[u64],
     histories: &mut [u32],
     names: &mut [u32],
 ) -> Result<HistoryCounts, Refusal>
-    ensures { histories_outcome result histories.new names.new ≡ arranged_outcome ironman (history_rows_in drafts.now) keys.now (history_cells histories.old names.old) }
+    ensures { histories_outcome result histories.new names.new ≡ arranged_outcome ironman drafts.now keys.now (history_cells histories.old names.old) }
 {
     if !is_ready(drafts, keys) {
         return Err(Refusal::NotShaped);
     }
-    put_drafts(ironman, Drafts::of(drafts), keys, histories, names)
+    put_drafts(ironman, drafts, keys, histories, names)
 }

@@ -1,53 +1,48 @@
-// A walk over drafts, and which of them have players.
+// Drafts of histories, and which of them have players.
 ghost use Rattle.std.specs.Prelude.{◌≡◌};
-ghost use Rattle.std.specs.Iterator.{YieldsFirstBy, item_count};
-ghost use Rattle.rules.specs.HistoryRows.{history_rows_in};
-ghost use Rattle.history_rows.specs.Cases.{history_told};
-ghost use Rattle.arranging.specs.Drafts.{drafts_left, is_played, is_leftover};
+ghost use Rattle.arranging.specs.Drafts.{is_played, is_leftover};
 
-use history_rows::{HISTORY_WIDTH, History};
+use format::CountryTag;
 
-// An iterator over drafts, by the rows that are left.
-#[derive(Clone, Copy)]
-pub(crate) struct Drafts<'a> {
-    rows: &'a [[u32; HISTORY_WIDTH]],
+// A history before its place among the others is known: three tags; its nation; whether a human plays its country, and whether that was released and
+// is played on; and where its players stand among the sorted keys of all, and how many they are. Its nation counts from 1, and 0 is none, as in the row
+// of the C interface: an Option of the number has no word for the row of a lent draft's last number.
+#[derive(Clone, Copy, Debug, PartialEq, Eq)]
+pub struct Draft {
+    pub initial: CountryTag,
+    pub latest: CountryTag,
+    pub stored: CountryTag,
+    pub nation: u32,
+    pub human: bool,
+    pub released: bool,
+    pub first: u32,
+    pub count: u32,
 }
 
-impl<'a> Drafts<'a> {
-    // The drafts that words tell.
-    #[tactic(auto, using(crate::proofs::DraftLaws::drafts_whole))]
-    pub(crate) fn of(words: &'a [u32]) -> Self
-        ensures { drafts_left result ≡ history_rows_in words.now }
+impl Draft {
+    // A draft that stands where none was written yet.
+    pub const NONE: Draft = Draft {
+        initial: CountryTag::NONE,
+        latest: CountryTag::NONE,
+        stored: CountryTag::NONE,
+        nation: 0,
+        human: false,
+        released: false,
+        first: 0,
+        count: 0,
+    };
+
+    // Whether it has players.
+    pub(crate) fn is_played(&self) -> bool
+        ensures { result ≡ is_played self.now }
     {
-        let rows = words.as_chunks().0;
-        Drafts { rows }
+        0 < self.count
     }
-}
 
-impl Iterator for Drafts<'_> {
-    type Item = History;
-
-    ghost next_gives = { YieldsFirstBy history_told drafts_left };
-
-    ghost remaining = { item_count drafts_left };
-
-    fn next(&mut self) -> Option<History> {
-        let (row, rest) = self.rows.split_first()?;
-        self.rows = rest;
-        Some(History::from(*row))
+    // Whether it has none.
+    pub(crate) fn is_leftover(&self) -> bool
+        ensures { result ≡ is_leftover self.now }
+    {
+        !self.is_played()
     }
-}
-
-// Whether a draft has players.
-pub(crate) fn is_played(draft: &History) -> bool
-    ensures { result ≡ is_played (history_told draft.now) }
-{
-    0 < draft.count
-}
-
-// Whether it has none.
-pub(crate) fn is_leftover(draft: &History) -> bool
-    ensures { result ≡ is_leftover (history_told draft.now) }
-{
-    !is_played(draft)
 }

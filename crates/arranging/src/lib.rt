@@ -1,5 +1,4 @@
-// Histories from their drafts. A draft is a row as wide as a history's: its first and count lead to the country's players among their
-// sorted keys, and its human word is 2 more where the history is a released country's.
+// Histories from their drafts, which lead to the countries' players among their sorted keys.
 #![tactic(auto)]
 
 mod answers;
@@ -8,3 +7,4 @@ mod names;
 mod rows;
 
 pub use answers::{HistoryCounts, arrange_drafts};
+pub use drafts::Draft;

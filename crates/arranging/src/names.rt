@@ -2,43 +2,42 @@
 ghost use Rattle.std.specs.Prelude.{◌≡◌, map, ◌≤◌, length};
 ghost use Rattle.lists.specs.Lists.{all_of, sum_of, join_of};
 ghost use Rattle.rules.specs.Lent.{written};
-ghost use Rattle.arranging.specs.Drafts.{drafts_left};
 ghost use Rattle.arranging.specs.Arranging.{name_in, names_at, NamesFit, leads_within};
 
-use crate::drafts::Drafts;
-
-// The numbers of names that a key can hold: as many as `search::KEYS_PER_TAG`, of a crate that is not below this one.
-const NAME_NUMBERS: u64 = 65536;
+use crate::drafts::Draft;
+use search::KEYS_PER_TAG;
 
 // Whether each draft leads to keys that there are.
-pub(crate) fn lead_within(mut drafts: Drafts<'_>, keys: usize) -> bool
-    ensures { result ≡ all_of (leads_within keys) (drafts_left drafts.entry) }
+pub(crate) fn lead_within(drafts: &[Draft], keys: usize) -> bool
+    ensures { result ≡ all_of (leads_within keys) drafts.now }
 {
-    drafts.all(|draft| draft.first as usize + draft.count as usize <= keys)
+    drafts.iter().all(|draft| draft.first as usize + draft.count as usize <= keys)
 }
 
 // How many names the drafts have.
-pub(crate) fn count_names(drafts: Drafts<'_>) -> usize
-    requires { length (drafts_left drafts) ≤ 2000 }
-    ensures { result ≡ sum_of (λ d. d.count) (drafts_left drafts.entry) }
+pub(crate) fn count_names(drafts: &[Draft]) -> usize
+    requires { length drafts.now ≤ 2000 }
+    ensures { result ≡ sum_of (λ d. d.count) drafts.now }
 {
-    drafts.map(|draft| draft.count as usize).sum()
+    drafts.iter().map(|draft| draft.count as usize).sum()
 }
 
-// Writes the name of each key. By its index: a proof knows no cell that is written through a `zip` with `iter_mut`.
+// Writes the name of each key. By its index: a proof knows no cell that is written through a `zip` with `iter_mut`. The one loop of this crate that
+// fills cells from an iterator, so no `fill` stands beside it.
 fn copy_names(keys: &[u64], out: &mut [u32])
     requires { length keys.now ≤ length out.old }
     ensures { out.new ≡ written (map name_in keys.now) out.old }
 {
     for (i, key) in keys.iter().enumerate() {
-        out[i] = (*key % NAME_NUMBERS) as u32;
+        out[i] = (*key % KEYS_PER_TAG) as u32;
     }
 }
 
 // Writes the names of all drafts, by rising string number in each. Those without any write none, so the order of the histories is no matter.
-pub(crate) fn write_names(drafts: Drafts<'_>, keys: &[u64], out: &mut [u32])
-    requires { NamesFit (drafts_left drafts) keys.now out.old }
-    ensures { out.new ≡ written (join_of (names_at keys.now) (drafts_left drafts.entry)) out.old }
+// The offset is kept beside the walk: each draft has a number of names of its own.
+pub(crate) fn write_names(drafts: &[Draft], keys: &[u64], out: &mut [u32])
+    requires { NamesFit drafts.now keys.now out.old }
+    ensures { out.new ≡ written (join_of (names_at keys.now) drafts.now) out.old }
 {
     let mut at = 0;
     for draft in drafts {

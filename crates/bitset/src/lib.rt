@@ -5,6 +5,7 @@ ghost use Rattle.std.specs.Prelude.{◌≡◌};
 ghost use Rattle.bitset.specs.Bitset.{is_marked, marking};
 
 // Whether number k is marked. A number past the words is not.
+#[tactic(auto, unfolding(crate::specs::Bitset::is_marked, crate::specs::Bitset::has_bit))]
 pub fn marked(words: &[u64], k: usize) -> bool
     ensures { result ≡ is_marked words.now k }
 {
@@ -14,11 +15,12 @@ pub fn marked(words: &[u64], k: usize) -> bool
 }
 
 // Marks number k. Past the words it does nothing.
+#[tactic(auto, unfolding(crate::specs::Bitset::marking, crate::specs::Bitset::with_bit))]
 pub fn mark(words: &mut [u64], k: usize)
     ensures { words.new ≡ marking words.old k }
 {
     let at = k / 64;
-    // Not by `get_mut`: nothing can be proved of a cell that is written through it.
+    // Not by `get_mut`: of what is written through it, the slice's contract tells its length alone.
     if at < words.len() {
         words[at] |= 1 << (k % 64);
     }

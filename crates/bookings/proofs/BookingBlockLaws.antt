@@ -2,6 +2,7 @@
 use mathlib.Core.Path.{◌≡◌, refl, sym, ap, ap₂, ◌∙◌}
 use mathlib.Core.Bool.{true}
 use mathlib.Core.List.{List, [], ◌∷◌, ◌++◌, map}
+use mathlib.Core.Option
 use mathlib.Core.Option.{Option, none, some}
 use Prim.Native.Nat.{ℕ, ◌+◌, ◌*◌, ◌<◌, ◌≤◌}
 use native.Mathlib.Nat.{mod-eq_of_lt}
@@ -21,12 +22,12 @@ use Rattle.claims.specs.Claims.{claims_in, best_of, is_asked, claim_day}
 use Rattle.questions.specs.Layout.{row_owners}
 use Rattle.questions.specs.Keys.{keys_from}
 use Rattle.questions.specs.Holding.{HoldsBlock, HoldsAll}
-use Rattle.questions.specs.Passes.{claim_words}
+use Rattle.questions.specs.Passes.{claim_words, row_owner}
 use Rattle.questions.proofs.AnsweredLaws.{Has, greatest-has}
 use Rattle.questions.proofs.GoodLaws.{SoundClaim, claims-sound}
 use Rattle.questions.proofs.HoldingLaws.{block-good}
 use Rattle.questions.proofs.RowsLaws.{block-updated}
-use Rattle.bookings.specs.Passes.{rows_by, best_booking_row, held_row, owner_stored, final_row, claim_stored, claimed_row, GoodJoining}
+use Rattle.bookings.specs.Passes.{rows_by, best_booking_row, held_row, stored_tag, final_row, claimed_row, GoodJoining}
 use Rattle.bookings.proofs.RowsByLaws.{rows-twice, rows_same, rows_join, rows-blank, best-wide}
 
 -- Each row has the best of the claims passed.
@@ -54,7 +55,7 @@ joinings-hold ws es js before shaped good passed ys left behind e few =
 
 module _ (ws es : List ℕ) (shaped : well_shaped ws es ≡ true) (few : length (nation_rows_in ws) < row_owners) where
   turn : (j : Joining) (o : Option Claim) → Has claim_day claim_day (SoundClaim (length (nation_rows_in ws))) o
-      → owner_stored ws j.tag (get_or (0 ∷ claim_words o) 2 0) ≡ claim_stored ws j.tag o
+      → stored_tag ws j.tag (row_owner (get_or (0 ∷ claim_words o) 2 0)) ≡ stored_tag ws j.tag (Option.map (λ c. c.nation) o)
   turn j none h = refl
   turn j (some c) h = let small : c.nation < row_owners = let t = h.there in omega arith in rw (mod-eq_of_lt small, add-one c.nation)
 

@@ -1,12 +1,12 @@
 -- The outcomes of `war_participants`, by case: the record's number, 11, 10, or the rows.
 use mathlib.Core.Path.{◌≡◌, refl, sym, ap, ap₂, ◌∙◌}
-use mathlib.Core.Bool.{Bool, true, false, cond, not}
+use mathlib.Core.Bool.{Bool, true, false, cond}
 use mathlib.Core.List.{List, [], ◌∷◌, ◌++◌, map}
 use mathlib.Core.Option
 use mathlib.Core.Option.{Option, none, some, get_or}
 use Prim.Native.Nat.{ℕ, ◌*◌, ◌/◌, ◌≤◌, ◌<◌}
 use native.Mathlib.Omega.{arith}
-use borrow.Author.Tests.{le-leb, lt-leb, not-true, not-false}
+use borrow.Author.Tests.{le-leb, lt-leb}
 use lib.ListN.{length, drop, length-map}
 use Rattle.lists.specs.Lists.{join_of}
 use Rattle.format.specs.declared.tag.CountryTag.{CountryTag}
@@ -29,7 +29,7 @@ use Rattle.format.specs.declared.refused.Refusal.{Refusal}
 use Rattle.format.specs.Refused.{refusal_number}
 use Rattle.record.proofs.ToldLaws.{refusal_above}
 use Rattle.bookings.specs.Cases.{bookings_outcome}
-use Rattle.bookings.specs.Passes.{rows_by, claim_stored, claimed_row}
+use Rattle.bookings.specs.Passes.{rows_by, stored_tag, claimed_row}
 use Rattle.bookings.proofs.JoiningLaws.{few-joinings}
 use Rattle.bookings.proofs.RowsByLaws.{rows_join}
 
@@ -37,13 +37,13 @@ use Rattle.bookings.proofs.RowsByLaws.{rows_join}
 
 -- The stored tag by the best claim is that of the rules.
 claimed-stored : (ws es : List ℕ) → well_shaped ws es ≡ true → (j : Joining)
-    → claim_stored ws j.tag (best_of j.tag j.date (claims_in ws es)) ≡ get_or (Option.map (λ d. d.stored) (resolve (nations_in ws es) j.tag j.date)) j.tag
+    → stored_tag ws j.tag (Option.map (λ c. c.nation) (best_of j.tag j.date (claims_in ws es))) ≡ get_or (Option.map (λ d. d.stored) (resolve (nations_in ws es) j.tag j.date)) j.tag
 unfolding resolve
 claimed-stored ws es shaped j =
     go (best_of j.tag j.date (claims_in ws es))
     ∙ ap (λ n. get_or (Option.map (λ d. d.stored) (Option.map plain_data n)) j.tag) (claim-resolved ws es j.tag j.date shaped)
   where
-    go : (o : Option Claim) → claim_stored ws j.tag o ≡ get_or (Option.map (λ d. d.stored) (Option.map plain_data (Option.map (claim_nation ws es) o))) j.tag
+    go : (o : Option Claim) → stored_tag ws j.tag (Option.map (λ c. c.nation) o) ≡ get_or (Option.map (λ d. d.stored) (Option.map plain_data (Option.map (claim_nation ws es) o))) j.tag
     go none = refl
     go (some c) = refl
 
@@ -78,22 +78,19 @@ module _ (xs ws es before : List ℕ) where
       let first : number ≡ refusal_number e = first-stop (refusal xs) _ (λ z. omega arith) ∙ sym t in
       sym (rw first (outcome-refused (refusal_number e) (length bookings) (written rows before) before above))
 
-  -- The code has opened the record, and tested the shape, s.
-  module _ (z : refusal xs ≡ 0) (s : Bool) (e : s ≡ well_shaped ws es) where
-    pub bookings-torn : not s ≡ true → record { answer = refused 11; memory = before } ≡ call_war_participants xs ws es before
+  -- The code has opened the record.
+  module _ (z : refusal xs ≡ 0) where
+    -- What `open` refused.
+    pub bookings-torn : (k : ℕ) → 0 < k → k ≡ cond (well_shaped ws es) 0 11 → record { answer = refused k; memory = before } ≡ call_war_participants xs ws es before
     unfolding call_war_participants number rows bookings
-    bookings-torn h =
-        let t = sym e ∙ not-true s h in
-        let first : number ≡ 11 =
+    bookings-torn k more e =
+        let first : number ≡ k =
         first-pass (refusal xs) _ z
-        ∙ (ap (λ (n : ℕ). first_of (n ∷ room_number (fits rows before) ∷ [])) (ap (λ (b : Bool). cond b 0 11) t) ∙ first-stop 11 _ (λ q. omega arith)) in
-        sym (rw first (outcome-refused 11 (length bookings) (written rows before) before (omega arith)))
+        ∙ (ap (λ (n : ℕ). first_of (n ∷ room_number (fits rows before) ∷ [])) (sym e) ∙ first-stop k _ (λ q. omega arith)) in
+        sym (rw first (outcome-refused k (length bookings) (written rows before) before more))
 
-    -- And counted the joinings.
-    module _ (well : not s ≡ false) (n : ℕ) (m : n ≡ length (joinings_of (campaign_of xs))) where
-      pub bookings-shaped : well_shaped ws es ≡ true
-      bookings-shaped = sym e ∙ not-false s well
-
+    -- The chronicle is well shaped, and the joinings are counted.
+    module _ (bookings-shaped : well_shaped ws es ≡ true) (n : ℕ) (m : n ≡ length (joinings_of (campaign_of xs))) where
       last-number : number ≡ room_number (fits rows before)
       unfolding number rows bookings
       last-number =

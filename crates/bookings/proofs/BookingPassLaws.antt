@@ -1,10 +1,15 @@
 -- A pass over the rows beside a walk: what is left to do, done on the words as they are, gives what all gives on the words before.
-use mathlib.Core.Path.{◌≡◌, sym, ap, ap₂, ◌∙◌}
-use mathlib.Core.List.{List, [], ◌∷◌, ◌++◌, append_assoc}
-use Prim.Native.Nat.{ℕ, suc, ◌+◌, ◌*◌, ◌≤◌}
+use mathlib.Core.Path.{◌≡◌, refl, sym, ap, ap₂, ◌∙◌}
+use mathlib.Core.Bool.{true}
+use mathlib.Core.List.{List, [], ◌∷◌, ◌++◌, append_assoc, append-nil}
+use Prim.Native.Nat.{ℕ, ◌+◌, ◌-◌, ◌*◌, ◌≤◌}
 use native.Mathlib.Omega.{arith}
-use lib.ListN.{length, take, drop, get_or, set, length-append, length-drop, take-append-drop}
-use lib.Seq.{take_at, drop_at, drop-cons, drop-drop, length-take-le, sets-eq}
+use borrow.Author.Tests.{le-leb}
+use lib.Dec.{leb}
+use lib.ListN.{length, take, drop, length-append, length-drop, take-append-drop}
+use lib.Seq.{take_at, drop_at, drop-drop, length-take-le, take_all}
+use Rattle.std.proofs.lemmas.List.{drop_all}
+use Rattle.chronicle_rows.specs.RowAt as Cells
 use Rattle.rules.specs.Bookings.{Joining}
 use Rattle.bookings.specs.Passes.{row_here, row_put, rows_by}
 
@@ -49,33 +54,30 @@ module _ (row : Joining → List ℕ → List ℕ) (all : List Joining) (before 
 
 -- ## One row
 
--- The three words that stand there.
-here-three : (out : List ℕ) (k : ℕ) → k + 3 ≤ length out → row_here k out ≡ get_or out k 0 ∷ get_or out (k + 1) 0 ∷ get_or out (k + 2) 0 ∷ []
-here-three out k h =
-    let e : suc k ≡ k + 1 = omega arith in
-    let f : suc (k + 1) ≡ k + 2 = omega arith in
-    ap (take 3)
-    (drop-cons out k 0 (omega arith)
-    ∙ ap (λ (l : List ℕ). get_or out k 0 ∷ l)
-    (ap (λ (n : ℕ). drop n out) e ∙ drop-cons out (k + 1) 0 (omega arith)
-    ∙ ap (λ (l : List ℕ). get_or out (k + 1) 0 ∷ l) (ap (λ (n : ℕ). drop n out) f ∙ drop-cons out (k + 2) 0 (omega arith))))
+-- The row was made anew at the front of the cells from its place on, which are as many as before: so it has three words.
+row-made : (row : List ℕ → List ℕ) (out made : List ℕ) (k : ℕ) → k + 3 ≤ length out
+    → made ≡ Cells.row_put 3 (row (take 3 (take (length out - k) (drop k out)))) (take (length out - k) (drop k out)) → length made ≡ length (take (length out - k) (drop k out))
+    → (length (row (row_here k out)) ≡ 3) × (take k out ++ (made ++ drop (length out - k) (drop k out)) ≡ row_put k (row (row_here k out)) out)
+row-made row out made k h e l =
+    let cells : List ℕ = drop k out in
+    let words : List ℕ = row (row_here k out) in
+    let many : length cells ≡ length out - k = length-drop k out in
+    let all : take (length out - k) cells ≡ cells = take_all (length out - k) cells (omega (arith, many)) in
+    let over : drop (length out - k) cells ≡ [] = drop_all (length out - k) cells (omega (arith, many)) in
+    let room : leb 3 (length cells) ≡ true = le-leb 3 (length cells) (omega (arith, many)) in
+    let put : made ≡ words ++ drop (k + 3) out = (rw all at e) ∙ rw (room, drop-drop 3 k out) refl in
+    let long : length words + length (drop (k + 3) out) ≡ length cells = sym (length-append words (drop (k + 3) out)) ∙ sym (ap length put) ∙ (rw all at l) in (
+      omega (arith, long, many, length-drop (k + 3) out),
+      ap₂ (λ (x y : List ℕ). take k out ++ (x ++ y)) put over ∙ ap (λ (x : List ℕ). take k out ++ x) (append-nil _),
+    )
 
--- Three stores.
-put-three : (out : List ℕ) (k a b c : ℕ) → k + 3 ≤ length out → set (set (set out k a) (k + 1) b) (k + 2) c ≡ row_put k (a ∷ b ∷ c ∷ []) out
-put-three out k a b c h =
-    let e : k + 1 ≡ suc k = omega arith in
-    let f : k + 2 ≡ suc (suc k) = omega arith in
-    rw (e, f) (sets-eq (a ∷ b ∷ c ∷ []) out k h ∙ append_assoc (take k out) (a ∷ b ∷ c ∷ []) (drop (k + 3) out))
-
--- The same, of the words that the code made of the row.
-pub row-stored : (row : Joining → List ℕ → List ℕ) (j : Joining) (out : List ℕ) (k : ℕ) (words : List ℕ) → k + 3 ≤ length out → length words ≡ 3
-    → words ≡ row j (get_or out k 0 ∷ get_or out (k + 1) 0 ∷ get_or out (k + 2) 0 ∷ [])
-    → (length (row j (row_here k out)) ≡ 3)
-    × (set (set (set out k (get_or words 0 0)) (k + 1) (get_or words 1 0)) (k + 2) (get_or words 2 0) ≡ row_put k (row j (row_here k out)) out)
-row-stored row j out k (a ∷ b ∷ c ∷ []) h l e =
-    let same : a ∷ b ∷ c ∷ [] ≡ row j (row_here k out) = e ∙ ap (row j) (sym (here-three out k h)) in
-    (ap length (sym same), put-three out k a b c h ∙ ap (λ (r : List ℕ). row_put k r out) same)
-row-stored row j out k [] h l e = absurd (omega arith)
-row-stored row j out k (a ∷ []) h l e = absurd (omega arith)
-row-stored row j out k (a ∷ b ∷ []) h l e = absurd (omega arith)
-row-stored row j out k (a ∷ b ∷ c ∷ d ∷ words) h l e = absurd (omega arith)
+-- Row number i was made, as the code counts and as it leaves the words.
+pub passing-made : (row : Joining → List ℕ → List ℕ) (all : List Joining) (before : List ℕ) (left rest : List Joining) (j : Joining) (i at next : ℕ) (now made : List ℕ)
+    → Passing row all before left (3 * i) now → left ≡ j ∷ rest → at ≡ i → next ≡ i + 1
+    → made ≡ Cells.row_put 3 (row j (take 3 (take (length now - 3 * at) (drop (3 * at) now)))) (take (length now - 3 * at) (drop (3 * at) now))
+    → length made ≡ length (take (length now - 3 * at) (drop (3 * at) now))
+    → Passing row all before rest (3 * next) (take (3 * at) now ++ (made ++ drop (length now - 3 * at) (drop (3 * at) now)))
+passing-made row all before left rest j i at next now made p e a b m l =
+    let r = row-made (row j) now made (3 * i) (passing-room row all before p e) (rw a at m) (rw a at l) in
+    let three : 3 * next ≡ 3 * i + 3 = omega arith in
+    rw (a, three) (passing-next row all before p e r.0 _ r.1)

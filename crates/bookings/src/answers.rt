@@ -4,9 +4,9 @@ ghost use Rattle.rules.specs.Outcomes.{call_war_participants};
 ghost use Rattle.bookings.specs.Cases.{bookings_outcome};
 
 use crate::joinings::Joinings;
-use crate::passes::book_rows;
+use crate::passes::{CountedJoinings, book_rows};
 use crate::rows::BOOKING_WIDTH;
-use chronicle_rows::is_well_shaped;
+use chronicle_rows::Chronicle;
 use format::Refusal;
 use record::open_record;
 
@@ -22,14 +22,12 @@ pub fn war_participants(
     ensures { bookings_outcome result out.new ≡ call_war_participants s.now nations.now entries.now out.old }
 {
     let record = open_record(s)?;
-    if !is_well_shaped(nations, entries) {
-        return Err(Refusal::NotShaped);
-    }
+    let chronicle = Chronicle::open(nations, entries)?;
     let joinings = Joinings::of(record.wars);
     let n = joinings.count();
     if out.len() / BOOKING_WIDTH < n {
         return Err(Refusal::NoRoom);
     }
-    book_rows(joinings, n, nations, entries, out);
+    book_rows(CountedJoinings { joinings, n }, chronicle, out);
     Ok(n)
 }

@@ -57,7 +57,8 @@ impl<'a> Iterator for Joinings<'a> {
 
     ghost remaining = { item_count joinings_left };
 
-    // A `while let`: of events and wars either may come to its end, and what is left of both, with the war's number, is the iterator's own. The invariant speaks of these at once: so they are set together.
+    // A `while let`: of events and wars either may come to its end, and what is left of both, with the war's number, is the iterator's own. The
+    // invariant speaks of these at once: so they are set together.
     fn next(&mut self) -> Option<Joining> {
         let mut war = self.war;
         let mut at = self.events;

@@ -4,13 +4,13 @@ ghost use Rattle.std.specs.Prelude.{◌≡◌, List, ℕ};
 ghost use Rattle.lists.specs.Options.{option_of};
 ghost use Rattle.rules.specs.Bookings.{Joining as RulesJoining};
 ghost use Rattle.bookings.specs.Walking.{joining_of};
-ghost use Rattle.bookings.specs.Passes.{held_row, owner_stored, final_row, claim_stored, claimed_row};
+ghost use Rattle.bookings.specs.Passes.{held_row, stored_tag, final_row, claimed_row};
 
 use crate::joinings::Joining;
-use chronicle_rows::nation_at;
-use claims::{Claim, best_claim};
+use chronicle_rows::{Chronicle, nation_at};
+use claims::best_claim;
 use format::CountryTag;
-use questions::ClaimBlock;
+use questions::{ClaimBlock, row_owner};
 
 // How many words a row has.
 pub(crate) const BOOKING_WIDTH: usize = 3;
@@ -30,7 +30,7 @@ pub(crate) struct HoldBlock<'a> {
 }
 
 impl Pass for HoldBlock<'_> {
-    ghost row_of = { λ pass. held_row pass.block.keys.now pass.block.owners.now };
+    ghost row_of = { λ pass. held_row pass.block.sorted.keys.now pass.block.owners.now };
 
     fn row(&self, joining: Joining, before: [u32; BOOKING_WIDTH]) -> [u32; BOOKING_WIDTH] {
         let [_, best, owner] = before;
@@ -41,12 +41,12 @@ impl Pass for HoldBlock<'_> {
     }
 }
 
-// The stored tag of the nation whose number plus 1 a row holds; for none the tag itself.
-fn owner_stored(nations: &[u32], owner: u32, tag: CountryTag) -> CountryTag
-    ensures { result ≡ owner_stored nations.now tag owner }
+// The stored tag of a nation by its number; for none the tag itself.
+fn stored_tag(nations: &[u32], nation: Option<usize>, tag: CountryTag) -> CountryTag
+    ensures { result ≡ stored_tag nations.now tag (option_of nation) }
 {
-    match owner.checked_sub(1) {
-        Some(number) => nation_at(nations, number as usize).stored,
+    match nation {
+        Some(number) => nation_at(nations, number).stored,
         None => tag,
     }
 }
@@ -62,34 +62,24 @@ impl Pass for Finish<'_> {
 
     fn row(&self, joining: Joining, before: [u32; BOOKING_WIDTH]) -> [u32; BOOKING_WIDTH] {
         let [_, _, owner] = before;
-        let stored = owner_stored(self.nations, owner, joining.tag);
+        let stored = stored_tag(self.nations, row_owner(owner), joining.tag);
         [joining.war, joining.tag.into(), stored.into()]
-    }
-}
-
-// The stored tag of a claim's nation; for none the tag itself.
-fn claim_stored(nations: &[u32], best: Option<Claim>, tag: CountryTag) -> CountryTag
-    ensures { result ≡ claim_stored nations.now tag (option_of best) }
-{
-    match best {
-        Some(claim) => nation_at(nations, claim.nation).stored,
-        None => tag,
     }
 }
 
 // Books a joining by a pass over the whole chronicle.
 #[derive(Clone, Copy)]
 pub(crate) struct BookEach<'a> {
-    pub(crate) nations: &'a [u32],
-    pub(crate) entries: &'a [u32],
+    pub(crate) chronicle: Chronicle<'a>,
 }
 
 impl Pass for BookEach<'_> {
-    ghost row_of = { λ pass j _. claimed_row pass.nations.now pass.entries.now j };
+    ghost row_of = { λ pass j _. claimed_row pass.chronicle.nations.now pass.chronicle.entries.now j };
 
     fn row(&self, joining: Joining, _before: [u32; BOOKING_WIDTH]) -> [u32; BOOKING_WIDTH] {
-        let best = best_claim(self.nations, self.entries, joining.tag, joining.date);
-        let stored = claim_stored(self.nations, best, joining.tag);
+        let best = best_claim(self.chronicle, joining.tag, joining.date);
+        let nation = best.map(|claim| claim.nation);
+        let stored = stored_tag(self.chronicle.nations, nation, joining.tag);
         [joining.war, joining.tag.into(), stored.into()]
     }
 }

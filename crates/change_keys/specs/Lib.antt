@@ -1,1 +1,2 @@
 pub mod ChangeSteps
+pub mod Giving

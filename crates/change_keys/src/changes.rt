@@ -1,7 +1,9 @@
 // Owner changes: an event that gives a province to another tag than it has is a change.
-ghost use Rattle.std.specs.Prelude.{◌≡◌};
-ghost use Rattle.std.specs.Iterator.{YieldsFirstBy, item_count};
+ghost use Rattle.std.specs.Prelude.{◌≡◌, List};
+ghost use Rattle.std.specs.Iterator.{AlwaysYields, IsFinite, YieldsFirstBy, item_count};
+ghost use Rattle.rules.specs.Chronicle.{Change};
 ghost use Rattle.change_keys.specs.ChangeSteps.{change_of, changes_ahead, changes_left};
+ghost use Rattle.change_keys.specs.Giving.{changes_give};
 
 use record::{CountryTag, Eu4Date, ProvinceId, ProvinceRow, Provinces};
 
@@ -12,6 +14,18 @@ pub struct OwnerChange {
     pub id: ProvinceId,
     pub from: CountryTag,
     pub to: CountryTag,
+}
+
+// An iterator over changes that may always be asked, and comes to its end.
+pub trait Changing: Iterator<Item = OwnerChange> + Drop {
+    // The changes that it has left.
+    ghost left: { Self → List Change };
+
+    ghost gives: { (changes : Self) → AlwaysYields Self.Iterator.next_gives change_of changes (left changes) };
+
+    ghost can: { (changes : Self) → Self.Iterator.can_next changes };
+
+    ghost ends: { (changes : Self) → IsFinite (Self.Iterator.remaining changes) };
 }
 
 // An iterator over changes in entry order. The row of the province at hand is kept as its slot stands: its owner is the tag of the last event
@@ -60,4 +74,14 @@ impl<'a> Iterator for Changes<'a> {
         }
         None
     }
+}
+
+impl Changing for Changes<'_> {
+    ghost left = { changes_left };
+
+    ghost gives = { changes_give };
+
+    ghost can = { λ c. tt };
+
+    ghost ends = { λ c. tt };
 }

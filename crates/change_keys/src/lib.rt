@@ -4,8 +4,5 @@
 mod changes;
 mod keys;
 
-pub use changes::{Changes, OwnerChange};
-pub use keys::{
-    CHANGE_WIDTH, MOST_CHANGES, PER_DATE, PER_ID, fill_keys, fill_row_keys, fill_row_tags,
-    fill_tags,
-};
+pub use changes::{Changes, Changing, OwnerChange};
+pub use keys::{CHANGE_WIDTH, MOST_CHANGES, PER_DATE, PER_ID, fill_keys, fill_tags};

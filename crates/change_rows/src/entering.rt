@@ -26,7 +26,8 @@ pub(crate) fn has_room(provinces: Provinces, room: usize) -> bool
     Changes::of(provinces).nth(room).is_none()
 }
 
-// Writes the row of each change in entry order, and counts on the way how often one goes before the one in front of it: their keys tell.
+// Writes the row of each change in entry order, and counts on the way how often one goes before the one in front of it: their keys tell. The
+// changes are counted by hand, as their count is returned.
 pub(crate) fn enter_rows(provinces: Provinces, out: &mut [u32]) -> Walked
     requires { change_width * length (changes_ahead provinces) ≤ length out.old }
     ensures { RowsEntered provinces.entry result out.old out.new }

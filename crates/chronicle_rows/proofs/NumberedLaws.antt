@@ -1,7 +1,7 @@
 -- What a caller knows of a well-shaped chronicle: each nation's entries lie inside the entry rows, every date is good, and the nations
 -- that the words tell are those of the numbers from 0 on.
 use mathlib.Core.Path.{◌≡◌, refl, ap, ◌∙◌}
-use mathlib.Core.Bool.{Bool, true, ◌&&◌}
+use mathlib.Core.Bool.{Bool, true, cond, ◌&&◌}
 use mathlib.Core.List.{List, [], ◌∷◌, map}
 use Prim.Native.Nat.{ℕ, zero, suc, ◌+◌, ◌<◌, ◌≤◌}
 use native.Mathlib.Numerals.{add-one}
@@ -105,3 +105,9 @@ module _ (ws es : List ℕ) (shaped : well_shaped ws es ≡ true) where
       ap (map (nation_at (entry_rows_in es))) (dropped-numbers (nation_rows_in ws) (nation_row_at ws) (nations-next ws) n 0 (omega arith))
       ∙ (map-then (nation_row_at ws) (nation_at (entry_rows_in es)) (numbers_from 0 n)
       ∙ map_same _ _ (numbers_from 0 n) (all_map (λ i h. nation-entries i (omega (arith, h.1))) (numbers_from 0 n) (numbers-range 0 n)))
+
+-- ## Opened
+
+-- A chronicle that `open` gave is well shaped.
+pub opened_shaped : (ws es : List ℕ) → ◌≡◌ {A = ℕ} 0 (cond (well_shaped ws es) 0 11) → well_shaped ws es ≡ true
+opened_shaped ws es e = cases (well_shaped ws es) (λ h. h) (λ h. let n : ◌≡◌ {A = ℕ} 0 11 = rw h at e in absurd (omega arith))

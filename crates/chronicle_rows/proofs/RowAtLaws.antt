@@ -7,6 +7,8 @@ use lib.ListN.{length, get_or, take, drop, length-map}
 use lib.Seq.{drop-cons}
 use Rattle.std.specs.Simd.{first_chunks}
 use Rattle.lists.specs.Lists.{rows_in, whole_rows}
+use Rattle.lists.proofs.ListLaws.{map-then}
+use Rattle.chronicle_rows.specs.Cases.{nation_told, nation_of}
 use Rattle.format.specs.declared.date.Eu4Date.{Eu4Date}
 use Rattle.rules.specs.NationRows.{nation_width, nation_row_of, entry_width, entry_row_of, nation_rows_in, entry_rows_in}
 use Rattle.chronicle_rows.specs.RowAt.{nation_row_at, entry_row_at}
@@ -64,6 +66,11 @@ module _ (ws : List ℕ) where
     unfolding nation_row_at nation_rows_in
     nations-next h = rows_next nation_width nation_row_of ws i h
 
+-- The rows that an iterator over the words has left are what the words make.
+pub nations_told : (ws : List ℕ) → map nation_told (map nation_of (first_chunks nation_width (length ws / nation_width) ws)) ≡ nation_rows_in ws
+unfolding nation_rows_in
+nations_told ws = map-then nation_of nation_told (first_chunks nation_width (length ws / nation_width) ws) ∙ ap (map nation_row_of) (chunks-rows nation_width (length ws / nation_width) ws)
+
 -- ## Entry rows
 
 -- A row whose date has this word.
@@ -71,10 +78,6 @@ pub entry-row : (d : Eu4Date) (w kind target : ℕ) → d.0 ≡ w → record { d
 entry-row d w kind target e = rw (← e)
 
 module _ (es : List ℕ) where
-  pub entry_rows_count : length es / entry_width ≡ length (entry_rows_in es)
-  unfolding entry_rows_in
-  entry_rows_count = rows-count entry_width entry_row_of es
-
   module _ (i : ℕ) where
     pub entry_here : entry_row_of (get_or (first_chunks entry_width (length es / entry_width) es) i (0 ∷ 0 ∷ 0 ∷ [])) ≡ entry_row_at es i
     unfolding entry_row_at entry_rows_in

@@ -1,13 +1,20 @@
 -- The rows of lent words by their number, from 0. Past the last one stands the row of no words, all zeros.
-use Rattle.std.specs.Prelude.{List, [], map, ℕ, length, get_or}
+use Rattle.std.specs.Prelude.{cond, List, [], ◌++◌, map, ℕ, leb, length, get_or, drop}
 use Rattle.lists.specs.Lists.{numbers_from}
 use Rattle.format.specs.declared.tag.CountryTag.{CountryTag}
 use Rattle.rules.specs.Chronicle.{Entry, Nation}
+use Rattle.chronicle_rows.specs.declared.rows.LentRows.{LentRows}
+use Rattle.chronicle_rows.specs.declared.rows.Nation as Nation
+use Rattle.chronicle_rows.specs.Cases.{nation_told, nation_of}
 use Rattle.rules.specs.NationRows.{NationRow, nation_row_of, EntryRow, entry_row_of, entry_of, nation_rows_in, entry_rows_in}
 
 -- Nation row number i.
 unfoldable pub nation_row_at : List ℕ → ℕ → NationRow
 nation_row_at ws i = get_or (nation_rows_in ws) i (nation_row_of [])
+
+-- The nation rows that an iterator has left.
+abbrev pub nations_left : LentRows Nation.Nation 5 → List NationRow
+nations_left rows = map nation_told (map nation_of rows.rows.now)
 
 -- Entry row number i.
 unfoldable pub entry_row_at : List ℕ → ℕ → EntryRow
@@ -38,3 +45,7 @@ stored_tags ws a n = map (λ i. (nation_row_at ws i).stored) (numbers_from a n)
 -- Of all nations.
 abbrev pub tags_stored : List ℕ → List CountryTag
 tags_stored ws = stored_tags ws 0 (length (nation_rows_in ws))
+
+-- Cells with a row of a width in front; fewer than the row has stay as they are.
+abbrev pub row_put : ℕ → List ℕ → List ℕ → List ℕ
+row_put width row cells = cond (leb width (length cells)) (row ++ drop width cells) cells

@@ -1,12 +1,15 @@
-// Nation rows and entry rows by their number, from 0. A number past the last row gives a row of zeros.
-ghost use Rattle.std.specs.Prelude.{◌≡◌, ◌/◌, ◌^◌, ◌<◌, length, get_or, replicate};
+// Rows of lent words: by an iterator, by their number from 0, and written. A number past the last row gives a row of zeros and no Option: the rules read
+// it so, and in a well-shaped chronicle no row leads there.
+ghost use Rattle.std.specs.Prelude.{◌≡◌, List, ℕ, ◌/◌, ◌^◌, ◌<◌, leb, map, length, get_or, replicate};
+ghost use Rattle.std.specs.Iterator.{YieldsFirst, item_count};
 ghost use Rattle.std.specs.Simd.{first_chunks};
 ghost use Rattle.std.proofs.Common.{lit<};
-ghost use Rattle.rules.specs.NationRows.{nation_row_of, entry_row_of, entry_of, nation_rows_in, entry_rows_in, kind_of};
-ghost use Rattle.chronicle_rows.specs.Cases.{nation_told, kind_told, entry_told};
-ghost use Rattle.chronicle_rows.specs.RowAt.{nation_row_at, entry_at};
+ghost use Rattle.rules.specs.NationRows.{nation_rows_in, nation_row_words, entry_row, entry_row_words};
+ghost use Rattle.chronicle_rows.specs.Cases.{nation_told, nation_of, entry_told, entry_in, kind_in};
+ghost use Rattle.chronicle_rows.specs.RowAt.{nation_row_at, entry_at, row_put};
 
 use format::{CountryTag, Eu4Date};
+use std::marker::PhantomData;
 
 // How many words a nation row has.
 pub const NATION_WIDTH: usize = 5;
@@ -16,9 +19,55 @@ pub const ENTRY_WIDTH: usize = 3;
 
 // A row of so many words, one at least, and not so wide that its width is no size of memory.
 pub trait Row<const WIDTH: usize>: From<[u32; WIDTH]> {
+    // What words tell.
+    ghost told: { List ℕ → Self };
+
+    ghost read: { (words : List ℕ) (row : Self) → Self.From.from_gives words row → row ≡ told words };
+
     ghost some: { 0 < WIDTH };
 
     ghost narrow: { WIDTH < 2 ^ 16 };
+}
+
+// An iterator over the whole rows of lent words, which are read as they are asked for. Words behind the last whole row count for nothing.
+// Not one type with `Rows` (record): those rows are bytes, and are read by `Packed`.
+#[derive(Clone, Copy)]
+pub struct LentRows<'a, R, const WIDTH: usize> {
+    pub(crate) rows: &'a [[u32; WIDTH]],
+    pub(crate) told: PhantomData<R>,
+}
+
+impl<'a, R: Row<WIDTH>, const WIDTH: usize> LentRows<'a, R, WIDTH> {
+    // The rows of the words.
+    pub fn of(words: &'a [u32]) -> Self
+        ensures { map R.told result.rows.now ≡ map R.told (first_chunks WIDTH (length words.now / WIDTH) words.now) }
+    {
+        LentRows {
+            rows: words.as_chunks().0,
+            told: PhantomData,
+        }
+    }
+
+    // How many rows are left.
+    pub fn len(&self) -> usize
+        ensures { result ≡ length (map R.told self.now.rows.now) }
+    {
+        self.rows.len()
+    }
+}
+
+impl<R: Row<WIDTH>, const WIDTH: usize> Iterator for LentRows<'_, R, WIDTH> {
+    type Item = R;
+
+    ghost next_gives = { YieldsFirst (λ rows. map R.told rows.rows.now) };
+
+    ghost remaining = { item_count (λ rows. map R.told rows.rows.now) };
+
+    fn next(&mut self) -> Option<R> {
+        let (row, rest) = self.rows.split_first()?;
+        self.rows = rest;
+        Some(R::from(*row))
+    }
 }
 
 // Row number i of the words; past the last one that of zeros.
@@ -27,6 +76,18 @@ pub fn row_at<R: Row<WIDTH>, const WIDTH: usize>(words: &[u32], i: usize) -> R
 {
     let rows = words.as_chunks::<WIDTH>().0;
     R::from(rows.get(i).copied().unwrap_or([0; WIDTH]))
+}
+
+// Writes a row at the front of the cells, and says whether there was room for it; without room they stay as they are.
+pub fn put<const WIDTH: usize>(row: [u32; WIDTH], out: &mut [u32]) -> bool
+    ensures room { result ≡ leb WIDTH (length out.old) }
+    ensures cells { out.new ≡ row_put WIDTH row.entry out.old }
+{
+    let Some(cells) = out.first_chunk_mut::<WIDTH>() else {
+        return false;
+    };
+    *cells = row;
+    true
 }
 
 // A nation row: three tags, the number of its first entry row, and how many it has.
@@ -47,6 +108,9 @@ pub enum Kind {
     Annexed,
 }
 
+// The nation rows of lent words.
+pub type Nations<'a> = LentRows<'a, Nation, NATION_WIDTH>;
+
 // An entry of a nation: what it tells, and from which date on.
 #[derive(Clone, Copy, Debug, PartialEq, Eq)]
 pub struct Entry {
@@ -62,17 +126,9 @@ pub fn nation_count(nations: &[u32]) -> usize
     nations.len() / NATION_WIDTH
 }
 
-// How many entry rows the words make.
-#[tactic(auto, using(crate::proofs::RowAtLaws::entry_rows_count))]
-pub fn entry_count(entries: &[u32]) -> usize
-    ensures { result ≡ length (entry_rows_in entries.now) }
-{
-    entries.len() / ENTRY_WIDTH
-}
-
 // What a nation row's words tell. Anybody may have written them, and reading refuses none: `is_well_shaped` tests every tag.
 impl From<[u32; NATION_WIDTH]> for Nation {
-    ghost from_gives = { λ row nation. nation_told nation ≡ nation_row_of row };
+    ghost from_gives = { λ row nation. nation ≡ nation_of row };
 
     fn from(row: [u32; NATION_WIDTH]) -> Nation {
         let [initial, latest, stored, first, count] = row;
@@ -88,7 +144,7 @@ impl From<[u32; NATION_WIDTH]> for Nation {
 
 // What an entry row's words tell, whatever they are: `is_well_shaped` tests the date, the kind and the target.
 impl From<[u32; ENTRY_WIDTH]> for Entry {
-    ghost from_gives = { λ row entry. entry_told entry ≡ entry_of (entry_row_of row) };
+    ghost from_gives = { λ row entry. entry ≡ entry_in row };
 
     fn from(row: [u32; ENTRY_WIDTH]) -> Entry {
         let [date, kind, target] = row;
@@ -99,13 +155,50 @@ impl From<[u32; ENTRY_WIDTH]> for Entry {
     }
 }
 
+// The words of a nation row: initial, latest, stored, first entry, how many.
+impl From<Nation> for [u32; NATION_WIDTH] {
+    ghost from_gives = { λ nation row. row ≡ nation_row_words (nation_told nation) };
+
+    fn from(nation: Nation) -> [u32; NATION_WIDTH] {
+        [
+            u32::from(nation.initial),
+            u32::from(nation.latest),
+            u32::from(nation.stored),
+            nation.first,
+            nation.count,
+        ]
+    }
+}
+
+// The words of an entry row: date, kind, target.
+impl From<Entry> for [u32; ENTRY_WIDTH] {
+    ghost from_gives = { λ entry row. row ≡ entry_row_words (entry_row (entry_told entry)) };
+
+    fn from(entry: Entry) -> [u32; ENTRY_WIDTH] {
+        let date = u32::from(entry.date);
+        match entry.kind {
+            Kind::Switch(target) => [date, 0, u32::from(target)],
+            Kind::Appeared => [date, 1, 0],
+            Kind::Annexed => [date, 2, 0],
+        }
+    }
+}
+
 impl Row<NATION_WIDTH> for Nation {
+    ghost told = { nation_of };
+
+    ghost read = { λ words row e. e };
+
     ghost some = { lit< tt };
 
     ghost narrow = { lit< tt };
 }
 
 impl Row<ENTRY_WIDTH> for Entry {
+    ghost told = { entry_in };
+
+    ghost read = { λ words row e. e };
+
     ghost some = { lit< tt };
 
     ghost narrow = { lit< tt };
@@ -114,7 +207,7 @@ impl Row<ENTRY_WIDTH> for Entry {
 impl Kind {
     // What two words of a row tell, in which kinds are numbers. One above 2 reads as Annexed; no well-shaped chronicle has one.
     fn of(kind: u32, target: u32) -> Kind
-        ensures { kind_told result ≡ kind_of kind target }
+        ensures { result ≡ kind_in kind target }
     {
         match kind {
             0 => Kind::Switch(CountryTag::kept(target)),

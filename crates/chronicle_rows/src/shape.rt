@@ -1,7 +1,7 @@
 // Whether nation words and entry words are a well-shaped chronicle.
 ghost use Rattle.std.specs.Prelude.{◌≡◌, ◌&&◌, map, true, [], IsTrue, ◌↔◌, EachIndex, slice_index_or};
 ghost use Rattle.lists.specs.Lists.{all_of};
-ghost use Rattle.rules.specs.NationRows.{nation_row_of, nation_rows_in, entry_row_of, entry_rows_in, tags_shaped, kind_shaped, entry_shaped, without_gap, well_shaped};
+ghost use Rattle.rules.specs.NationRows.{nation_row_of, entry_row_of, tags_shaped, kind_shaped, entry_shaped, without_gap, well_shaped};
 ghost use Rattle.chronicle_rows.specs.Cases.{nation_told};
 
 use crate::rows::{ENTRY_WIDTH, NATION_WIDTH, Nation};
@@ -61,7 +61,7 @@ fn nations_shaped(nations: &[[u32; NATION_WIDTH]], end: usize) -> bool
 }
 
 // Whether nation words and entry words, of any lengths, are a well-shaped chronicle: one pass over each.
-pub fn is_well_shaped(nations: &[u32], entries: &[u32]) -> bool
+pub(crate) fn is_well_shaped(nations: &[u32], entries: &[u32]) -> bool
     ensures { result ≡ well_shaped nations.now entries.now }
 {
     let (nations, nations_over) = nations.as_chunks::<NATION_WIDTH>();

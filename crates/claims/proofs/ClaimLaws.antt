@@ -1,10 +1,9 @@
 -- A walk over the claims, step by step, and the best claim so far.
 use mathlib.Core.Path.{◌≡◌, refl, sym, ap, ◌∙◌}
 use mathlib.Core.Bool.{Bool, true, false, not, ◌&&◌}
-use mathlib.Core.List.{List, [], ◌∷◌, ◌++◌, map, append_assoc, append-nil}
-use mathlib.Core.Option.{Option, some}
-use Prim.Native.Nat.{ℕ, zero, suc, ◌+◌, ◌-◌, ◌<◌, ◌≤◌}
-use native.Mathlib.Nat.{sub-zero}
+use mathlib.Core.List.{List, [], ◌∷◌, ◌++◌, map, append_assoc}
+use mathlib.Core.Option.{Option, some, none}
+use Prim.Native.Nat.{ℕ, zero, suc, ◌+◌, ◌-◌, ◌/◌, ◌<◌, ◌≤◌}
 use native.Mathlib.Numerals.{add-one}
 use native.Mathlib.Omega.{arith}
 use borrow.Author.Tests.{not-true}
@@ -12,22 +11,25 @@ use lib.ListN.{length}
 use Rattle.std.specs.Prelude as code
 use Rattle.std.specs.Prelude.{Some, None}
 use Rattle.std.specs.Iterator.{YieldsFirst}
-use Rattle.lists.specs.Lists.{keep, numbers_from}
+use Rattle.std.specs.Simd.{first_chunks}
+use Rattle.lists.specs.Lists.{keep, join_of, last, or_else, numbers_from}
 use Rattle.lists.proofs.BoolLaws.{cases}
-use Rattle.lists.proofs.ListLaws.{keep_append, map-append}
 use Rattle.lists.proofs.ScanLaws.{better, scan}
 use Rattle.format.specs.declared.tag.CountryTag.{CountryTag}
 use Rattle.format.specs.declared.date.Eu4Date.{Eu4Date}
 use Rattle.format.specs.Tags.{same_tag}
 use Rattle.format.specs.Dates.{not_after}
 use Rattle.rules.specs.Chronicle.{Kind, Entry}
-use Rattle.rules.specs.NationRows.{NationRow, nation_rows_in}
-use Rattle.chronicle_rows.specs.RowAt.{nation_row_at, entry_at}
+use Rattle.rules.specs.NationRows.{NationRow, nation_width, nation_rows_in}
+use Rattle.chronicle_rows.specs.RowAt.{nation_row_at, nations_left, entry_at}
+use Rattle.chronicle_rows.specs.declared.rows.Nation as Row
 use Rattle.chronicle_rows.specs.declared.rows.Kind as Code
-use Rattle.chronicle_rows.specs.Cases.{kind_told}
+use Rattle.chronicle_rows.specs.Cases.{nation_told, nation_of, kind_told}
+use Rattle.chronicle_rows.proofs.RowAtLaws.{nations-next, nations_told}
+use Rattle.chronicle_rows.proofs.NumberedLaws.{dropped-numbers}
 use Rattle.claims.specs.declared.claims.Claim.{Claim}
 use Rattle.claims.specs.declared.claims.Claims.{Claims}
-use Rattle.claims.specs.Claims.{kind_claims, switches_in, initial_claim, initial_claims, nation_claims, claims_from, claims_in, claims_left, is_asked, claim_day, best_of}
+use Rattle.claims.specs.Claims.{kind_claims, switches_in, initial_claim, initials_from, initial_claims, nation_claims, claims_from, claims_in, left_of, claims_left, is_asked, claim_day, last_to}
 
 pub numbers_more : (a n : ℕ) → 0 < n → numbers_from a n ≡ a ∷ numbers_from (a + 1) (n - 1)
 numbers_more a n h = let e : n ≡ suc (n - 1) = omega arith in rw e (let f : suc (n - 1) - 1 ≡ n - 1 = omega arith in simp (f, add-one))
@@ -47,57 +49,49 @@ module _ (es : List ℕ) (i : ℕ) where
       let k : kind ≡ (entry_at es at).kind = ap (λ (x : Entry). x.kind) e in
       rw (numbers_more at (end - at) (omega arith), f, d, k)
 
-module _ (ws es : List ℕ) where
-  -- ## Nation by nation
+-- ## Step by step
 
-  pub claims-end : (i : ℕ) → length (nation_rows_in ws) ≤ i → claims_from ws es i ≡ []
-  claims-end i h = let e : length (nation_rows_in ws) - i ≡ 0 = omega arith in rw e
-
-  pub claims-next : (i : ℕ) → i < length (nation_rows_in ws) → claims_from ws es i ≡ nation_claims ws es i ++ claims_from ws es (i + 1)
-  claims-next i h =
-      let n : ℕ = length (nation_rows_in ws) in
-      let e : n - i - 1 ≡ n - (i + 1) = omega arith in
-      rw (numbers_more i (n - i) (omega arith), e)
-
--- ## Entry by entry
-
--- An iterator that stands before the first nation.
-pub claims_all : (c : Claims) → c.entry ≡ 0 → c.end ≡ 0 → c.coming ≡ 0 → claims_left c ≡ claims_in c.nations.now c.entries.now
-unfolding claims_left claims_in
-claims_all c a b d = rw (a, b, d)
+-- Before the first nation: its row and those behind it, as the code has divided the words.
+pub claims_all : (ws es : List ℕ) (owner : ℕ) (rows : List Row.Nation) → rows ≡ map nation_of (first_chunks nation_width (length ws / nation_width) ws) → left_of es owner 0 0 0 (map nation_told rows) ≡ claims_in ws es
+unfolding left_of claims_in
+claims_all ws es owner rows e = rw (e, nations_told) refl
 
 -- What is left of a walk that begins is all claims.
-pub walk-start : (c : Claims) → claims_left (record c { owner = 0; entry = 0; end = 0; coming = 0 }) ≡ claims_in c.nations.now c.entries.now
-walk-start c = claims_all (record c { owner = 0; entry = 0; end = 0; coming = 0 }) refl refl refl
+pub walk-start : (ws : List ℕ) (c : Claims) → c.entry ≡ 0 → c.end ≡ 0 → c.coming ≡ 0 → nations_left c.nations ≡ nation_rows_in ws → claims_left c ≡ claims_in ws c.entries.now
+unfolding left_of claims_in
+walk-start ws c a b d e = rw (a, b, d, e) refl
 
--- One that has passed its owner's entries.
-pub claims_coming : (c : Claims) → c.end ≤ c.entry → claims_left c ≡ claims_from c.nations.now c.entries.now c.coming
-unfolding claims_left
-claims_coming c h = rw (switches-end c.entries.now c.owner c.entry c.end h)
+module _ (es : List ℕ) (owner entry end i : ℕ) where
+  -- Past the owner's entries the nations behind it are left.
+  pub claims_coming : (rows : List NationRow) → end ≤ entry → left_of es owner entry end i rows ≡ claims_from es i rows
+  unfolding left_of
+  claims_coming rows h = rw (switches-end es owner entry end h)
 
--- Where the walk has come to the end, so has one that stands there.
-pub claims_passed : (c : Claims) (at : ℕ) → c.end ≤ at → claims_left (record c { entry = c.end }) ≡ claims_left (record c { entry = at })
-claims_passed c at h = claims_coming (record c { entry = c.end }) (omega arith) ∙ sym (claims_coming (record c { entry = at }) h)
+  -- So they are wherever a walk stands that is past them.
+  pub claims_passed : (rows : List NationRow) → end ≤ entry → left_of es owner end end i rows ≡ left_of es owner entry end i rows
+  unfolding left_of
+  claims_passed rows h = rw (switches-end es owner entry end h, switches-end es owner end end (omega arith))
 
--- Nation number i comes next: its row and the date of its first claim, as the code has read them.
-pub claims-initial : (c d : Claims) (row : NationRow) (date : Eu4Date) → c.coming < length (nation_rows_in c.nations.now) → row ≡ nation_row_at c.nations.now c.coming → date.0 ≡ 0
-    → d ≡ record { nations = c.nations; entries = c.entries; owner = c.coming; entry = row.first; end = row.first + row.count; coming = c.coming + 1 }
-    → claims_from c.nations.now c.entries.now c.coming ≡ record { tag = row.initial; date = date; nation = c.coming } ∷ claims_left d
-unfolding claims_left
-claims-initial c d row date h e z k =
-    let f : row.first + row.count - row.first ≡ row.count = omega arith in
-    let g : date ≡ record { 0 = 0 } = ap (λ (w : ℕ). record { 0 = w }) z in
-    rw (k, f, e, g) (claims-next c.nations.now c.entries.now c.coming h)
+  -- Where no nation is left, no claim is.
+  pub claims-end : (rows : List Row.Nation) → end ≤ entry → rows ≡ [] → left_of es owner entry end i (map nation_told rows) ≡ []
+  claims-end rows h e = claims_coming (map nation_told rows) h ∙ rw e
 
--- One that has read an entry.
-pub claims_read : (c d : Claims) (date : Eu4Date) (kind : Kind) → c.entry < c.end → record { date = date; kind = kind } ≡ entry_at c.entries.now c.entry
-    → d ≡ record { nations = c.nations; entries = c.entries; owner = c.owner; entry = c.entry + 1; end = c.end; coming = c.coming }
-    → claims_left c ≡ kind_claims c.owner date kind ++ claims_left d
-unfolding claims_left
-claims_read c d date kind inside e f =
-    rw f
-    (ap (λ (cs : List Claim). cs ++ claims_from c.nations.now c.entries.now c.coming) (switches-read c.entries.now c.owner c.entry c.end date kind inside e)
-    ∙ append_assoc (kind_claims c.owner date kind) (switches_in c.entries.now c.owner (c.entry + 1) c.end) (claims_from c.nations.now c.entries.now c.coming))
+  -- The row of the nation that comes has been read.
+  pub claims-initial : (row : Row.Nation) (left rest : List Row.Nation) → end ≤ entry → left ≡ row ∷ rest
+      → left_of es owner entry end i (map nation_told left) ≡ initial_claim i (nation_told row) ∷ left_of es i row.first (row.first + row.count) (i + 1) (map nation_told rest)
+  unfolding left_of
+  claims-initial row left rest h e =
+      let f : row.first + row.count - row.first ≡ row.count = omega arith in
+      rw (switches-end es owner entry end h, e, f) refl
+
+-- The entry at hand has been read.
+pub claims_read : (c : Claims) (at : ℕ) (date : Eu4Date) (kind : Kind) → at < c.end → record { date = date; kind = kind } ≡ entry_at c.entries.now at
+    → claims_left (record c { entry = at }) ≡ kind_claims c.owner date kind ++ claims_left (record c { entry = at + 1 })
+unfolding left_of
+claims_read c at date kind inside e =
+    let behind : List Claim = claims_from c.entries.now c.coming (nations_left c.nations) in
+    ap (λ (cs : List Claim). cs ++ behind) (switches-read c.entries.now c.owner at c.end date kind inside e)
+    ∙ append_assoc (kind_claims c.owner date kind) (switches_in c.entries.now c.owner (at + 1) c.end) behind
 
 -- An entry that is no switch has no claim.
 pub kind-passed : (i : ℕ) (date : Eu4Date) (kind : Code.Kind) (cs : List Claim) → ((tag : CountryTag) → kind ≡ Code.TheVariants.Switch tag → ⊥) → kind_claims i date (kind_told kind) ++ cs ≡ cs
@@ -105,50 +99,60 @@ kind-passed i date (Code.TheVariants.Switch tag) cs h = absurd (h tag refl)
 kind-passed i date Code.TheVariants.Appeared cs h = refl
 kind-passed i date Code.TheVariants.Annexed cs h = refl
 
--- A step of one that has the same left.
-pub left-goes : (s t : Claims) → claims_left s ≡ claims_left t → (r : code.Option Claim) (u : Claims) → YieldsFirst claims_left s r u → YieldsFirst claims_left t r u
-left-goes s t e (Some c) u y = sym e ∙ y
-left-goes s t e None u y = (sym e ∙ y.0, y.1)
+-- A step from where the same is left.
+pub left-goes : (cs ds after : List Claim) (r : code.Option Claim) → cs ≡ ds → YieldsFirst (λ (l : List Claim). l) cs r after → YieldsFirst (λ (l : List Claim). l) ds r after
+left-goes cs ds after (Some c) e y = sym e ∙ y
+left-goes cs ds after None e y = (sym e ∙ y.0, y.1)
 
--- ## Initials alone
+-- ## By the numbers of nations
 
--- The claims of the first nations to their initials.
-abbrev pub first_initials : List ℕ → ℕ → List Claim
-first_initials ws n = map (initial_claim ws) (numbers_from 0 n)
+module _ (ws : List ℕ) where
+  numbered : nation_rows_in ws ≡ map (nation_row_at ws) (numbers_from 0 (length (nation_rows_in ws)))
+  numbered = dropped-numbers (nation_rows_in ws) (nation_row_at ws) (nations-next ws) (length (nation_rows_in ws)) 0 (omega arith)
 
-numbers-last : (a n last : ℕ) → last ≡ a + n → numbers_from a (suc n) ≡ numbers_from a n ++ (last ∷ [])
-numbers-last a zero last e = let f : last ≡ a = omega arith in rw f refl
-numbers-last a (suc n) last e = ap (λ (is : List ℕ). a ∷ is) (numbers-last (suc a) n last (omega arith))
+  -- That of nation number i to its initial.
+  abbrev pub initial_at : ℕ → Claim
+  initial_at i = initial_claim i (nation_row_at ws i)
 
-module _ (ws : List ℕ) (tag : CountryTag) where
-  abbrev best_initials : List Claim → Option Claim
-  best_initials = best_of tag (record { 0 = 0 })
+  pub initials-numbered : initial_claims ws ≡ map initial_at (numbers_from 0 (length (nation_rows_in ws)))
+  initials-numbered = ap (initials_from 0) numbered ∙ go 0 (length (nation_rows_in ws))
+    where
+      go : (i n : ℕ) → initials_from i (map (nation_row_at ws) (numbers_from i n)) ≡ map initial_at (numbers_from i n)
+      go i zero = refl
+      go i (suc n) = rw add-one (ap (λ (cs : List Claim). initial_at i ∷ cs) (go (suc i) n))
 
-  pub initials_all : (n : ℕ) → n ≡ length (nation_rows_in ws) → best_initials (first_initials ws n) ≡ best_initials (initial_claims ws 0)
-  initials_all n e = rw (e, sub-zero) refl
+  module _ (es : List ℕ) where
+    -- Those of nation number i.
+    abbrev pub claims_at : ℕ → List Claim
+    claims_at i = nation_claims es i (nation_row_at ws i)
 
-  wins : (i : ℕ) (is : List ℕ) → same_tag (initial_claim ws i).tag tag ≡ true → best_initials (map (initial_claim ws) is ++ (initial_claim ws i ∷ [])) ≡ some (initial_claim ws i)
-  wins i [] h = rw h refl
-  wins i (j ∷ is) h = cases (same_tag (initial_claim ws j).tag tag) (λ t. simp (t, wins i is h)) (λ t. simp (t, wins i is h))
+    pub claims-numbered : claims_in ws es ≡ join_of claims_at (numbers_from 0 (length (nation_rows_in ws)))
+    unfolding claims_in
+    claims-numbered = ap (claims_from es 0) numbered ∙ go 0 (length (nation_rows_in ws))
+      where
+        go : (i n : ℕ) → claims_from es i (map (nation_row_at ws) (numbers_from i n)) ≡ join_of claims_at (numbers_from i n)
+        go i zero = refl
+        go i (suc n) = rw add-one (ap (λ (cs : List Claim). claims_at i ++ cs) (go (suc i) n))
 
-  -- Of the first n nations the last comes to be read.
-  module _ (n : ℕ) (some_left : 0 < n) where
-    one-more : first_initials ws n ≡ first_initials ws (n - 1) ++ (initial_claim ws (n - 1) ∷ [])
-    one-more =
-        let e : n ≡ suc (n - 1) = omega arith in
-        ap (first_initials ws) e
-        ∙ (ap (map (initial_claim ws)) (numbers-last 0 (n - 1) (n - 1) (omega arith))
-        ∙ map-append (initial_claim ws) (numbers_from 0 (n - 1)) ((n - 1) ∷ []))
+-- ## The last initial so far
 
-    pub initial-passed : (row : NationRow) → row ≡ nation_row_at ws (n - 1) → same_tag row.initial tag ≡ false → best_initials (first_initials ws n) ≡ best_initials (first_initials ws (n - 1))
-    initial-passed row e h = let t : same_tag (initial_claim ws (n - 1)).tag tag ≡ false = rw e at h in rw (one-more, keep_append, t, append-nil) refl
+pub or-none : (a : Option Claim) → or_else a none ≡ a
+or-none (some c) = refl
+or-none none = refl
 
-    -- It has the initial: its row and the date, as the code has read them.
-    pub initial-found : (row : NationRow) (date : Eu4Date) (all : Option Claim) → row ≡ nation_row_at ws (n - 1) → date.0 ≡ 0 → same_tag row.initial tag ≡ true
-        → best_initials (first_initials ws n) ≡ all → some (record { tag = row.initial; date = date; nation = n - 1 }) ≡ all
-    initial-found row date all e z h so_far =
-        let g : date ≡ record { 0 = 0 } = ap (λ (w : ℕ). record { 0 = w }) z in
-        rw (e, g) (sym (wins (n - 1) (numbers_from 0 (n - 1)) (rw e at h)) ∙ rw one-more at so_far)
+-- Claims behind a first one have a last.
+last_behind : (x : Claim) (cs : List Claim) (so_far : Option Claim) → or_else (last (x ∷ cs)) so_far ≡ or_else (last cs) (some x)
+last_behind x [] so_far = refl
+last_behind x (c ∷ cs) so_far = refl
+
+-- The code has read the row of nation number i, and whether it has the initial.
+module _ (tag : CountryTag) (i : ℕ) (row : Row.Nation) (left rest : List Row.Nation) (best all : Option Claim) (next : left ≡ row ∷ rest)
+    (so_far : or_else (last_to tag (initials_from i (map nation_told left))) best ≡ all) where
+  pub initial_passed : same_tag row.initial tag ≡ false → or_else (last_to tag (initials_from (i + 1) (map nation_told rest))) best ≡ all
+  initial_passed h = rw (next, h) at so_far
+
+  pub initial_found : same_tag row.initial tag ≡ true → or_else (last_to tag (initials_from (i + 1) (map nation_told rest))) (some (initial_claim i (nation_told row))) ≡ all
+  initial_found h = sym (last_behind _ _ best) ∙ (rw (next, h) at so_far)
 
 -- ## The best so far
 

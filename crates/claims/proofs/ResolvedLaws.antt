@@ -5,7 +5,6 @@ use mathlib.Core.List.{List, [], ◌∷◌, ◌++◌, map}
 use mathlib.Core.Option
 use mathlib.Core.Option.{Option, none, some}
 use Prim.Native.Nat.{ℕ, ◌<◌}
-use native.Mathlib.Nat.{sub-zero}
 use native.Mathlib.Omega.{arith}
 use borrow.Author.Tests.{ltb-true, ltb-false, leb-true, le-leb, lt-leb, lt-ltb}
 use lib.Dec.{leb, ltb}
@@ -24,7 +23,8 @@ use Rattle.rules.specs.Resolver.{Hit, is_switch_to, hits, initial_nation, resolv
 use Rattle.chronicle_rows.specs.RowAt.{nation_row_at, entry_row_at, entry_at, entries_at, nation_numbered}
 use Rattle.chronicle_rows.proofs.NumberedLaws.{numbers-range, nation-inside, entry-good, nations-numbered}
 use Rattle.claims.specs.declared.claims.Claim.{Claim}
-use Rattle.claims.specs.Claims.{kind_claims, switch_claims, initial_claim, initial_claims, nation_claims, claims_in, is_asked, claim_day, best_of}
+use Rattle.claims.specs.Claims.{kind_claims, switch_claims, initial_claims, claims_in, is_asked, claim_day, best_of, last_to}
+use Rattle.claims.proofs.ClaimLaws.{initial_at, initials-numbered, claims_at, claims-numbered}
 
 -- ## The greatest, where some keys are 0
 
@@ -168,37 +168,37 @@ module _ (ws es : List ℕ) where
 
     -- ## Initials
 
-    asked-initial : (is : List ℕ) → keep (is_asked tag date) (map (initial_claim ws) is) ≡ map (initial_claim ws) (keep (λ i. same_tag (nation_row_at ws i).initial tag) is)
+    asked-initial : (is : List ℕ) → keep (is_asked tag date) (map (initial_at ws) is) ≡ keep (λ c. same_tag c.tag tag) (map (initial_at ws) is)
     asked-initial [] = refl
     asked-initial (i ∷ is) =
         let t : leb 0 date.0 ≡ true = le-leb 0 date.0 (omega arith) in
         cases (same_tag (nation_row_at ws i).initial tag) (λ h. simp (h, t, asked-initial is)) (λ h. simp (h, asked-initial is))
 
-    last-initial : (is : List ℕ) → initial_nation (map (nation_numbered ws es) is) tag ≡ Option.map claim_nation (last (keep (is_asked tag date) (map (initial_claim ws) is)))
-    last-initial is =
+    initials-last : (is : List ℕ) → initial_nation (map (nation_numbered ws es) is) tag ≡ Option.map claim_nation (last_to tag (map (initial_at ws) is))
+    initials-last is =
         let p : ℕ → Bool = λ i. same_tag (nation_row_at ws i).initial tag in
         ap last (keep-map (λ n. same_tag n.initial tag) (nation_numbered ws es) is)
         ∙ (last-of-map (nation_numbered ws es) (keep p is)
-        ∙ sym (ap (Option.map claim_nation) (ap last (asked-initial is) ∙ last-of-map (initial_claim ws) (keep p is)) ∙ map-twice (initial_claim ws) claim_nation (last (keep p is))))
+        ∙ sym (ap (Option.map claim_nation) (ap last (keep-map (λ c. same_tag c.tag tag) (initial_at ws) is) ∙ last-of-map (initial_at ws) (keep p is)) ∙ map-twice (initial_at ws) claim_nation (last (keep p is))))
 
     -- ## Both
 
     part : (p : Claim → Bool) (i : ℕ) (is : List ℕ)
-        → keep p (keep (is_asked tag date) (join_of (nation_claims ws es) (i ∷ is)))
-        ≡ keep p (keep (is_asked tag date) (initial_claim ws i ∷ [])) ++ (keep p (keep (is_asked tag date) (switches_of i)) ++ keep p (keep (is_asked tag date) (join_of (nation_claims ws es) is)))
+        → keep p (keep (is_asked tag date) (join_of (claims_at ws es) (i ∷ is)))
+        ≡ keep p (keep (is_asked tag date) (initial_at ws i ∷ [])) ++ (keep p (keep (is_asked tag date) (switches_of i)) ++ keep p (keep (is_asked tag date) (join_of (claims_at ws es) is)))
     part p i is =
         let a : Claim → Bool = is_asked tag date in
-        ap (keep p) (keep_append a (initial_claim ws i ∷ []) (switches_of i ++ join_of (nation_claims ws es) is))
-        ∙ (keep_append p (keep a (initial_claim ws i ∷ [])) (keep a (switches_of i ++ join_of (nation_claims ws es) is))
-        ∙ ap (λ (l : List Claim). keep p (keep a (initial_claim ws i ∷ [])) ++ l)
-        (ap (keep p) (keep_append a (switches_of i) (join_of (nation_claims ws es) is)) ∙ keep_append p (keep a (switches_of i)) (keep a (join_of (nation_claims ws es) is))))
+        ap (keep p) (keep_append a (initial_at ws i ∷ []) (switches_of i ++ join_of (claims_at ws es) is))
+        ∙ (keep_append p (keep a (initial_at ws i ∷ [])) (keep a (switches_of i ++ join_of (claims_at ws es) is))
+        ∙ ap (λ (l : List Claim). keep p (keep a (initial_at ws i ∷ [])) ++ l)
+        (ap (keep p) (keep_append a (switches_of i) (join_of (claims_at ws es) is)) ∙ keep_append p (keep a (switches_of i)) (keep a (join_of (claims_at ws es) is))))
 
     late-part : (is : List ℕ) → All (λ i. All Late (switches_of i)) is
-        → keep (late claim_day) (keep (is_asked tag date) (join_of (nation_claims ws es) is)) ≡ keep (is_asked tag date) (join_of switches_of is)
+        → keep (late claim_day) (keep (is_asked tag date) (join_of (claims_at ws es) is)) ≡ keep (is_asked tag date) (join_of switches_of is)
     late-part [] q = refl
     late-part (i ∷ is) q =
         let a : Claim → Bool = is_asked tag date in
-        let none_first : keep (late claim_day) (keep a (initial_claim ws i ∷ [])) ≡ [] = cases (a (initial_claim ws i)) (λ h. simp h) (λ h. simp h) in
+        let none_first : keep (late claim_day) (keep a (initial_at ws i ∷ [])) ≡ [] = cases (a (initial_at ws i)) (λ h. simp h) (λ h. simp h) in
         let own : keep (late claim_day) (keep a (switches_of i)) ≡ keep a (switches_of i) =
         keep_all (late claim_day) (keep a (switches_of i)) (all_map (λ c h. lt-ltb 0 (claim_day c) h) (keep a (switches_of i)) (all_keep Late a (switches_of i) q.0)) in
         part (late claim_day) i is
@@ -206,55 +206,38 @@ module _ (ws es : List ℕ) where
         ∙ sym (keep_append a (switches_of i) (join_of switches_of is)))
 
     early-part : (is : List ℕ) → All (λ i. All Late (switches_of i)) is
-        → keep (early claim_day) (keep (is_asked tag date) (join_of (nation_claims ws es) is)) ≡ keep (is_asked tag date) (map (initial_claim ws) is)
+        → keep (early claim_day) (keep (is_asked tag date) (join_of (claims_at ws es) is)) ≡ keep (is_asked tag date) (map (initial_at ws) is)
     early-part [] q = refl
     early-part (i ∷ is) q =
         let a : Claim → Bool = is_asked tag date in
-        let first : keep (early claim_day) (keep a (initial_claim ws i ∷ [])) ≡ keep a (initial_claim ws i ∷ []) = cases (a (initial_claim ws i)) (λ h. simp h) (λ h. simp h) in
+        let first : keep (early claim_day) (keep a (initial_at ws i ∷ [])) ≡ keep a (initial_at ws i ∷ []) = cases (a (initial_at ws i)) (λ h. simp h) (λ h. simp h) in
         let own : keep (early claim_day) (keep a (switches_of i)) ≡ [] =
         keep-none (early claim_day) (keep a (switches_of i)) (all_map (λ c h. ap not (lt-ltb 0 (claim_day c) h)) (keep a (switches_of i)) (all_keep Late a (switches_of i) q.0)) in
         part (early claim_day) i is
         ∙ (ap₂ ◌++◌ first (ap₂ ◌++◌ own (early-part is q.1))
-        ∙ sym (keep_append a (initial_claim ws i ∷ []) (map (initial_claim ws) is)))
+        ∙ sym (keep_append a (initial_at ws i ∷ []) (map (initial_at ws) is)))
 
     -- The nation of the best claim is the one that the rules find.
     pub claim-resolved : well_shaped ws es ≡ true → Option.map claim_nation (best_of tag date (claims_in ws es)) ≡ resolved_nation (nations_in ws es) tag date
-    unfolding claims_in resolved_nation
+    unfolding resolved_nation
     claim-resolved shaped =
         let n : ℕ = length (nation_rows_in ws) in
         let is : List ℕ = numbers_from 0 n in
         let a : Claim → Bool = is_asked tag date in
         let q = all_map (λ i h. switches-late shaped i (omega (arith, h.1))) is (numbers-range 0 n) in
-        let best : greatest claim_day (keep a (join_of (nation_claims ws es) is)) ≡ or_else (greatest claim_day (keep a (join_of switches_of is))) (last (keep a (map (initial_claim ws) is))) =
-        greatest-parts claim_day (keep a (join_of (nation_claims ws es) is)) ∙ ap₂ (λ (x y : List Claim). or_else (greatest claim_day x) (last y)) (late-part is q) (early-part is q) in
+        let best : greatest claim_day (keep a (join_of (claims_at ws es) is)) ≡ or_else (greatest claim_day (keep a (join_of switches_of is))) (last_to tag (map (initial_at ws) is)) =
+        greatest-parts claim_day (keep a (join_of (claims_at ws es) is)) ∙ ap₂ (λ (x y : List Claim). or_else (greatest claim_day x) (last y)) (late-part is q) (early-part is q ∙ asked-initial is) in
         let found : Option.map (λ h. h.nation) (greatest (λ h. h.date.0) (hits tag date (map (nation_numbered ws es) is))) ≡ Option.map claim_nation (greatest claim_day (keep a (join_of switches_of is))) =
         ap (λ (l : List Hit). Option.map (λ h. h.nation) (greatest (λ h. h.date.0) l)) (all-hits is)
         ∙ (ap (Option.map (λ (h : Hit). h.nation)) (greatest-map hit_of (λ h. h.date.0) (keep a (join_of switches_of is)))
         ∙ map-twice hit_of (λ h. h.nation) (greatest claim_day (keep a (join_of switches_of is)))) in
-        rw (sub-zero n, nations-numbered ws es shaped)
+        rw (claims-numbered, nations-numbered ws es shaped)
         (ap (Option.map claim_nation) best
-        ∙ (map-or claim_nation (greatest claim_day (keep a (join_of switches_of is))) (last (keep a (map (initial_claim ws) is)))
-        ∙ sym (ap₂ or_else found (last-initial is))))
+        ∙ (map-or claim_nation (greatest claim_day (keep a (join_of switches_of is))) (last_to tag (map (initial_at ws) is))
+        ∙ sym (ap₂ or_else found (initials-last is))))
 
   -- The nation of the last claim to an initial is the last one with that initial.
-  pub claim-initial : (tag : CountryTag) → well_shaped ws es ≡ true
-      → Option.map claim_nation (best_of tag (record { 0 = 0 }) (initial_claims ws 0)) ≡ initial_nation (nations_in ws es) tag
+  pub claim-initial : (tag : CountryTag) → well_shaped ws es ≡ true → Option.map claim_nation (last_to tag (initial_claims ws)) ≡ initial_nation (nations_in ws es) tag
   claim-initial tag shaped =
-      let n : ℕ = length (nation_rows_in ws) in
-      let is : List ℕ = numbers_from 0 n in
-      let day : Eu4Date = record { 0 = 0 } in
-      rw (sub-zero n, nations-numbered ws es shaped)
-      (ap (Option.map claim_nation) (only-last is) ∙ sym (last-initial tag day is))
-    where
-      none-late : (is : List ℕ) → keep (late claim_day) (keep (is_asked tag (record { 0 = 0 })) (map (initial_claim ws) is)) ≡ []
-      none-late [] = refl
-      none-late (i ∷ is) = cases (same_tag (nation_row_at ws i).initial tag) (λ h. simp (h, none-late is)) (λ h. simp (h, none-late is))
-
-      all-early : (is : List ℕ) → keep (early claim_day) (keep (is_asked tag (record { 0 = 0 })) (map (initial_claim ws) is)) ≡ keep (is_asked tag (record { 0 = 0 })) (map (initial_claim ws) is)
-      all-early [] = refl
-      all-early (i ∷ is) = cases (same_tag (nation_row_at ws i).initial tag) (λ h. simp (h, all-early is)) (λ h. simp (h, all-early is))
-
-      only-last : (is : List ℕ) → greatest claim_day (keep (is_asked tag (record { 0 = 0 })) (map (initial_claim ws) is)) ≡ last (keep (is_asked tag (record { 0 = 0 })) (map (initial_claim ws) is))
-      only-last is =
-          greatest-parts claim_day (keep (is_asked tag (record { 0 = 0 })) (map (initial_claim ws) is))
-          ∙ ap₂ (λ (x y : List Claim). or_else (greatest claim_day x) (last y)) (none-late is) (all-early is)
+      rw (initials-numbered, nations-numbered ws es shaped)
+      (sym (initials-last tag (record { 0 = 0 }) (numbers_from 0 (length (nation_rows_in ws)))))

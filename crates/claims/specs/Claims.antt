@@ -1,17 +1,17 @@
 -- Claims, by which the code finds a nation: a nation goes by its initial from date 0 on, and by the target of each of its switches from
 -- that switch's date on. Of the claims to a tag dated not after a question the latest answers it, and of equals the last: no date of a
 -- switch is 0, so that an initial answers only where no switch does.
-use Rattle.std.specs.Prelude.{Bool, ◌&&◌, List, [], ◌∷◌, ◌++◌, map, ℕ, ◌-◌, length}
+use Rattle.std.specs.Prelude.{Bool, ◌&&◌, List, [], ◌∷◌, ◌++◌, ℕ, ◌+◌, ◌-◌}
 use Rattle.std.proofs.Math.Option.{Option}
-use Rattle.lists.specs.Lists.{keep, join_of, greatest, numbers_from}
+use Rattle.lists.specs.Lists.{keep, join_of, last, greatest}
 use Rattle.format.specs.declared.tag.CountryTag.{CountryTag}
 use Rattle.format.specs.declared.date.Eu4Date.{Eu4Date}
 use Rattle.format.specs.Tags.{same_tag}
 use Rattle.format.specs.Dates.{not_after}
 use Rattle.rules.specs.Chronicle.{Kind, switch, appeared, annexed, Entry}
-use Rattle.rules.specs.NationRows.{nation_rows_in}
+use Rattle.rules.specs.NationRows.{NationRow, nation_rows_in}
 use Rattle.rules.specs.Resolver.{TagData}
-use Rattle.chronicle_rows.specs.RowAt.{nation_row_at, entries_at}
+use Rattle.chronicle_rows.specs.RowAt.{nation_row_at, nations_left, entries_at}
 use Rattle.claims.specs.declared.claims.Claim.{Claim}
 use Rattle.claims.specs.declared.claims.Claims.{Claims}
 
@@ -31,30 +31,40 @@ switch_claims i es = join_of (λ e. kind_claims i e.date e.kind) es
 abbrev pub switches_in : List ℕ → ℕ → ℕ → ℕ → List Claim
 switches_in es i first end = switch_claims i (entries_at es first (end - first))
 
--- That to its initial.
-abbrev pub initial_claim : List ℕ → ℕ → Claim
-initial_claim ws i = record { tag = (nation_row_at ws i).initial; date = record { 0 = 0 }; nation = i }
+-- That of a nation to its initial, by its number and its row.
+abbrev pub initial_claim : ℕ → NationRow → Claim
+initial_claim i row = record { tag = row.initial; date = record { 0 = 0 }; nation = i }
 
--- Those of the nations from a number on to their initials.
-abbrev pub initial_claims : List ℕ → ℕ → List Claim
-initial_claims ws i = map (initial_claim ws) (numbers_from i (length (nation_rows_in ws) - i))
+-- Those of nations to their initials: their rows, numbered from i on.
+abbrev pub initials_from : ℕ → List NationRow → List Claim
+initials_from i [] = []
+initials_from i (row ∷ rows) = initial_claim i row ∷ initials_from (i + 1) rows
 
--- Those of nation number i, its initial first.
-abbrev pub nation_claims : List ℕ → List ℕ → ℕ → List Claim
-nation_claims ws es i =
-    initial_claim ws i ∷ switch_claims i (entries_at es (nation_row_at ws i).first (nation_row_at ws i).count)
+-- Those that nation words make.
+abbrev pub initial_claims : List ℕ → List Claim
+initial_claims ws = initials_from 0 (nation_rows_in ws)
 
--- Those of the nations from a number on.
-abbrev pub claims_from : List ℕ → List ℕ → ℕ → List Claim
-claims_from ws es i = join_of (nation_claims ws es) (numbers_from i (length (nation_rows_in ws) - i))
+-- Those of a nation, its initial first.
+abbrev pub nation_claims : List ℕ → ℕ → NationRow → List Claim
+nation_claims es i row = initial_claim i row ∷ switch_claims i (entries_at es row.first row.count)
+
+-- Those of nations: their rows, numbered from i on.
+abbrev pub claims_from : List ℕ → ℕ → List NationRow → List Claim
+claims_from es i [] = []
+claims_from es i (row ∷ rows) = nation_claims es i row ++ claims_from es (i + 1) rows
 
 -- Those that nation words and entry words, any words at all, make.
 unfoldable pub claims_in : List ℕ → List ℕ → List Claim
-claims_in ws es = claims_from ws es 0
+claims_in ws es = claims_from es 0 (nation_rows_in ws)
 
--- What an iterator over them has left: the entries of its owner, then the nations behind it.
-unfoldable pub claims_left : Claims → List Claim
-claims_left c = switches_in c.entries.now c.owner c.entry c.end ++ claims_from c.nations.now c.entries.now c.coming
+-- Those that a walk has left: of its owner those to the targets of the entries from a first number up to an end, then those of the nations behind it,
+-- numbered from i on.
+unfoldable pub left_of : List ℕ → ℕ → ℕ → ℕ → ℕ → List NationRow → List Claim
+left_of es owner first end i rows = switches_in es owner first end ++ claims_from es i rows
+
+-- Those that an iterator has left.
+abbrev pub claims_left : Claims → List Claim
+claims_left c = left_of c.entries.now c.owner c.entry c.end c.coming (nations_left c.nations)
 
 -- ## The claim that answers a question
 
@@ -70,6 +80,14 @@ claim_day c = c.date.0
 abbrev pub best_of : CountryTag → Eu4Date → List Claim → Option Claim
 best_of tag date cs = greatest claim_day (keep (is_asked tag date) cs)
 
--- What a claim answers where no day is set: its nation's latest tag, and the tag it is stored under.
+-- The last of them to the tag.
+abbrev pub last_to : CountryTag → List Claim → Option Claim
+last_to tag cs = last (keep (λ c. same_tag c.tag tag) cs)
+
+-- What a nation answers by its number where no day is set: its latest tag, and the tag it is stored under.
+abbrev pub plain_at : List ℕ → ℕ → TagData
+plain_at ws i = record { current = (nation_row_at ws i).latest; stored = (nation_row_at ws i).stored }
+
+-- What a claim answers: its nation.
 abbrev pub plain_of : List ℕ → Claim → TagData
-plain_of ws c = record { current = (nation_row_at ws c.nation).latest; stored = (nation_row_at ws c.nation).stored }
+plain_of ws c = plain_at ws c.nation

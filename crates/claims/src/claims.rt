@@ -1,11 +1,9 @@
-// Claims: a nation goes by its initial from date 0 on, and by the target of each of its switches from that switch's date on. The nation
-// that a question finds is that of the latest claim to the tag.
-ghost use Rattle.std.specs.Prelude.{◌≡◌, ◌≤◌};
+// Claims: a nation goes by its initial from before every date on, and by the target of each of its switches from that switch's date on.
+ghost use Rattle.std.specs.Prelude.{◌≡◌, ◌+◌, ◌^◌, ◌<◌, ◌≤◌, length};
 ghost use Rattle.std.specs.Iterator.{YieldsFirst, item_count};
-ghost use Rattle.lists.specs.Options.{option_of};
-ghost use Rattle.claims.specs.Claims.{initial_claims, claims_in, claims_left, best_of};
+ghost use Rattle.chronicle_rows.specs.RowAt.{nations_left};
 
-use chronicle_rows::{Entry, Kind, entry_at, nation_at, nation_count};
+use chronicle_rows::{Chronicle, Entry, Kind, Nations, entry_at};
 use format::{CountryTag, Eu4Date};
 
 // A nation, by its number from 0, goes by a tag from a date on.
@@ -16,27 +14,30 @@ pub struct Claim {
     pub nation: usize,
 }
 
-// An iterator over the claims that nation words and entry words make, nation by nation: whose entries are left, from which number to which, and
-// which nation comes behind them.
+// An iterator over the claims of a chronicle, nation by nation: whose entries are left, from which number to which, and the nations behind it, of
+// which the first has the number `coming`. The number of every nation is a size of memory. Two numbers and no `Range`, which is not `Copy` as this
+// iterator is.
 #[derive(Clone, Copy)]
 pub struct Claims<'a> {
-    nations: &'a [u32],
+    nations: Nations<'a>,
     entries: &'a [u32],
     owner: usize,
     entry: usize,
     end: usize,
     coming: usize,
+    ghost few: { coming + length (nations_left nations) < 2 ^ 64 },
 }
 
 impl<'a> Claims<'a> {
+    ghost use Rattle.claims.specs.Claims.{claims_in, claims_left};
+
     // All claims.
-    #[tactic(auto, using(crate::proofs::ClaimLaws::claims_all))]
-    pub fn of(nations: &'a [u32], entries: &'a [u32]) -> Claims<'a>
-        ensures { claims_left result ≡ claims_in nations.now entries.now }
+    pub fn of(chronicle: Chronicle<'a>) -> Claims<'a>
+        ensures { claims_left result ≡ claims_in chronicle.entry.nations.now chronicle.entry.entries.now }
     {
         Claims {
-            nations,
-            entries,
+            nations: Nations::of(chronicle.nations),
+            entries: chronicle.entries,
             owner: 0,
             entry: 0,
             end: 0,
@@ -44,30 +45,35 @@ impl<'a> Claims<'a> {
         }
     }
 
-    // The claim of the nation that comes to its initial, dated 0, which is before every date; its entries come behind it.
+    // The claim of the nation that comes to its initial, dated before every date; its entries come behind it. The ghost field speaks of the nations left
+    // and their first number at once: so they are set together.
     fn next_initial(&mut self) -> Option<Claim>
         requires { self.old.end ≤ self.old.entry }
         ensures { YieldsFirst claims_left self.old result self.new }
     {
+        let mut nations = self.nations;
+        let row = nations.next()?;
         let nation = self.coming;
-        let past_all = nation_count(self.nations) <= nation;
-        if past_all {
-            return None;
-        }
-        let row = nation_at(self.nations, nation);
-        self.owner = nation;
-        self.entry = row.first as usize;
-        self.end = self.entry + row.count as usize;
-        self.coming = nation + 1;
+        let entry = row.first as usize;
+        *self = Claims {
+            nations,
+            entries: self.entries,
+            owner: nation,
+            entry,
+            end: entry + row.count as usize,
+            coming: nation + 1,
+        };
         Some(Claim {
             tag: row.initial,
-            date: Eu4Date::kept(0),
+            date: Eu4Date::BEFORE_ALL,
             nation,
         })
     }
 }
 
 impl<'a> Iterator for Claims<'a> {
+    ghost use Rattle.claims.specs.Claims.{claims_left};
+
     type Item = Claim;
 
     ghost next_gives = { YieldsFirst claims_left };
@@ -89,36 +95,4 @@ impl<'a> Iterator for Claims<'a> {
         self.entry = self.end;
         self.next_initial()
     }
-}
-
-// The claim that answers a question on any words at all, in one pass: the latest to the tag dated not after the date, and of equals the last.
-pub fn best_claim(nations: &[u32], entries: &[u32], tag: CountryTag, date: Eu4Date) -> Option<Claim>
-    ensures { option_of result ≡ best_of tag date (claims_in nations.now entries.now) }
-{
-    let mut best: Option<Claim> = None;
-    for claim in Claims::of(nations, entries) {
-        let asked = (claim.tag == tag) & (claim.date <= date);
-        if asked && best.is_none_or(|b| b.date <= claim.date) {
-            best = Some(claim);
-        }
-    }
-    best
-}
-
-// The last nation's claim to a tag as its initial, dated 0.
-pub fn best_initial(nations: &[u32], tag: CountryTag) -> Option<Claim>
-    ensures { option_of result ≡ best_of tag (record { 0 = 0 }) (initial_claims nations.now 0) }
-{
-    for nation in (0..nation_count(nations)).rev() {
-        let initial = nation_at(nations, nation).initial;
-        if initial == tag {
-            let date = Eu4Date::kept(0);
-            return Some(Claim {
-                tag: initial,
-                date,
-                nation,
-            });
-        }
-    }
-    None
 }

@@ -3,40 +3,50 @@ use mathlib.Core.Path.{◌≡◌, refl, sym, ap, subst, ◌∙◌}
 use mathlib.Core.Bool.{cond, ◌&&◌}
 use mathlib.Core.List.{List, [], ◌∷◌, ◌++◌, map, append_assoc}
 use mathlib.Core.Option.{Option, none, some}
-use Prim.Native.Nat.{ℕ, suc, ◌+◌, ◌-◌, ◌<◌, ◌≤◌}
-use native.Mathlib.Numerals.{add-one}
+use Prim.Native.Nat.{ℕ, ◌+◌, ◌<◌, ◌≤◌}
 use native.Mathlib.Omega.{arith}
 use native.Mathlib.Decide.{ℕ_discrete}
 use borrow.Author.Tests.{eqb-true, eq-eqb, ne_eqb, lt-ltb}
 use lib.Dec.{eqb, ltb}
 use lib.ListN.{length, get_or, set, length-set}
 use lib.Seq.{get_or-set_same, get_or-set_other}
-use Rattle.lists.specs.Lists.{All}
+use Rattle.lists.specs.Lists.{All, numbers_from}
+use Rattle.lists.proofs.ListLaws.{map-then}
 use Rattle.lists.proofs.BoolLaws.{cases, clash}
 use Rattle.format.specs.declared.tag.CountryTag.{CountryTag}
 use Rattle.format.specs.Tags.{same_tag}
 use Rattle.format.specs.Campaign.{Country}
-use Rattle.rules.specs.NationRows.{nation_rows_in}
+use Rattle.rules.specs.NationRows.{NationRow, nation_rows_in}
 use Rattle.rules.specs.HistoryRows.{nation_word}
 use Rattle.search.specs.Places.{place_from}
 use Rattle.search.proofs.PlaceLaws.{place_inside, place-has}
-use Rattle.chronicle_rows.specs.RowAt.{nation_row_at, stored_tags}
+use Rattle.chronicle_rows.specs.RowAt.{nation_row_at, tags_stored}
+use Rattle.chronicle_rows.proofs.RowAtLaws.{nations-next}
+use Rattle.chronicle_rows.proofs.NumberedLaws.{dropped-numbers}
 use Rattle.draft_parts.specs.Marks.{stored_word, marked_at, marked_from, cell_at}
 
 -- ## A mark for each nation
 
-module _ (ws : List ℕ) (ts : List CountryTag) (cells : List ℕ) (i n : ℕ) where
-  pub marked-end : n ≤ i → marked_from ts cells i (stored_tags ws i (n - i)) ≡ cells
-  unfolding marked_from
-  marked-end h = let z : n - i ≡ 0 = omega arith in rw z
+-- The tags that nations are stored under, by their rows.
+pub tags-read : (ws : List ℕ) → map (λ r. r.stored) (nation_rows_in ws) ≡ tags_stored ws
+tags-read ws =
+    let n : ℕ = length (nation_rows_in ws) in
+    ap (map (λ (r : NationRow). r.stored)) (dropped-numbers (nation_rows_in ws) (nation_row_at ws) (nations-next ws) n 0 (omega arith))
+    ∙ map-then (nation_row_at ws) (λ (r : NationRow). r.stored) (numbers_from 0 n)
 
-  pub marked_next : i < n → (cells' : List ℕ) (t : CountryTag) (o : Option ℕ) → t ≡ (nation_row_at ws i).stored → o ≡ place_from 0 t ts → cells' ≡ marked_at cells o (i + 1)
-      → marked_from ts cells' (i + 1) (stored_tags ws (i + 1) (n - (i + 1))) ≡ marked_from ts cells i (stored_tags ws i (n - i))
+-- What is left of the rows tells of all cells.
+abbrev pub marks_left : List CountryTag → List ℕ → ℕ → List NationRow → List ℕ
+marks_left ts cells a rows = marked_from ts cells a (map (λ r. r.stored) rows)
+
+module _ (ts : List CountryTag) (cells : List ℕ) (a : ℕ) where
+  pub marks-end : (rows : List NationRow) → rows ≡ [] → marks_left ts cells a rows ≡ cells
   unfolding marked_from
-  marked_next h cells' t o e f g =
-      let z : n - i ≡ suc (n - (i + 1)) = omega arith in
-      rw (z, g, f, e)
-      (ap (λ (b : ℕ). marked_from ts (marked_at cells (place_from 0 (nation_row_at ws i).stored ts) (i + 1)) (i + 1) (stored_tags ws b (n - (i + 1)))) (add-one i))
+  marks-end rows e = rw e
+
+  pub marks_next : (rows rest : List NationRow) (r : NationRow) → rows ≡ r ∷ rest → (cells' : List ℕ) (o : Option ℕ) → o ≡ place_from 0 r.stored ts → cells' ≡ marked_at cells o (a + 1)
+      → marks_left ts cells' (a + 1) rest ≡ marks_left ts cells a rows
+  unfolding marked_from
+  marks_next rows rest r e cells' o f g = rw (e, g, f) refl
 
 -- ## What each cell holds in the end
 
@@ -93,8 +103,8 @@ module _ (ts : List CountryTag) (t : CountryTag) (p : ℕ) (at : place_from 0 t 
 
   -- From cells of nothing, each place's cell is the first nation's stored under its tag.
   pub stored-word : (ws cells : List ℕ) → length ts ≤ length cells → ((q : ℕ) → get_or cells q 0 ≡ 0)
-      → cell_at (marked_from ts cells 0 (stored_tags ws 0 (length (nation_rows_in ws)))) (place_from 0 t ts) ≡ stored_word ws t
-  stored-word ws cells h blank = rw at (marked-word (stored_tags ws 0 (length (nation_rows_in ws))) 0 cells h ∙ rw (blank p) refl)
+      → cell_at (marked_from ts cells 0 (tags_stored ws)) (place_from 0 t ts) ≡ stored_word ws t
+  stored-word ws cells h blank = rw at (marked-word (tags_stored ws) 0 cells h ∙ rw (blank p) refl)
 
 -- ## Every country has a place
 

@@ -1,5 +1,6 @@
 -- What the cells of countries hold: inner steps, which no promise of a call of 01 cites.
-use Rattle.std.specs.Prelude.{cond, ◌&&◌, List, [], ◌∷◌, ℕ, ◌+◌, ltb, eqb, length, get_or, set}
+use Rattle.std.specs.Prelude as code
+use Rattle.std.specs.Prelude.{None, Some, cond, ◌&&◌, List, [], ◌∷◌, ℕ, zero, suc, ◌+◌, ◌%◌, ltb, eqb, length, get_or, set}
 use Rattle.std.proofs.Math.Option.{Option, none, some}
 use Rattle.format.specs.declared.tag.CountryTag.{CountryTag}
 use Rattle.rules.specs.HistoryRows.{nation_word}
@@ -24,3 +25,8 @@ marked_from ts cells a (x ∷ xs) = marked_from ts (marked_at cells (place_from 
 abbrev pub cell_at : List ℕ → Option ℕ → ℕ
 cell_at cells none = 0
 cell_at cells (some p) = get_or cells p 0
+
+-- The number that a cell holds, of which 32 bits are kept.
+abbrev pub number_in : ℕ → code.Option ℕ
+number_in zero = None
+number_in (suc n) = Some (n % 4294967296)

@@ -4,5 +4,5 @@
 mod marks;
 mod parts;
 
-pub use marks::{country_cell, mark_nations};
-pub use parts::{draft_of, is_numbered, nation_of};
+pub use marks::{mark_nations, stored_nation};
+pub use parts::{draft_of, nation_of, open_numbered};

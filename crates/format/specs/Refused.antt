@@ -1,6 +1,7 @@
 -- 01's numbers, for an answer that says by an enum why it is refused.
 use Rattle.std.specs.Prelude as code
-use Rattle.std.specs.Prelude.{ℕ, Ok, Err}
+use Rattle.std.specs.Prelude.{List, ℕ, Ok, Err, ◌++◌, codes}
+use Rattle.std.specs.Fmt.{decimal}
 use Rattle.format.specs.declared.refused.Refusal.{Refusal}
 use Rattle.format.specs.declared.refused.Refusal.TheVariants.{NoRecord, UnknownVersion, WrongSizes, BadTag, BadDate, UndefinedBit, Repeated, EndsEarly, LongYear, NoRoom, NotShaped, BadQuestion, NoNation}
 
@@ -21,6 +22,10 @@ refusal_number NoRoom = 10
 refusal_number NotShaped = 11
 refusal_number BadQuestion = 12
 refusal_number NoNation = 13
+
+-- How a program prints it.
+abbrev pub refused_text : Refusal → List ℕ
+refused_text refusal = codes "refused " ++ decimal (refusal_number refusal)
 
 -- The number of a test: 0 if it passes.
 abbrev pub number_of : {A : Type 0} → code.Result A Refusal → ℕ

@@ -38,6 +38,9 @@ fn is_day(month_day: u32) -> bool
 }
 
 impl Eu4Date {
+    // Before every date, and no date itself.
+    pub const BEFORE_ALL: Eu4Date = Eu4Date(0);
+
     // Whether the year is 1 to 9999: the number's size tells, so that nothing is divided.
     pub fn in_years(self) -> bool
         ensures { result ≡ in_years self }
@@ -67,7 +70,8 @@ impl Eu4Date {
         Eu4Date(word)
     }
 
-    // The date of four bytes as they stand, the low one first. Nothing is tested.
+    // The date of four bytes as they stand, the low one first. Nothing is tested. No `From<[u8; 4]>`: bytes do not tell their order, which is why
+    // `u32::from_le_bytes` has a name too.
     #[tactic(auto, unfolding(crate::specs::Bytes::date_at, crate::specs::Bytes::le32))]
     pub fn read(bytes: [u8; 4]) -> Eu4Date
         ensures { result ≡ date_at bytes 0 }

@@ -1,6 +1,6 @@
 // Why a record, or a call that is given one, is refused.
-ghost use Rattle.std.specs.Prelude.{◌≡◌};
-ghost use Rattle.format.specs.Refused.{refusal_number};
+ghost use Rattle.std.specs.Prelude.{◌≡◌, Some};
+ghost use Rattle.format.specs.Refused.{refusal_number, refused_text};
 
 use std::fmt;
 
@@ -31,7 +31,10 @@ impl Refusal {
     }
 }
 
+// How a program prints it. The page's line of it (page_lines, `refused_line`) is put together anew: its memory is an ArrayVec, which is no `fmt::Write`.
 impl fmt::Display for Refusal {
+    ghost output = { λ refusal. Some (refused_text refusal) };
+
     fn fmt<W: fmt::Write>(&self, f: &mut fmt::Formatter<W>) -> fmt::Result {
         let number = self.number();
         write!(f, "refused {number}")

@@ -34,11 +34,10 @@ impl CountryTag {
     pub fn create(s: &[u8]) -> Result<CountryTag, NotATag>
         ensures { ok_of result ≡ created s.now }
     {
-        let wrong = s.len() != 3;
-        if wrong {
+        let [a, b, c] = *s else {
             return Err(NotATag);
-        }
-        CountryTag::read(s[0], s[1], s[2]).tested()
+        };
+        CountryTag::read(a, b, c).tested()
     }
 
     // The tag itself, if its bytes are tag bytes.
@@ -56,7 +55,8 @@ impl CountryTag {
         CountryTag(word)
     }
 
-    // The tag of three bytes as they stand. Nothing is tested: `create` does.
+    // The tag of three bytes as they stand. Nothing is tested: `create` does. No `From<[u8; 3]>`, which would pass for a tested one beside
+    // `TryFrom<u32>`.
     pub fn read(a: u8, b: u8, c: u8) -> CountryTag
         ensures { result ≡ tag_of a b c }
     {

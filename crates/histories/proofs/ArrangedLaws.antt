@@ -1,47 +1,35 @@
 -- Drafts arranged are the histories arranged: their words, their names, and how many they are.
 use mathlib.Core.Path.{◌≡◌, refl, sym, ap, ap₂, ◌∙◌}
-use mathlib.Core.Bool.{Bool, true, false, cond, ◌&&◌, not}
+use mathlib.Core.Bool.{Bool, true, false, cond, ◌&&◌, ◌||◌, not}
 use mathlib.Core.List.{List, [], ◌∷◌, ◌++◌, map, append-nil}
-use Prim.Native.Nat.{ℕ, suc, ◌+◌, ◌-◌, ◌*◌, ◌%◌}
+use Prim.Native.Nat.{ℕ, suc, ◌+◌, ◌-◌}
 use native.Mathlib.Omega.{arith}
 use borrow.Author.Tests.{lt-ltb, ltb-false, ne_eqb}
 use lib.Dec.{ltb, eqb}
 use lib.ListN.{length, take, set, length-append, length-map}
 use lib.Seq.{take-length}
-use Rattle.lists.specs.Lists.{All, keep, one, last_or, but_last, sum_of, join_of}
+use Rattle.lists.specs.Lists.{All, any_of, keep, last_or, but_last, sum_of, join_of}
 use Rattle.lists.proofs.BoolLaws.{cases, clash}
 use Rattle.lists.proofs.ElementLaws.{keep-map, last-map}
-use Rattle.lists.proofs.ListLaws.{join-append, join-none, all_map}
+use Rattle.lists.proofs.ListLaws.{join-append, join-none, all_map, map-then}
 use Rattle.sorting.proofs.SortLaws.{all-kept}
 use Rattle.rules.specs.Histories.{History, has_players, is_released, takes_initial, arranged, names_in}
-use Rattle.rules.specs.HistoryRows.{HistoryRow, history_row_of, history_row_words, history_rows_from, history_words}
+use Rattle.rules.specs.HistoryRows.{history_row_words, history_rows_from, history_words}
 use Rattle.histories.specs.Drafts.{draft_of}
+use Rattle.arranging.specs.declared.drafts.Draft.{Draft}
 use Rattle.arranging.specs.Drafts.{is_played, is_leftover}
-use Rattle.arranging.specs.Arranging.{is_popped, histories_from, names_at, kept_of, draft_words}
+use Rattle.arranging.specs.Arranging.{last_initial, is_popped, histories_from, names_at, kept_of, draft_words}
 
 module _ (keys : List ℕ) where
-  abbrev draft : History → HistoryRow
+  abbrev draft : History → Draft
   draft = draft_of keys
 
   -- ## Words
 
-  -- The two flags of a draft are told apart.
-  flag-human : (a b : Bool) → (one a + 2 * one b) % 2 ≡ one a
-  flag-human true true = refl
-  flag-human true false = refl
-  flag-human false true = refl
-  flag-human false false = refl
-
-  flag-released : (a b : Bool) → ltb 1 (one a + 2 * one b) ≡ b
-  flag-released true true = refl
-  flag-released true false = refl
-  flag-released false true = refl
-  flag-released false false = refl
-
   pub finished-rows : (first : ℕ) (hs : List History) → histories_from first (map draft hs) ≡ history_rows_from first hs
   unfolding histories_from history_rows_from
   finished-rows first [] = refl
-  finished-rows first (h ∷ hs) = rw (flag-human h.country.human (is_released h), finished-rows (first + length h.names) hs)
+  finished-rows first (h ∷ hs) = rw (finished-rows (first + length h.names) hs)
 
   rows_append : (first : ℕ) (hs gs : List History)
       → join_of history_row_words (history_rows_from first (hs ++ gs))
@@ -54,22 +42,26 @@ module _ (keys : List ℕ) where
 
   -- ## Which leftover vanishes
 
-  take_last : (x : HistoryRow) (xs : List HistoryRow) → take (length (x ∷ xs) - 1) (x ∷ xs) ≡ but_last (x ∷ xs)
+  or_false : (b : Bool) → (b || false) ≡ b
+  or_false true = refl
+  or_false false = refl
+
+  take_last : (x : Draft) (xs : List Draft) → take (length (x ∷ xs) - 1) (x ∷ xs) ≡ but_last (x ∷ xs)
   take_last x [] = refl
   take_last x (y ∷ xs) =
       let z : length (x ∷ y ∷ xs) - 1 ≡ suc (length (y ∷ xs) - 1) = omega arith in
-      rw z (ap (λ (l : List HistoryRow). x ∷ l) (take_last y xs))
+      rw z (ap (λ (l : List Draft). x ∷ l) (take_last y xs))
 
   map-but_last : (h : History) (hs : List History) → map draft (but_last (h ∷ hs)) ≡ but_last (map draft (h ∷ hs))
   map-but_last h [] = refl
-  map-but_last h (g ∷ hs) = ap (λ (l : List HistoryRow). draft h ∷ l) (map-but_last g hs)
+  map-but_last h (g ∷ hs) = ap (λ (l : List Draft). draft h ∷ l) (map-but_last g hs)
 
   -- ## Two lists of histories, arranged
 
   module _ (ironman : Bool) where
     -- The last leftover vanishes, by the drafts of both lists.
     abbrev pops : List History → List History → Bool
-    pops hs ls = ironman && eqb (length (map draft hs)) 1 && ltb 0 (length (map draft ls)) && ltb 1 (last_or (history_row_of []) (map draft hs)).human
+    pops hs ls = ironman && eqb (length (map draft hs)) 1 && ltb 0 (length (map draft ls)) && any_of (λ d. d.released) (map draft hs)
 
     arranged-plain : (hs ls : List History) → pops hs ls ≡ false → arranged ironman hs ls ≡ hs ++ ls
     unfolding arranged
@@ -77,7 +69,7 @@ module _ (keys : List ℕ) where
     arranged-plain (h ∷ []) [] q = cases (ironman && is_released h) (λ e. simp e) (λ e. simp e)
     arranged-plain (h ∷ []) (l ∷ ls) q =
         let some : ltb 0 (length (map draft (l ∷ ls))) ≡ true = lt-ltb 0 (length (map draft (l ∷ ls))) (omega arith) in
-        let r : (ironman && is_released h) ≡ false = go ironman (is_released h) (rw (some, flag-released h.country.human (is_released h)) at q) in
+        let r : (ironman && is_released h) ≡ false = go ironman (is_released h) (rw (some, or_false (is_released h)) at q) in
         rw r
       where
         go : (a b : Bool) → (a && true && true && b) ≡ false → (a && b) ≡ false
@@ -91,23 +83,23 @@ module _ (keys : List ℕ) where
     unfolding arranged
     arranged-popped [] ls q f = clash _ q (go ironman)
       where
-        go : (a : Bool) → (a && false && ltb 0 (length (map draft ls)) && ltb 1 (history_row_of []).human) ≡ false
+        go : (a : Bool) → (a && false && ltb 0 (length (map draft ls)) && false) ≡ false
         go true = refl
         go false = refl
     arranged-popped (h ∷ []) [] q f = clash _ q (go ironman)
       where
-        go : (a : Bool) → (a && true && false && ltb 1 (draft h).human) ≡ false
+        go : (a : Bool) → (a && true && false && (is_released h || false)) ≡ false
         go true = refl
         go false = refl
     arranged-popped (h ∷ []) (l ∷ rest) q f =
         let some : ltb 0 (length (map draft (l ∷ rest))) ≡ true = lt-ltb 0 (length (map draft (l ∷ rest))) (omega arith) in
-        let r : (ironman && is_released h) ≡ true = go ironman (is_released h) (rw (some, flag-released h.country.human (is_released h)) at q) in
+        let r : (ironman && is_released h) ≡ true = go ironman (is_released h) (rw (some, or_false (is_released h)) at q) in
         f h l rest refl refl (rw r refl)
       where
         go : (a b : Bool) → (a && true && true && b) ≡ true → (a && b) ≡ true
         go true b e = e
         go false b e = e
-    arranged-popped (h ∷ g ∷ hs) ls q f = clash _ q (go ironman (ltb 0 (length (map draft ls))) (ltb 1 (last_or (history_row_of []) (map draft (h ∷ g ∷ hs))).human))
+    arranged-popped (h ∷ g ∷ hs) ls q f = clash _ q (go ironman (ltb 0 (length (map draft ls))) (any_of (λ d. d.released) (map draft (h ∷ g ∷ hs))))
       where
         two : eqb (length (map draft (h ∷ g ∷ hs))) 1 ≡ false
         two = ne_eqb (length (map draft (h ∷ g ∷ hs))) 1 (λ e. omega arith)
@@ -135,20 +127,20 @@ module _ (keys : List ℕ) where
 
     words-popped : (h l : History) (rest : List History) (total : ℕ) → total ≡ sum_of (λ g. length g.names) (h ∷ [])
         → history_words (takes_initial h (last_or l rest) ∷ but_last (l ∷ rest))
-        ≡ set (front_words (h ∷ []) ++ back_words total (length (map draft (l ∷ rest)) - 1) (l ∷ rest)) 0 (last_or (history_row_of []) (map draft (l ∷ rest))).initial.0
+        ≡ set (front_words (h ∷ []) ++ back_words total (length (map draft (l ∷ rest)) - 1) (l ∷ rest)) 0 (last_initial (map draft (l ∷ rest))).0
     unfolding history_words history_rows_from histories_from
     words-popped h l rest total t =
-        let e1 = flag-human h.country.human (is_released h) in
         let e2 : take (length (map draft (l ∷ rest)) - 1) (map draft (l ∷ rest)) ≡ map draft (but_last (l ∷ rest)) = take_last (draft l) (map draft rest) ∙ sym (map-but_last l rest) in
         let e3 : total ≡ 0 + length h.names = omega (arith, t) in
-        let e4 : last_or (draft l) (map draft rest) ≡ draft (last_or l rest) = sym (last-map draft l rest) in
-        rw (e1, e2, e3, e4, finished-rows (0 + length h.names) (but_last (l ∷ rest))) refl
+        let e4 : last_or l.initial (map (λ (d : Draft). d.initial) (map draft rest)) ≡ (last_or l rest).initial =
+        ap (last_or l.initial) (map-then draft (λ (d : Draft). d.initial) rest) ∙ sym (last-map (λ (g : History). g.initial) l rest) in
+        rw (e2, e3, e4, finished-rows (0 + length h.names) (but_last (l ∷ rest))) refl
 
     -- By either way.
     words-arranged : (hs ls : List History) (total : ℕ) → total ≡ sum_of (λ h. length h.names) hs
         → history_words (arranged ironman hs ls)
         ≡ cond (pops hs ls)
-        (set (front_words hs ++ back_words total (length (map draft ls) - 1) ls) 0 (last_or (history_row_of []) (map draft ls)).initial.0)
+        (set (front_words hs ++ back_words total (length (map draft ls) - 1) ls) 0 (last_initial (map draft ls)).0)
         (front_words hs ++ back_words total (length (map draft ls)) ls)
     words-arranged hs ls total t =
         cases (pops hs ls)

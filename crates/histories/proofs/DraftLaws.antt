@@ -1,44 +1,43 @@
 -- All drafts, from the cells of the tables to the nations.
 use mathlib.Core.Path.{◌≡◌, refl, sym, ap, ◌∙◌}
 use mathlib.Core.List.{List, [], ◌++◌, map}
-use Prim.Native.Nat.{ℕ, zero, suc, ◌*◌, ◌%◌, ◌≤◌}
+use Prim.Native.Nat.{ℕ, zero, suc, ◌≤◌}
 use native.Mathlib.Omega.{arith}
 use borrow.Author.Tests.{le-leb}
 use lib.Dec.{leb}
 use mathlib.Core.Bool.{true}
 use lib.ListN.{length, take, drop, get_or, replicate, length-replicate, length-map}
 use lib.Seq.{take_at}
-use Rattle.lists.specs.Lists.{All, join_of}
+use Rattle.lists.specs.Lists.{All}
 use Rattle.lists.proofs.ListLaws.{all_map, all_keep, all_append, all_take, all_get_d}
 use Rattle.lists.proofs.ElementLaws.{map_same, keep-short}
 use Rattle.sorting.specs.Sort.{sort_by, cleared}
 use Rattle.sorting.proofs.SortLaws.{length-sort}
-use Rattle.format.specs.declared.tag.CountryTag.{CountryTag}
+use Rattle.sorting.proofs.SortedKeyLaws.{sort-again}
 use Rattle.format.specs.Campaign.{Country}
 use Rattle.record.specs.declared.cursors.Countries.{Countries}
 use Rattle.record.specs.Cursors.{countries_left}
 use Rattle.rules.specs.Lent.{written}
-use Rattle.rules.specs.NationRows.{nation_rows_in}
-use Rattle.rules.specs.HistoryRows.{HistoryRow, history_row_words}
-use Rattle.search.specs.Places.{tag_keys_from, place_from}
-use Rattle.chronicle_rows.specs.RowAt.{stored_tags}
+use Rattle.arranging.specs.declared.drafts.Draft.{Draft}
+use Rattle.search.specs.Places.{place_from}
+use Rattle.chronicle_rows.specs.RowAt.{tags_stored}
 use Rattle.draft_parts.specs.Marks.{stored_word, marked_from, cell_at}
 use Rattle.histories.specs.Tables.{tags_left}
 use Rattle.histories.specs.Drafts.{played_left, draft_with, draft_for, FillsDrafts, HoldsDrafts}
 use Rattle.draft_parts.proofs.MarkLaws.{stored-word, all-placed}
-use Rattle.search.proofs.PlaceLaws.{length-tag-keys}
-use Rattle.history_rows.proofs.PutLaws.{length-rows}
 
 -- ## The tables
 
--- The keys of the countries, sorted in their place.
-pub tags-indexed : (ts : List CountryTag) (n : ℕ) (before keys sorted rest : List ℕ) → keys ≡ written (tag_keys_from 0 ts) before → n ≡ length ts
-    → sorted ≡ sort_by leb (take n keys) → take n (sorted ++ rest) ≡ sort_by leb (tag_keys_from 0 ts)
-tags-indexed ts n before keys sorted rest filled counted s =
-    let cells : List ℕ = tag_keys_from 0 ts in
-    let many : n ≡ length cells = counted ∙ sym (length-tag-keys 0 ts) in
+-- Keys in front of a slice, sorted in their place, and again.
+pub keys-indexed : (cells : List ℕ) (n : ℕ) (before keys sorted rest : List ℕ) → keys ≡ written cells before → n ≡ length cells → sorted ≡ sort_by leb (take n keys)
+    → take n (sorted ++ rest) ≡ sort_by leb cells
+keys-indexed cells n before keys sorted rest filled many s =
     let whole : sorted ≡ sort_by leb cells = s ∙ ap (sort_by leb) (ap (take n) filled ∙ take_at cells _ n (sym many)) in
     take_at sorted rest n (ap length whole ∙ length-sort leb cells ∙ sym many) ∙ whole
+
+pub keys-again : (cells : List ℕ) (n : ℕ) (before keys sorted rest : List ℕ) → keys ≡ written cells before → n ≡ length cells → sorted ≡ sort_by leb (take n keys)
+    → sort_by leb (take n (sorted ++ rest)) ≡ take n (sorted ++ rest)
+keys-again cells n before keys sorted rest filled many s = rw (keys-indexed cells n before keys sorted rest filled many s) (sort-again cells)
 
 all-zeros : (n : ℕ) → All {A = ℕ} (λ x. x ≡ 0) (replicate n 0)
 all-zeros zero = tt
@@ -55,32 +54,27 @@ scratch-blank n m h q =
 
 -- ## From the cells to the nations
 
-module _ (c : Countries) (ws zeros cells keys : List ℕ) (count : ℕ) (out₀ out₁ : List ℕ) where
-  told-drafts : length (tags_left c) ≤ length zeros → ((q : ℕ) → get_or zeros q 0 ≡ 0)
-      → cells ≡ marked_from (tags_left c) zeros 0 (stored_tags ws 0 (length (nation_rows_in ws)))
-      → map (draft_for ws (tags_left c) cells keys) (played_left c)
-      ≡ map (λ k. draft_with ws keys k (stored_word ws k.tag % 4294967296)) (played_left c)
+module _ (c : Countries) (ws zeros cells keys : List ℕ) (count : ℕ) (out₀ out₁ : List Draft) where
+  told-drafts : length (tags_left c) ≤ length zeros → ((q : ℕ) → get_or zeros q 0 ≡ 0) → cells ≡ marked_from (tags_left c) zeros 0 (tags_stored ws)
+      → map (draft_for ws (tags_left c) cells keys) (played_left c) ≡ map (λ k. draft_with ws keys k (stored_word ws k.tag)) (played_left c)
   told-drafts room blank marked =
       map_same _ _ (played_left c)
-      (all_keep (λ k. draft_for ws (tags_left c) cells keys k ≡ draft_with ws keys k (stored_word ws k.tag % 4294967296)) (λ k. k.was_player) (countries_left c)
+      (all_keep (λ k. draft_for ws (tags_left c) cells keys k ≡ draft_with ws keys k (stored_word ws k.tag)) (λ k. k.was_player) (countries_left c)
       (all_map
       (λ (k : Country) found.
-      ap (λ (w : ℕ). draft_with ws keys k (w % 4294967296))
+      ap (draft_with ws keys k)
       (ap (λ (m : List ℕ). cell_at m (place_from 0 k.tag (tags_left c))) marked ∙ stored-word (tags_left c) k.tag found.0 found.1 ws zeros room blank))
       (countries_left c) (all-placed [] (countries_left c))))
 
   pub drafts-told : FillsDrafts c ws cells keys count out₀ out₁ → length (tags_left c) ≤ length zeros → ((q : ℕ) → get_or zeros q 0 ≡ 0)
-      → cells ≡ marked_from (tags_left c) zeros 0 (stored_tags ws 0 (length (nation_rows_in ws))) → length (countries_left c) ≤ 2000
-      → length out₁ ≡ 14000 → HoldsDrafts c ws keys count out₁
+      → cells ≡ marked_from (tags_left c) zeros 0 (tags_stored ws) → length (countries_left c) ≤ 2000
+      → length out₁ ≡ 2000 → HoldsDrafts c ws keys count out₁
   drafts-told f room blank marked few long =
-      let ds : List HistoryRow = map (draft_for ws (tags_left c) cells keys) (played_left c) in
-      let many : length (join_of history_row_words ds) ≡ 7 * count = length-rows ds ∙ ap (λ (n : ℕ). 7 * n) (length-map (played_left c) (draft_for ws (tags_left c) cells keys) ∙ sym f.counted) in
+      let ds : List Draft = map (draft_for ws (tags_left c) cells keys) (played_left c) in
+      let many : length ds ≡ count = length-map (played_left c) (draft_for ws (tags_left c) cells keys) ∙ sym f.counted in
       record {
         counted = f.counted;
         few = omega (arith, f.counted, keep-short (λ (k : Country). k.was_player) (countries_left c), few);
         long = long;
-        rows =
-            ap (take (7 * count)) f.rows
-            ∙ take_at (join_of history_row_words ds) _ (7 * count) many
-            ∙ ap (join_of history_row_words) (told-drafts room blank marked);
+        drafts = ap (take count) f.drafts ∙ take_at ds _ count many ∙ told-drafts room blank marked;
       }

@@ -3,33 +3,25 @@ use mathlib.Core.Path.{◌≡◌, refl, sym, ap, ◌∙◌}
 use mathlib.Core.Bool.{true}
 use mathlib.Core.List.{List, [], ◌∷◌, map}
 use mathlib.Core.Option.{Option, none, some}
-use Prim.Native.Nat.{ℕ, zero, suc, ◌+◌, ◌/◌, ◌%◌, ◌≤◌, ◌<◌}
+use Prim.Native.Nat.{ℕ, zero, suc, ◌+◌, ◌%◌, ◌≤◌, ◌<◌}
 use native.Mathlib.Numerals.{add-one}
 use native.Mathlib.Omega.{arith}
 use lib.ListN.{length, length-map}
-use Rattle.lists.specs.Lists.{numbers_from, join_of}
+use Rattle.lists.specs.Lists.{numbers_from}
 use Rattle.lists.proofs.BoolLaws.{cases}
-use Rattle.lists.proofs.ListLaws.{length-join, rows_join, map_back, length-numbers}
+use Rattle.lists.proofs.ListLaws.{length-numbers}
 use Rattle.format.specs.Tags.{same_tag}
 use Rattle.format.specs.Campaign.{Country}
 use Rattle.rules.specs.Chronicle.{Nation}
 use Rattle.rules.specs.NationRows.{nation_rows_in, nations_in, well_shaped}
 use Rattle.rules.specs.Histories.{History, history_of, is_released}
-use Rattle.rules.specs.HistoryRows.{HistoryRow, history_width, history_row_of, history_row_words, history_rows_in, nation_word}
+use Rattle.rules.specs.HistoryRows.{nation_word}
 use Rattle.chronicle_rows.specs.RowAt.{nation_numbered, stored_tags}
 use Rattle.chronicle_rows.proofs.NumberedLaws.{nations-numbered}
 use Rattle.search.specs.Places.{place_from}
 use Rattle.search.proofs.PlaceLaws.{place_inside}
 use Rattle.draft_parts.specs.Marks.{stored_word}
 use Rattle.histories.specs.Drafts.{run_length, draft_with, draft_of}
-
--- ## Rows read back
-
-pub drafts-read : (ds : List HistoryRow) → history_rows_in (join_of history_row_words ds) ≡ ds
-unfolding history_rows_in
-drafts-read ds =
-    let e : length (join_of history_row_words ds) / 7 ≡ length ds = omega (arith, length-join history_width history_row_words (λ r. refl) ds) in
-    simp e (ap (map history_row_of) (rows_join history_width history_row_words (λ r. refl) ds) ∙ map_back history_row_words history_row_of (λ r. refl) ds)
 
 -- ## The first nation stored under a country
 
@@ -56,15 +48,16 @@ history-parts names k a (n ∷ ns) = cases (same_tag n.stored k.tag) (λ e. simp
 module _ (ws es keys : List ℕ) (shaped : well_shaped ws es ≡ true) (few : length (nation_rows_in ws) ≤ 4294967295) (names : List ℕ) (k : Country)
     (counted : length names ≡ run_length keys k.tag) where
   draft-at : (o : Option ℕ) → ((i : ℕ) → o ≡ some i → i < 4294967295)
-      → draft_with ws keys k (nation_word o % 4294967296) ≡ draft_of keys (history_at names k (nation_numbered ws es) o)
+      → draft_with ws keys k (nation_word o) ≡ draft_of keys (history_at names k (nation_numbered ws es) o)
   unfolding is_released
   draft-at none small = rw (← counted) refl
   draft-at (some i) small =
       let s = small i refl in
-      let z : (i + 1) % 4294967296 ≡ suc i = omega arith in
-      rw (z, ← counted, add-one i) refl
+      let y : i % 4294967296 ≡ i = omega arith in
+      let z : suc i % 4294967296 ≡ suc i = omega arith in
+      rw (add-one i, y, add-one i, z, ← counted) refl
 
-  pub draft-history : draft_with ws keys k (stored_word ws k.tag % 4294967296) ≡ draft_of keys (history_of names k 0 (nations_in ws es))
+  pub draft-history : draft_with ws keys k (stored_word ws k.tag) ≡ draft_of keys (history_of names k 0 (nations_in ws es))
   draft-history =
       let n : ℕ = length (nation_rows_in ws) in
       let o : Option ℕ = place_from 0 k.tag (stored_tags ws 0 n) in

@@ -1,14 +1,14 @@
 -- The outcome of `player_histories`, by case.
 use mathlib.Core.Path.{◌≡◌, refl, sym, ap, ap₂, ◌∙◌}
-use mathlib.Core.Bool.{Bool, true, false, ◌&&◌}
+use mathlib.Core.Bool.{Bool, true, false, cond, ◌&&◌}
 use mathlib.Core.List.{List, [], ◌∷◌, map}
-use Prim.Native.Nat.{ℕ, ◌+◌, ◌*◌, ◌%◌, ◌≤◌}
+use Prim.Native.Nat.{ℕ, ◌+◌, ◌*◌, ◌≤◌}
 use native.Mathlib.Omega.{arith}
 use borrow.Author.Tests.{le-leb}
 use lib.Dec.{leb, ltb}
 use lib.ListN.{length, take, drop, length-take, length-drop, length-map}
 use Rattle.std.specs.Prelude.{Ok}
-use Rattle.lists.specs.Lists.{All, keep, join_of}
+use Rattle.lists.specs.Lists.{All, keep}
 use Rattle.lists.proofs.BoolLaws.{cases}
 use Rattle.lists.proofs.EachLaws.{all-each}
 use Rattle.lists.proofs.ElementLaws.{map_same, keep-short}
@@ -25,12 +25,12 @@ use Rattle.format.proofs.SoundLaws.{sound}
 use Rattle.record.specs.declared.opened.Record.{Record}
 use Rattle.record.specs.Opened.{RightlyOpened}
 use Rattle.record.specs.Cursors.{countries_left}
-use Rattle.record.proofs.ToldLaws.{refusal_above}
+use Rattle.format.proofs.RefusedLaws.{refuses}
 use Rattle.rules.specs.Lent.{refused, room_number, outcome}
 use Rattle.rules.specs.NationRows.{nation_rows_in, nations_in, well_shaped}
 use Rattle.rules.specs.Players.{Player, players_of}
 use Rattle.rules.specs.Histories.{History, history_of, names_of, played_histories, histories_of}
-use Rattle.rules.specs.HistoryRows.{HistoryRow, history_row_words, history_rows_in}
+use Rattle.arranging.specs.declared.drafts.Draft.{Draft}
 use Rattle.rules.specs.Refusals.{chronicle_number, numbered_number}
 use Rattle.rules.specs.PlayerOutcomes.{HistoryCells, HistoryCounts, history_cells_of, history_counts_of, both_fit, both_written, call_player_histories}
 use Rattle.rules.proofs.LentLaws.{outcome-refused}
@@ -42,7 +42,7 @@ use Rattle.histories.specs.Drafts.{played_left, keys_before, run_length, draft_w
 use Rattle.arranging.specs.Arranging.{is_popped, name_in, names_at, ArrangeReady, drafted_cells, drafted_counts, drafted_outcome, arranged_outcome}
 use Rattle.arranging.proofs.ArrangeLaws.{arranged-ready}
 use Rattle.histories.proofs.NameLaws.{players-rising, names-told}
-use Rattle.histories.proofs.HistoryDraftLaws.{drafts-read, history-parts, draft-history}
+use Rattle.histories.proofs.HistoryDraftLaws.{history-parts, draft-history}
 use Rattle.arranging.proofs.ArrangeStepLaws.{length-all-names}
 use Rattle.histories.proofs.ArrangedLaws.{words_same, names_same, count_same}
 
@@ -77,7 +77,7 @@ module _ (c : Campaign) (ws es : List ℕ) (shaped : well_shaped ws es ≡ true)
       rw (many, start) (names-here k ∙ sym parts.1)
 
   pub drafts-histories : (ks : List Country)
-      → map (λ k. draft_with ws keys k (stored_word ws k.tag % 4294967296)) ks ≡ map (draft_of keys) (map history ks)
+      → map (λ k. draft_with ws keys k (stored_word ws k.tag)) ks ≡ map (draft_of keys) (map history ks)
   drafts-histories ks =
       map_same _ (λ k. draft_of keys (history k)) ks (all-each (λ k. draft-history ws es keys shaped numbered (names_of (players_of c) k.tag) k (length-here k)) ks)
       ∙ sym (map-then history (draft_of keys) ks)
@@ -86,6 +86,14 @@ module _ (c : Campaign) (ws es : List ℕ) (shaped : well_shaped ws es ≡ true)
   all_named ks = all-images (λ h. names_at keys (draft_of keys h) ≡ h.names) history draft-names ks
 
 -- ## From what the functions give to the outcome
+
+pub few-keys : (left : List Player) (keys : List ℕ) → length left ≤ 1000 → keys ≡ sort_by leb (map player_key left) → length keys ≤ 1000
+few-keys left keys few sorted = omega (arith, ap length sorted ∙ length-sort leb (map player_key left), length-map left player_key, few)
+
+-- A chronicle was opened.
+pub opened : (b : Bool) → ◌≡◌ {A = ℕ} 0 (cond b 0 11) → b ≡ true
+opened true h = refl
+opened false h = absurd (omega (arith, h))
 
 module _ (xs : List ℕ) (r : Record) (o : RightlyOpened xs (Ok r)) where
   abbrev camp : Campaign
@@ -97,20 +105,17 @@ module _ (xs : List ℕ) (r : Record) (o : RightlyOpened xs (Ok r)) where
   pub few-countries : length (countries_left r.countries) ≤ 2000
   few-countries = omega (arith, ap length o.rows.countries, (sound xs accepted).few_countries)
 
-  module _ (ws : List ℕ) (left : List Player) (walk : PlayersTold xs left) (keys words : List ℕ) (sorted : keys ≡ sort_by leb (map player_key left))
-      (drafted : words ≡ join_of history_row_words (map (λ k. draft_with ws keys k (stored_word ws k.tag % 4294967296)) (played_left r.countries))) where
-    rows : history_rows_in words ≡ map (λ k. draft_with ws keys k (stored_word ws k.tag % 4294967296)) (played_left r.countries)
-    rows = ap history_rows_in drafted ∙ drafts-read _
-
+  module _ (ws : List ℕ) (left : List Player) (walk : PlayersTold xs left) (keys : List ℕ) (ds : List Draft) (sorted : keys ≡ sort_by leb (map player_key left))
+      (rows : ds ≡ map (λ k. draft_with ws keys k (stored_word ws k.tag)) (played_left r.countries)) where
     short : length keys ≤ 1000
-    short = omega (arith, ap length sorted ∙ length-sort leb (map player_key left), length-map left player_key, walk.few)
+    short = few-keys left keys walk.few sorted
 
-    ready-told : ArrangeReady (history_rows_in words) keys
+    ready-told : ArrangeReady (ds) keys
     ready-told =
         record {
           few = omega (arith, ap length rows ∙ length-map (played_left r.countries) _, keep-short (λ (k : Country). k.was_player) (countries_left r.countries), few-countries);
           short = short;
-          inside = rw rows (all-images (λ d. d.first + d.count ≤ length keys) (λ k. draft_with ws keys k (stored_word ws k.tag % 4294967296)) (λ k. run_inside keys k.tag) (played_left r.countries));
+          inside = rw rows (all-images (λ d. d.first + d.count ≤ length keys) (λ k. draft_with ws keys k (stored_word ws k.tag)) (λ k. run_inside keys k.tag) (played_left r.countries));
         }
 
     module _ (es : List ℕ) (shaped : well_shaped ws es ≡ true) (numbered : length (nation_rows_in ws) ≤ 4294967295) (before : HistoryCells) where
@@ -120,11 +125,11 @@ module _ (xs : List ℕ) (r : Record) (o : RightlyOpened xs (Ok r)) where
       whole-keys : keys ≡ sort_by leb (map player_key (players_of camp))
       whole-keys = sorted ∙ ap (λ (ps : List Player). sort_by leb (map player_key ps)) walk.all
 
-      drafts : history_rows_in words ≡ map (draft_of keys) hs
+      drafts : ds ≡ map (draft_of keys) hs
       unfolding played_histories
       drafts =
           rows
-          ∙ ap (λ (ks : List Country). map (λ k. draft_with ws keys k (stored_word ws k.tag % 4294967296)) (keep (λ k. k.was_player) ks)) o.rows.countries
+          ∙ ap (λ (ks : List Country). map (λ k. draft_with ws keys k (stored_word ws k.tag)) (keep (λ k. k.was_player) ks)) o.rows.countries
           ∙ rw whole-keys (drafts-histories camp ws es shaped numbered (sound xs accepted).few_strings (keep (λ k. k.was_player) camp.countries))
 
       named : All (λ h. names_at keys (draft_of keys h) ≡ h.names) hs
@@ -151,11 +156,11 @@ module _ (xs : List ℕ) (r : Record) (o : RightlyOpened xs (Ok r)) where
           ∙ first-pass (numbered_number (nations_in ws es)) _ (rw (le-leb (length (nations_in ws es)) 4294967295 (omega (arith, nations-many ws es shaped))))
           ∙ first_one _
 
-      pub outcome-told : arranged_outcome r.ironman (history_rows_in words) keys before ≡ call_player_histories xs ws es before
+      pub outcome-told : arranged_outcome r.ironman (ds) keys before ≡ call_player_histories xs ws es before
       unfolding call_player_histories
       outcome-told =
-          arranged-ready (history_rows_in words) keys r.ironman before ready-told
-          ∙ ap₂ (λ (b : Bool) (ds : List HistoryRow). drafted_outcome b ds keys before) o.rows.ironman drafts
+          arranged-ready (ds) keys r.ironman before ready-told
+          ∙ ap₂ (λ (b : Bool) (ds : List Draft). drafted_outcome b ds keys before) o.rows.ironman drafts
           ∙ ap₂ (λ (cells : HistoryCells) (n : HistoryCounts). outcome (room_number (both_fit cells before)) n (both_written cells before) before) cells_same counts_same
           ∙ ap (λ (m : ℕ). outcome m (history_counts_of (histories_of camp (nations_in ws es))) (both_written (history_cells_of (histories_of camp (nations_in ws es))) before) before) (sym number)
 
@@ -168,7 +173,7 @@ module _ (xs ws es : List ℕ) (before : HistoryCells) where
   pub call-refused : (e : Refusal) → refusal_number e ≡ refusal xs → record { answer = refused (refusal_number e); memory = before } ≡ call_player_histories xs ws es before
   unfolding call_player_histories
   call-refused e t =
-      let above = refusal_above e in
+      let above = refuses e in
       let first = first-stop (refusal xs) (chronicle_number ws es ∷ numbered_number (nations_in ws es) ∷ room_number (both_fit (history_cells_of all) before) ∷ []) (λ z. omega arith) ∙ sym t in
       sym (rw first (outcome-refused (refusal_number e) (history_counts_of all) (both_written (history_cells_of all) before) before above))
 
@@ -187,3 +192,11 @@ module _ (xs ws es : List ℕ) (before : HistoryCells) where
       (λ s. let c : chronicle_number ws es ≡ 11 = rw s refl in
       first-stop (chronicle_number ws es) (numbered_number (nations_in ws es) ∷ rest) (λ e. omega (arith, c, e)) ∙ c) in
       sym (rw first (outcome-refused 11 (history_counts_of all) (both_written (history_cells_of all) before) before (omega arith)))
+
+  -- What `?` hands on of such a chronicle.
+  pub call-untaken : refusal xs ≡ 0 → (e : Refusal) → refusal_number e ≡ cond (well_shaped ws es && leb (length (nation_rows_in ws)) 4294967295) 0 11
+      → record { answer = refused (refusal_number e); memory = before } ≡ call_player_histories xs ws es before
+  call-untaken z e h =
+      cases (well_shaped ws es && leb (length (nation_rows_in ws)) 4294967295)
+      (λ t. let y : refusal_number e ≡ 0 = h ∙ rw t refl in absurd (omega (arith, y, refuses e)))
+      (λ t. let y : refusal_number e ≡ 11 = h ∙ rw t refl in rw y (call-torn z t))

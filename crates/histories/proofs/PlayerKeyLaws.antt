@@ -4,22 +4,22 @@ use mathlib.Core.List.{List}
 use Prim.Native.Nat.{ℕ, ◌+◌, ◌-◌, ◌*◌, ◌/◌, ◌%◌, ◌≤◌}
 use native.Mathlib.Omega.{arith}
 use borrow.Author.Tests.{lt-ltb, ltb-true}
-use lib.Dec.{leb, ltb}
+use lib.Dec.{ltb}
+use lib.ListN.{length}
 use Rattle.lists.specs.Lists.{count_of}
 use Rattle.lists.proofs.ListLaws.{count-more}
-use Rattle.sorting.specs.Sort.{sort_by}
 use Rattle.format.specs.declared.tag.CountryTag.{CountryTag}
-use Rattle.search.specs.Halving.{CountsBelow}
+use Rattle.search.specs.Halving.{count_below}
 use Rattle.search.specs.Places.{tag_key}
 use Rattle.histories.specs.Drafts.{keys_before, RunOf}
 
-module _ (keys : List ℕ) (tag : CountryTag) (low first end : ℕ) (l : low ≡ tag_key tag (0 % 65536)) (sorted : sort_by leb keys ≡ keys)
-    (a : CountsBelow keys (low / 2 * 2) first) (b : CountsBelow keys ((low + 65536) / 2 * 2) end) where
+module _ (keys : List ℕ) (tag : CountryTag) (low first end : ℕ) (l : low ≡ tag_key tag (0 % 65536))
+    (a : first ≡ count_below (low / 2 * 2) keys) (b : end ≡ count_below ((low + 65536) / 2 * 2) keys) (within : end ≤ length keys) where
   first-told : first ≡ keys_before keys tag
-  first-told = let e : low / 2 * 2 ≡ tag.0 * 65536 = omega arith in rw e at (a.counted sorted)
+  first-told = let e : low / 2 * 2 ≡ tag.0 * 65536 = omega arith in rw e at a
 
   end-told : end ≡ count_of (λ k. ltb k (tag.0 * 65536 + 65536)) keys
-  end-told = let e : (low + 65536) / 2 * 2 ≡ tag.0 * 65536 + 65536 = omega arith in rw e at (b.counted sorted)
+  end-told = let e : (low + 65536) / 2 * 2 ≡ tag.0 * 65536 + 65536 = omega arith in rw e at b
 
   run-rising : first ≤ end
   run-rising =
@@ -32,5 +32,5 @@ module _ (keys : List ℕ) (tag : CountryTag) (low first end : ℕ) (l : low ≡
         first = first-told;
         count = ap (λ (n : ℕ). n - first) end-told ∙ ap (λ (n : ℕ). count_of (λ k. ltb k (tag.0 * 65536 + 65536)) keys - n) first-told;
         rising = run-rising;
-        inside = b.inside;
+        inside = within;
       }

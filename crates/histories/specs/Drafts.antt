@@ -1,17 +1,17 @@
 -- What a draft holds: inner steps, which no promise of a call of 01 cites.
-use Rattle.std.specs.Prelude.{◌≡◌, List, map, ℕ, ◌+◌, ◌-◌, ◌*◌, ◌%◌, ◌≤◌, leb, ltb, length, take}
+use Rattle.std.specs.Prelude.{◌≡◌, List, ◌++◌, map, ℕ, ◌+◌, ◌-◌, ◌*◌, ◌≤◌, leb, ltb, length, take, drop}
 use Rattle.std.specs.declared.ops.Range.{Range}
-use Rattle.lists.specs.Lists.{keep, count_of, one, join_of}
+use Rattle.lists.specs.Lists.{keep, count_of}
 use Rattle.sorting.specs.Sort.{sort_by}
 use Rattle.format.specs.declared.tag.CountryTag.{CountryTag}
 use Rattle.format.specs.Campaign.{Country}
 use Rattle.record.specs.declared.cursors.Countries.{Countries}
 use Rattle.record.specs.Cursors.{countries_left}
-use Rattle.rules.specs.Lent.{written}
 use Rattle.rules.specs.Histories.{History, is_released}
-use Rattle.rules.specs.HistoryRows.{HistoryRow, history_row_words, nation_word}
+use Rattle.rules.specs.HistoryRows.{nation_word}
+use Rattle.arranging.specs.declared.drafts.Draft.{Draft}
 use Rattle.search.specs.Places.{tag_keys_from, place_from}
-use Rattle.draft_parts.specs.Marks.{cell_at, stored_word}
+use Rattle.draft_parts.specs.Marks.{cell_at, stored_word, number_in}
 use Rattle.draft_parts.specs.Parts.{told_by, draft_by}
 use Rattle.histories.specs.Tables.{tags_left}
 
@@ -38,56 +38,54 @@ pub record RunOf (keys : List ℕ) (tag : CountryTag) (r : Range ℕ) : Type 0 w
 
 -- ## A draft
 
--- A country's draft with this word.
-abbrev pub draft_with : List ℕ → List ℕ → Country → ℕ → HistoryRow
+-- A country's draft with the nation that this word of a cell counts from 1.
+abbrev pub draft_with : List ℕ → List ℕ → Country → ℕ → Draft
 draft_with ws keys k word =
-    draft_by k.human k.has_switched_nation k.cities word (told_by ws k.tag word) (keys_before keys k.tag) (run_length keys k.tag)
+    draft_by k.human k.has_switched_nation k.cities (number_in word) (told_by ws k.tag (number_in word)) (keys_before keys k.tag) (run_length keys k.tag)
 
 -- The same, with the word of its cell.
-abbrev pub draft_for : List ℕ → List CountryTag → List ℕ → List ℕ → Country → HistoryRow
-draft_for ws ts cells keys k = draft_with ws keys k (cell_at cells (place_from 0 k.tag ts) % 4294967296)
+abbrev pub draft_for : List ℕ → List CountryTag → List ℕ → List ℕ → Country → Draft
+draft_for ws ts cells keys k = draft_with ws keys k (cell_at cells (place_from 0 k.tag ts))
 
 -- ## All drafts
 
 -- The tables are in order, and there is room for a draft of each country that was played.
-pub record FillReady (c : Countries) (tags keys out : List ℕ) : Type 0 where
+pub record FillReady (c : Countries) (tags keys : List ℕ) (out : List Draft) : Type 0 where
   pub few : length (tags_left c) ≤ 65536
   pub indexed : tags ≡ sort_by leb (tag_keys_from 0 (tags_left c))
-  pub ordered : sort_by leb keys ≡ keys
   pub short : length keys ≤ 1000
-  pub small : length out ≤ 14000
-  pub room : 7 * length (played_left c) ≤ length out
+  pub room : length (played_left c) ≤ length out
 
 -- So many drafts, by the cells.
-pub record FillsDrafts (c : Countries) (ws cells keys : List ℕ) (count : ℕ) (out₀ out₁ : List ℕ) : Type 0 where
+pub record FillsDrafts (c : Countries) (ws cells keys : List ℕ) (count : ℕ) (out₀ out₁ : List Draft) : Type 0 where
   pub counted : count ≡ length (played_left c)
-  pub rows : out₁ ≡ written (join_of history_row_words (map (draft_for ws (tags_left c) cells keys) (played_left c))) out₀
+  pub drafts : out₁ ≡ map (draft_for ws (tags_left c) cells keys) (played_left c) ++ drop count out₀
 
 -- At most as many countries as a record has, and room for each.
-pub record DraftReady (c : Countries) (keys out : List ℕ) : Type 0 where
+pub record DraftReady (c : Countries) (keys : List ℕ) (out : List Draft) : Type 0 where
   pub few : length (countries_left c) ≤ 2000
-  pub ordered : sort_by leb keys ≡ keys
   pub short : length keys ≤ 1000
-  pub room : length out ≡ 14000
+  pub room : length out ≡ 2000
 
 -- So many drafts, by the nations.
-pub record HoldsDrafts (c : Countries) (ws keys : List ℕ) (count : ℕ) (out : List ℕ) : Type 0 where
+pub record HoldsDrafts (c : Countries) (ws keys : List ℕ) (count : ℕ) (out : List Draft) : Type 0 where
   pub counted : count ≡ length (played_left c)
   pub few : count ≤ 2000
-  pub long : length out ≡ 14000
-  pub rows : take (7 * count) out ≡ join_of history_row_words (map (λ k. draft_with ws keys k (stored_word ws k.tag % 4294967296)) (played_left c))
+  pub long : length out ≡ 2000
+  pub drafts : take count out ≡ map (λ k. draft_with ws keys k (stored_word ws k.tag)) (played_left c)
 
 -- ## The draft of a history
 
 -- From the history itself.
-abbrev pub draft_of : List ℕ → History → HistoryRow
+abbrev pub draft_of : List ℕ → History → Draft
 draft_of keys h =
     record {
       initial = h.initial;
       latest = h.latest;
       stored = h.stored;
       nation = nation_word h.nation;
-      human = one h.country.human + 2 * one (is_released h);
+      human = h.country.human;
+      released = is_released h;
       first = keys_before keys h.country.tag;
       count = length h.names;
     }

@@ -6,17 +6,14 @@ ghost use Rattle.rules.specs.PlayerOutcomes.{call_player_histories};
 ghost use Rattle.histories.specs.Cases.{histories_outcome, history_cells};
 
 use crate::{drafts, tables};
-use arranging::{HistoryCounts, arrange_drafts};
-use draft_parts::is_numbered;
-use format::Refusal;
-use history_rows::HISTORY_WIDTH;
+use arranging::{Draft, HistoryCounts, arrange_drafts};
+use draft_parts::open_numbered;
+use format::{MOST_COUNTRIES, MOST_STRINGS, Refusal};
 use players::PlayersOf;
 use record::Record;
 
-// The words of a draft for each of the most countries.
-const MOST_WORDS: usize = 14000;
-
-// Sorts the players, drafts a history for each country that was played, and arranges them.
+// Sorts the players, drafts a history for each country that was played, and arranges them. Arrays hold the keys and the drafts, for no memory is
+// allocated.
 fn drafted_histories(
     rows: Record<'_>,
     nations: &[u32],
@@ -26,19 +23,12 @@ fn drafted_histories(
     requires { (xs : List ℕ) × RightlyOpened xs (Ok rows) }
     ensures { (xs es : List ℕ) → RightlyOpened xs (Ok rows.entry) → well_shaped nations.now es ≡ true → length (nation_rows_in nations.now) ≤ 4294967295 → histories_outcome result histories.new names.new ≡ call_player_histories xs nations.now es (history_cells histories.old names.old) }
 {
-    let mut keys = [0u64; tables::MOST_PLAYERS];
-    let mut words = [0u32; MOST_WORDS];
+    let mut keys = [0u64; MOST_STRINGS];
+    let mut drafts = [Draft::NONE; MOST_COUNTRIES];
     let players = PlayersOf::of(rows.strings, rows.multiplayer);
-    let n = tables::sort_players(players, &mut keys);
-    let keys = &keys[..n];
-    let drafted = drafts::draft_rows(rows.countries, nations, keys, &mut words);
-    arrange_drafts(
-        rows.ironman,
-        &words[..HISTORY_WIDTH * drafted],
-        keys,
-        histories,
-        names,
-    )
+    let players = tables::sort_players(players, &mut keys);
+    let n = drafts::draft_countries(rows.countries, nations, players, &mut drafts);
+    arrange_drafts(rows.ironman, &drafts[..n], players.keys, histories, names)
 }
 
 // One history of seven words for each country that was played, and the list of name numbers that the rows point into. A bad record is
@@ -54,8 +44,6 @@ pub fn player_histories(
     ensures { histories_outcome result histories.new names.new ≡ call_player_histories s.now nations.now entries.now (history_cells histories.old names.old) }
 {
     let record = record::open_record(s)?;
-    if !is_numbered(nations, entries) {
-        return Err(Refusal::NotShaped);
-    }
-    drafted_histories(record, nations, histories, names)
+    let chronicle = open_numbered(nations, entries)?;
+    drafted_histories(record, chronicle.nations, histories, names)
 }

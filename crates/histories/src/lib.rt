@@ -1,5 +1,4 @@
-// The histories of the countries that were played. Each played country is drafted first, in a row of the width of a history; crate
-// arranging then puts the drafts in order.
+// The histories of the countries that were played. Each played country is drafted first; crate arranging then puts the drafts in order.
 #![tactic(auto)]
 
 mod answers;

@@ -1,22 +1,19 @@
 // Tables by which a country finds its nation and its players: keys of country tags, and sorted keys of players.
-ghost use Rattle.std.specs.Prelude.{◌≡◌, map, ◌≤◌, length};
+ghost use Rattle.std.specs.Prelude.{◌≡◌, map, ◌≤◌, leb, length};
+ghost use Rattle.sorting.specs.Sort.{sort_by};
 ghost use Rattle.rules.specs.Lent.{written};
 ghost use Rattle.search.specs.Places.{tag_keys_from};
 ghost use Rattle.players.specs.PlayerSteps.{players_left};
-ghost use Rattle.histories.specs.Tables.{tags_left, player_key, FewPlayers, SortsPlayers};
+ghost use Rattle.histories.specs.Tables.{tags_left, player_key};
 
+use format::MOST_STRINGS;
 use players::PlayersOf;
 use record::Countries;
-use search::tag_key;
+use search::{SortedKeys, tag_key};
 use sorting::sort_keys;
 
-// The most countries of a record.
-pub(crate) const MOST_COUNTRIES: usize = 2000;
-
-// More players than any record can have.
-pub(crate) const MOST_PLAYERS: usize = 1000;
-
-// Writes the key of each country's tag in row order.
+// Writes the key of each country's tag in row order. One more such loop stands in page_text, over nations: a shared one would be public, and would have to
+// require that its iterator goes on.
 #[tactic(auto, unfolding(search::specs::Places::tag_keys_from))]
 pub(crate) fn fill_countries(countries: Countries<'_>, keys: &mut [u64])
     requires { (length (tags_left countries) ≤ length keys.old) × (length keys.old ≤ 65536) }
@@ -27,7 +24,7 @@ pub(crate) fn fill_countries(countries: Countries<'_>, keys: &mut [u64])
     }
 }
 
-// Writes the key of each player, tag and name, in string order; returns how many.
+// Writes the key of each player, tag and name, in string order; returns how many: so they are counted by hand.
 fn fill_players(players: PlayersOf<'_>, keys: &mut [u64]) -> usize
     requires { length (players_left players) ≤ length keys.old }
     ensures { (result ≡ length (players_left players.entry)) × (keys.new ≡ written (map player_key (players_left players.entry)) keys.old) }
@@ -40,13 +37,16 @@ fn fill_players(players: PlayersOf<'_>, keys: &mut [u64]) -> usize
     n
 }
 
-// The same in order of the keys, so that the players of a tag stand together, by rising name.
-pub(crate) fn sort_players(players: PlayersOf<'_>, keys: &mut [u64]) -> usize
-    requires { FewPlayers players keys.old }
-    ensures { SortsPlayers players.entry result keys.new }
+// The same in order of the keys, so that the players of a tag stand together, by rising name. No record has more players than strings.
+pub(crate) fn sort_players<'a>(
+    players: PlayersOf<'_>,
+    keys: &'a mut [u64; MOST_STRINGS],
+) -> SortedKeys<'a>
+    requires { length (players_left players) ≤ 1000 }
+    ensures { result.keys.now ≡ sort_by leb (map player_key (players_left players.entry)) }
 {
     let n = fill_players(players, keys);
-    let mut scratch = [0u64; MOST_PLAYERS];
+    let mut scratch = [0u64; MOST_STRINGS];
     sort_keys(&mut keys[..n], &mut scratch);
-    n
+    SortedKeys { keys: &keys[..n] }
 }

@@ -1,15 +1,17 @@
 -- A history row by its number, from its words; and the test of their shape.
-use mathlib.Core.Path.{◌≡◌, refl, sym, ◌∙◌}
+use mathlib.Core.Path.{◌≡◌, refl, sym, ap, ◌∙◌}
 use mathlib.Core.Bool.{Bool, true, false}
-use mathlib.Core.List.{List, [], ◌∷◌}
-use Prim.Native.Nat.{ℕ, ◌+◌, ◌/◌, ◌%◌, ◌<◌}
+use mathlib.Core.List.{List, [], ◌∷◌, map}
+use Prim.Native.Nat.{ℕ, ◌/◌, ◌%◌, ◌<◌}
 use borrow.Author.Tests.{ne_eqb}
-use lib.ListN.{length, get_or, drop}
+use lib.ListN.{length, get_or}
 use Rattle.std.specs.Simd.{first_chunks}
+use Rattle.lists.proofs.ListLaws.{map-then}
 use Rattle.rules.specs.Chronicle.{Nation}
 use Rattle.rules.specs.HistoryRows.{history_width, history_row_of, history_rows_in, history_shaped, histories_shaped}
-use Rattle.chronicle_rows.proofs.RowAtLaws.{chunks-rows, rows-count, array-here, rows_next}
+use Rattle.chronicle_rows.proofs.RowAtLaws.{chunks-rows, rows-count, array-here}
 use Rattle.chronicle_rows.proofs.LentShapeLaws.{rows-pass}
+use Rattle.history_rows.specs.Cases.{history_told, history_in}
 use Rattle.history_rows.specs.HistoryAt.{history_row_at}
 
 module _ (ws : List ℕ) where
@@ -22,9 +24,10 @@ module _ (ws : List ℕ) where
     unfolding history_row_at history_rows_in
     history_here = array-here history_width history_row_of ws i _ refl
 
-    pub histories-next : i < length (history_rows_in ws) → drop i (history_rows_in ws) ≡ history_row_at ws i ∷ drop (i + 1) (history_rows_in ws)
-    unfolding history_row_at history_rows_in
-    histories-next h = rows_next history_width history_row_of ws i h
+-- The rows that an iterator over the words has left are what the words make.
+pub histories_told : (ws : List ℕ) → map history_told (map history_in (first_chunks history_width (length ws / history_width) ws)) ≡ history_rows_in ws
+unfolding history_rows_in
+histories_told ws = map-then history_in history_told (first_chunks history_width (length ws / history_width) ws) ∙ ap (map history_row_of) (chunks-rows history_width (length ws / history_width) ws)
 
 -- ## Well shaped
 

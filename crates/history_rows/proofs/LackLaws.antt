@@ -1,20 +1,19 @@
 -- Histories that lack Appeared: entry by entry, row by row, and by the rules.
 use mathlib.Core.Path.{◌≡◌, refl, sym, ap, ◌∙◌}
-use mathlib.Core.Bool.{Bool, true, false, not, ◌&&◌, ◌||◌}
+use mathlib.Core.Bool.{Bool, true, false, cond, not, ◌&&◌, ◌||◌}
 use mathlib.Core.List.{List, [], ◌∷◌}
 use mathlib.Core.Option.{Option, none, some}
-use Prim.Native.Nat.{ℕ, zero, suc, ◌+◌, ◌-◌, ◌<◌, ◌≤◌}
+use Prim.Native.Nat.{ℕ, zero, suc, ◌+◌, ◌<◌, ◌≤◌}
 use native.Mathlib.Numerals.{add-one}
 use native.Mathlib.Omega.{arith}
 use borrow.Author.Tests.{leb-true, ne_eqb}
 use lib.Dec.{eqb}
-use lib.ListN.{length, get_or, drop, get_elem?, length-map}
+use lib.ListN.{length, get_or, get_elem?, length-map}
 use Rattle.std.specs.Prelude as code
-use Rattle.std.specs.Prelude.{Some, None}
 use Rattle.std.specs.Bool.{then_some}
-use Rattle.std.specs.Iterator.{YieldsFirstBy, MakesProgress, item_count}
+use Rattle.std.specs.List.{list_any, range_with_len}
 use Rattle.lists.specs.Lists.{keep, any_of, all_of, numbers_from, is_whole}
-use Rattle.lists.proofs.BoolLaws.{and_right}
+use Rattle.lists.proofs.BoolLaws.{cases, and_right}
 use Rattle.lists.proofs.ListLaws.{all_map, map_at, length-numbers}
 use Rattle.lists.proofs.ElementLaws.{keep_same}
 use Rattle.lists.proofs.EachLaws.{all_of-all}
@@ -22,7 +21,10 @@ use Rattle.lists.specs.Options.{option_of}
 use Rattle.format.specs.declared.tag.CountryTag.{CountryTag}
 use Rattle.format.specs.Tags.{is_tag}
 use Rattle.format.specs.Refusal.{first_of}
+use Rattle.format.specs.Refused.{refusal_number}
+use Rattle.format.specs.declared.refused.Refusal.{Refusal}
 use Rattle.format.proofs.FirstLaws.{first-stop, first-pass, first_one}
+use Rattle.format.proofs.RefusedLaws.{refuses}
 use Rattle.rules.specs.Lent.{refused, gives}
 use Rattle.rules.specs.Chronicle.{is_appeared, Entry}
 use Rattle.rules.specs.NationRows.{nation_rows_in, nations_in, well_shaped}
@@ -34,69 +36,28 @@ use Rattle.rules.proofs.LentLaws.{answered-gives}
 use Rattle.chronicle_rows.specs.RowAt.{nation_row_at, entry_at, entries_at, nation_numbered}
 use Rattle.chronicle_rows.proofs.NumberedLaws.{nations-numbered}
 use Rattle.history_rows.specs.declared.rows.History.{History}
-use Rattle.history_rows.specs.declared.starting.Lacking.{Lacking}
 use Rattle.history_rows.specs.Cases.{history_told}
 use Rattle.history_rows.specs.HistoryAt.{history_row_at}
-use Rattle.history_rows.specs.LackSteps.{entries_behind, appeared_in, lacks_in, lacking_left}
-use Rattle.history_rows.proofs.HistoryLaws.{histories-next}
-use Rattle.history_rows.proofs.KeptLaws.{kept_here, kept-past}
+use Rattle.history_rows.specs.LackSteps.{entries_behind, appeared_in, lacks_in}
 
 -- ## Entry by entry
 
 module _ (es : List ℕ) where
-  -- Some entry from `at` to the end is Appeared.
-  abbrev pub appeared_from : ℕ → ℕ → Bool
-  appeared_from at end = any_of (λ e. is_appeared e.kind) (entries_at es at (end - at))
-
-  module _ (at end : ℕ) where
-    pub appeared-end : end ≤ at → appeared_from at end ≡ false
-    appeared-end h = let e : end - at ≡ 0 = omega arith in rw e
-
-    -- The next entry is read.
-    module _ (x : Entry) (h : at < end) (e : x ≡ entry_at es at) where
-      next : appeared_from at end ≡ (is_appeared x.kind || appeared_from (at + 1) end)
-      next =
-          let n : end - at ≡ suc (end - (at + 1)) = omega arith in
-          rw (n, e, add-one at)
-
-      pub appeared-here : is_appeared x.kind ≡ true → appeared_from at end ≡ true
-      appeared-here t = next ∙ rw t
-
-      pub appeared-later : is_appeared x.kind ≡ false → appeared_from at end ≡ appeared_from (at + 1) end
-      appeared-later t = next ∙ rw t
+  -- Some number from `at` on is of an entry that is Appeared.
+  pub appeared-numbered : (at n : ℕ) → list_any (λ i. is_appeared (entry_at es i).kind) (range_with_len at n) ≡ any_of (λ e. is_appeared e.kind) (entries_at es at n)
+  appeared-numbered at zero = refl
+  appeared-numbered at (suc n) = rw (add-one at) (ap (λ b. is_appeared (entry_at es at).kind || b) (appeared-numbered (suc at) n))
 
 module _ (ws es : List ℕ) (nation : ℕ) where
   pub bare-history : nation ≡ 0 → false ≡ appeared_in ws es nation
   bare-history e = rw e
 
   -- The row of its nation, as the code has read it.
-  pub nation-walk : (m first count : ℕ) → m + 1 ≡ nation → first ≡ (nation_row_at ws m).first → count ≡ (nation_row_at ws m).count → appeared_from es first (first + count) ≡ appeared_in ws es nation
-  nation-walk m first count e f g =
-      let n : first + count - first ≡ count = omega arith in
+  pub nation-walk : (m first count : ℕ) (b : Bool) → m + 1 ≡ nation → first ≡ (nation_row_at ws m).first → count ≡ (nation_row_at ws m).count
+      → b ≡ list_any (λ i. is_appeared (entry_at es i).kind) (range_with_len first count) → b ≡ appeared_in ws es nation
+  nation-walk m first count b e f g h =
       let s : nation ≡ suc m = omega arith in
-      rw (n, s, f, g)
-
--- ## Row by row
-
--- What is left of the histories that lack it, from a number on.
-abbrev pub lacking_from : List ℕ → List ℕ → List ℕ → ℕ → List HistoryRow
-lacking_from hs ws es i = keep (lacks_in ws es) (drop i (history_rows_in hs))
-
-module _ (hs ws es : List ℕ) (i : ℕ) (row : HistoryRow) (t : Bool) (h : i < length (history_rows_in hs)) (e : row ≡ history_row_at hs i) (f : t ≡ appeared_in ws es row.nation) where
-  more : drop i (history_rows_in hs) ≡ row ∷ drop (i + 1) (history_rows_in hs)
-  more = histories-next hs i h ∙ ap (λ (r : HistoryRow). r ∷ drop (i + 1) (history_rows_in hs)) (sym e)
-
-  pub lack_here : not t ≡ true → lacking_from hs ws es i ≡ row ∷ lacking_from hs ws es (i + 1)
-  lack_here n = kept_here (lacks_in ws es) row _ more (ap not (sym f) ∙ n)
-
-  pub lack_past : not t ≡ false → lacking_from hs ws es i ≡ lacking_from hs ws es (i + 1)
-  lack_past n = kept-past (lacks_in ws es) row _ more (ap not (sym f) ∙ n)
-
--- A step that gives the first of what was left makes progress.
-pub step-goes : {can : Lacking → Type 0} (s t : Lacking) (r : code.Option History) → ((u : Lacking) → can u) → YieldsFirstBy history_told lacking_left s r t
-    → MakesProgress can (item_count lacking_left) s r t
-step-goes s t None all h = record { on = λ _. tt; keeps = tt; rests = λ _. tt }
-step-goes s t (Some x) all h = record { on = λ _. (all t, tt, omega (arith, ap length h)); keeps = all t; rests = λ _. tt }
+      h ∙ appeared-numbered es first count ∙ rw (s, f, g)
 
 -- ## What is left tells the starting country
 
@@ -158,12 +119,24 @@ module _ (ws es : List ℕ) (shaped : well_shaped ws es ≡ true) where
 
 -- ## `starting_country`
 
+-- A chronicle was opened.
+pub opened-shaped : (ws es : List ℕ) → ◌≡◌ {A = ℕ} 0 (cond (well_shaped ws es) 0 11) → well_shaped ws es ≡ true
+opened-shaped ws es h =
+    cases (well_shaped ws es) (λ t. t) (λ t. let z : ◌≡◌ {A = ℕ} 0 11 = h ∙ rw t refl in absurd (omega arith))
+
 module _ (hs ws es : List ℕ) where
-  pub chronicle-refused : well_shaped ws es ≡ false → refused 11 ≡ call_starting_country hs ws es
+  torn : well_shaped ws es ≡ false → refused 11 ≡ call_starting_country hs ws es
   unfolding call_starting_country
-  chronicle-refused h =
+  torn h =
       let n : first_of (chronicle_number ws es ∷ histories_number (nations_in ws es) hs ∷ []) ≡ 11 = rw h (first-stop 11 _ (λ z. omega arith)) in
       sym (rw n refl)
+
+  -- What `?` hands on of a chronicle that is not well shaped.
+  pub chronicle-refused : (e : Refusal) → refusal_number e ≡ cond (well_shaped ws es) 0 11 → refused (refusal_number e) ≡ call_starting_country hs ws es
+  chronicle-refused e h =
+      cases (well_shaped ws es)
+      (λ t. let z : refusal_number e ≡ 0 = h ∙ rw t refl in absurd (omega (arith, z, refuses e)))
+      (λ t. let z : refusal_number e ≡ 11 = h ∙ rw t refl in ap refused z ∙ torn t)
 
   module _ (shaped : well_shaped ws es ≡ true) where
     passed : first_of (chronicle_number ws es ∷ histories_number (nations_in ws es) hs ∷ []) ≡ histories_number (nations_in ws es) hs
@@ -175,10 +148,11 @@ module _ (hs ws es : List ℕ) where
         let n : first_of (chronicle_number ws es ∷ histories_number (nations_in ws es) hs ∷ []) ≡ 11 = passed ∙ rw h refl in
         sym (rw n refl)
 
-    pub starting-gives : histories_shaped (nations_in ws es) hs ≡ true → (t : Option CountryTag) → t ≡ starting_of (keep (lacks_in ws es) (history_rows_in hs)) (history_rows_in hs)
+    pub starting-gives : histories_shaped (nations_in ws es) hs ≡ true → (ns os : List ℕ) → ns ≡ ws → os ≡ es
+        → (t : Option CountryTag) → t ≡ starting_of (keep (lacks_in ns os) (history_rows_in hs)) (history_rows_in hs)
         → gives t ≡ call_starting_country hs ws es
     unfolding call_starting_country histories_shaped
-    starting-gives h t e =
+    starting-gives h ns os p q t e =
         let n : first_of (chronicle_number ws es ∷ histories_number (nations_in ws es) hs ∷ []) ≡ 0 = passed ∙ rw h refl in
         let rows = and_right (is_whole history_width hs) _ h in
-        ap gives e ∙ sym (answered-gives _ _ n ∙ ap gives (sym (starting-told ws es shaped (history_rows_in hs) rows)))
+        ap gives (rw (p, q) at e) ∙ sym (answered-gives _ _ n ∙ ap gives (sym (starting-told ws es shaped (history_rows_in hs) rows)))

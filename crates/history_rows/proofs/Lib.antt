@@ -1,4 +1,3 @@
-pub mod KeptLaws
 pub mod HistoryLaws
-pub mod PutLaws
+pub mod WalkLaws
 pub mod LackLaws

@@ -1,10 +1,9 @@
 -- How the code finds the histories that lack Appeared: inner steps, which no promise of a call of 01 cites.
-use Rattle.std.specs.Prelude.{Bool, not, List, [], ℕ, zero, suc, drop}
-use Rattle.lists.specs.Lists.{any_of, keep}
+use Rattle.std.specs.Prelude.{Bool, not, List, [], ℕ, zero, suc}
+use Rattle.lists.specs.Lists.{any_of}
 use Rattle.rules.specs.Chronicle.{is_appeared, Entry}
-use Rattle.rules.specs.HistoryRows.{HistoryRow, history_rows_in}
+use Rattle.rules.specs.HistoryRows.{HistoryRow}
 use Rattle.chronicle_rows.specs.RowAt.{nation_row_at, entries_at}
-use Rattle.history_rows.specs.declared.starting.Lacking.{Lacking}
 
 -- The entries that a fourth word leads to, by their numbers; 0 leads to none.
 abbrev pub entries_behind : List ℕ → List ℕ → ℕ → List Entry
@@ -18,7 +17,3 @@ appeared_in ws es nation = any_of (λ e. is_appeared e.kind) (entries_behind ws 
 -- A history has none.
 abbrev pub lacks_in : List ℕ → List ℕ → HistoryRow → Bool
 lacks_in ws es r = not (appeared_in ws es r.nation)
-
--- The histories that an iterator over them has left.
-abbrev pub lacking_left : Lacking → List HistoryRow
-lacking_left l = keep (lacks_in l.nations.now l.entries.now) (drop l.next (history_rows_in l.histories.now))

@@ -4,5 +4,5 @@
 mod rows;
 mod starting;
 
-pub use rows::{HISTORY_WIDTH, History, history_at, history_count, is_history_shaped, put_history};
+pub use rows::{HISTORY_WIDTH, Histories, History, history_at, history_count, is_history_shaped};
 pub use starting::starting_country;

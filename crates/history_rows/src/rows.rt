@@ -1,16 +1,19 @@
-// History rows: read by their number, from 0, written, and tested for their shape. A number past the last row gives a row of zeros.
+// History rows: read one by one or by their number, from 0, written, and tested for their shape. A number past the last row gives a row of zeros.
 ghost use Rattle.std.specs.Prelude.{◌≡◌, true, List, [], length, IsTrue, ◌↔◌, EachIndex, slice_index_or};
 ghost use Rattle.std.proofs.Common.{lit<};
 ghost use Rattle.rules.specs.Chronicle.{Nation};
-ghost use Rattle.rules.specs.HistoryRows.{history_row_of, history_rows_in, history_shaped, histories_shaped};
-ghost use Rattle.history_rows.specs.Cases.{history_told};
-ghost use Rattle.history_rows.specs.HistoryAt.{history_row_at, history_put};
+ghost use Rattle.rules.specs.HistoryRows.{history_row_of, history_row_words, history_rows_in, history_shaped, histories_shaped};
+ghost use Rattle.history_rows.specs.Cases.{history_told, history_in};
+ghost use Rattle.history_rows.specs.HistoryAt.{history_row_at};
 
-use chronicle_rows::{Row, row_at};
+use chronicle_rows::{LentRows, Row, row_at};
 use format::CountryTag;
 
 // How many words a history row has.
 pub const HISTORY_WIDTH: usize = 7;
+
+// The history rows of lent words.
+pub type Histories<'a> = LentRows<'a, History, HISTORY_WIDTH>;
 
 // A history row: three tags; its nation, counted from 1, or 0; 1 for a human; where its names begin in the list of names, and how many. Words as they
 // stand, for anybody may have written them.
@@ -27,7 +30,7 @@ pub struct History {
 
 // What a history row's words tell. Anybody may have written them, and reading refuses none: `is_history_shaped` tests every tag.
 impl From<[u32; HISTORY_WIDTH]> for History {
-    ghost from_gives = { λ row history. history_told history ≡ history_row_of row };
+    ghost from_gives = { λ row history. history ≡ history_in row };
 
     fn from(row: [u32; HISTORY_WIDTH]) -> History {
         let [initial, latest, stored, nation, human, first, count] = row;
@@ -43,7 +46,28 @@ impl From<[u32; HISTORY_WIDTH]> for History {
     }
 }
 
+// The words of a history row, in that order.
+impl From<History> for [u32; HISTORY_WIDTH] {
+    ghost from_gives = { λ history row. row ≡ history_row_words (history_told history) };
+
+    fn from(history: History) -> [u32; HISTORY_WIDTH] {
+        [
+            u32::from(history.initial),
+            u32::from(history.latest),
+            u32::from(history.stored),
+            history.nation,
+            history.human,
+            history.first,
+            history.count,
+        ]
+    }
+}
+
 impl Row<HISTORY_WIDTH> for History {
+    ghost told = { history_in };
+
+    ghost read = { λ words row e. e };
+
     ghost some = { lit< tt };
 
     ghost narrow = { lit< tt };
@@ -63,23 +87,6 @@ pub fn history_at(histories: &[u32], i: usize) -> History
     ensures { history_told result ≡ history_row_at histories.now i }
 {
     row_at(histories, i)
-}
-
-// Writes the seven words of a row; a slice without room for them stays as it is.
-pub fn put_history(x: History, out: &mut [u32])
-    ensures { out.new ≡ history_put (history_told x) out.old }
-{
-    if let Some(row) = out.first_chunk_mut::<HISTORY_WIDTH>() {
-        *row = [
-            u32::from(x.initial),
-            u32::from(x.latest),
-            u32::from(x.stored),
-            x.nation,
-            x.human,
-            x.first,
-            x.count,
-        ];
-    }
 }
 
 // Whether a row's first three words are tags, and its nation is none or one of so many.

@@ -10,7 +10,7 @@ use chronicle_rows::NationCounts;
 const COUNTS: usize = 5;
 
 // How many numbers a word can hold.
-const WORDS: usize = 4294967296;
+const WORDS: usize = 1 << 32;
 
 // Whether a slice has room for the counts.
 pub fn has_counts(out: &[u32]) -> bool
@@ -19,7 +19,7 @@ pub fn has_counts(out: &[u32]) -> bool
     COUNTS <= out.len()
 }
 
-// The lowest 32 bits of a count.
+// The lowest 32 bits of a count: what `as` turns has to fit, so the remainder is taken first.
 fn low_word(count: usize) -> u32
     ensures { result ≡ count % 4294967296 }
 {

@@ -6,6 +6,7 @@ ghost use Rattle.host_answers.specs.Resolving.{data_cells};
 ghost use Rattle.host_answers.specs.Playing.{starting_words};
 
 use crate::numbers::minus;
+use chronicle_rows::put;
 use format::{CountryTag, Refusal};
 use resolver::TagData;
 
@@ -13,12 +14,13 @@ use resolver::TagData;
 pub fn put_words<const N: usize>(words: [u32; N], out: &mut [u32]) -> i64
     ensures { Returns (word_cells words.entry out.old) result out.new }
 {
-    let Some(cells) = out.first_chunk_mut::<N>() else {
+    if !put(words, out) {
         return minus(Refusal::NoRoom);
-    };
-    *cells = words;
+    }
     N as i64
 }
+
+// Of the next two no one function is made: given their words by a `map` in a `map`, the search finds no proof (tried), and a second match is short.
 
 // Writes a found tag and the tag it is stored under, and gives 2; for none 0. Else minus the refusal number: 10 where the slice has no
 // two words for them.

@@ -1,18 +1,18 @@
 -- The ledger names as keys and their points: filled name by name, the keys then sorted, and a tag's points found by them.
-use mathlib.Core.Path.{◌≡◌, refl, sym, ap, ◌∙◌}
+use mathlib.Core.Path.{◌≡◌, refl, sym, ap, subst, ◌∙◌}
 use mathlib.Core.List.{List, [], ◌∷◌, ◌++◌, map, append_assoc, append-nil}
 use mathlib.Core.Option
 use mathlib.Core.Option.{none, some}
-use Prim.Native.Nat.{ℕ, ◌+◌, ◌%◌, ◌<◌, ◌≤◌}
+use Prim.Native.Nat.{ℕ, zero, suc, ◌+◌, ◌%◌, ◌<◌, ◌≤◌}
 use native.Mathlib.Nat.{mod-eq_of_lt, sub-zero}
 use native.Mathlib.Omega.{arith}
 use lib.Dec.{leb}
-use lib.ListN.{length, take, drop, set, get_or, length-map, length-take, length-set}
-use lib.Seq.{take_at, get_or-take}
+use lib.ListN.{length, take, drop, set, get_or, length-append, length-map, length-set}
+use lib.Seq.{take_at, drop-drop}
 use Rattle.std.specs.Prelude as code
 use Rattle.std.specs.Prelude.{Some, None}
 use Rattle.std.proofs.lemmas.List.{get_or-map, map-append}
-use Rattle.lists.specs.Lists.{first_that}
+use Rattle.lists.specs.Lists.{first_that, join_of}
 use Rattle.lists.specs.Options.{option_of}
 use Rattle.lists.proofs.FillLaws.{Filling, filling-new, filling-room, filling-put, filling-count, filling-written}
 use Rattle.lists.proofs.StepLaws.{take-set-more}
@@ -22,14 +22,16 @@ use Rattle.sorting.proofs.SortedKeyLaws.{sorted_front}
 use Rattle.format.specs.declared.tag.CountryTag.{CountryTag}
 use Rattle.format.specs.declared.rows.Point.{Point}
 use Rattle.format.specs.Tags.{same_tag}
-use Rattle.format.specs.Campaign.{Ledger}
-use Rattle.record.specs.declared.rows.Rows.{Rows}
+use Rattle.format.specs.declared.packed.PackedLedger.{PackedLedger}
+use Rattle.format.specs.Rows.{ledger_at}
+use Rattle.format.specs.Campaign.{Ledger, group_ledgers}
 use Rattle.record.specs.declared.ledger.LedgerRow.{LedgerRow}
 use Rattle.record.specs.declared.ledger.Ledgers.{Ledgers}
-use Rattle.record.specs.Cursors.{points_left, ledger_of, ledgers_left}
+use Rattle.record.specs.Cursors.{points_left, ledger_of, ledgers_left, all_points}
 use Rattle.search.specs.Places.{tag_key, tag_keys_from, place_from}
 use Rattle.search.proofs.PlaceLaws.{tag-keys-nil, tag-keys-cons, length-tag-keys, first-placed, place_inside}
-use Rattle.ledger.specs.Index.{name_keys, IsIndex}
+use Rattle.ledger.specs.declared.index.Place.{Place}
+use Rattle.ledger.specs.Index.{name_keys, points_at, IsIndex}
 
 abbrev ledger_tags : List Ledger → List CountryTag
 ledger_tags ls = map (λ l. l.tag) ls
@@ -40,80 +42,136 @@ points_in ls = map (λ l. l.points) ls
 length-names : (ls : List Ledger) → length (name_keys ls) ≡ length ls
 length-names ls = length-tag-keys 0 (ledger_tags ls) ∙ length-map ls (λ l. l.tag)
 
+-- ## Where points stand
+
+module _ {A : Type 0} where
+  same-taken : (n : ℕ) (xs : List A) → take (length (take n xs)) xs ≡ take n xs
+  same-taken zero xs = refl
+  same-taken (suc n) [] = refl
+  same-taken (suc n) (x ∷ xs) = ap (λ (l : List A). x ∷ l) (same-taken n xs)
+
+  same-dropped : (n : ℕ) (xs : List A) → drop (length (take n xs)) xs ≡ drop n xs
+  same-dropped zero xs = refl
+  same-dropped (suc n) [] = refl
+  same-dropped (suc n) (x ∷ xs) = same-dropped n xs
+
+-- The points of these names stand behind each other among all, from a number on.
+abbrev Standing : List Point → ℕ → List Ledger → Type 0
+Standing all first [] = Unit {0}
+Standing all first (l ∷ ls) = (l.points ≡ take (length l.points) (drop first all)) × Standing all (first + length l.points) ls
+
+standing : (all : List Point) (rs : List PackedLedger) (first : ℕ) → Standing all first (group_ledgers rs (drop first all))
+unfolding group_ledgers
+standing all [] first = tt
+standing all (r ∷ rs) first =
+    let own : List Point = take r.points (drop first all) in
+    let behind : drop r.points (drop first all) ≡ drop (first + length own) all = sym (same-dropped r.points (drop first all)) ∙ drop-drop (length own) first all in (
+      sym (same-taken r.points (drop first all)),
+      subst (λ (ps : List Point). Standing all (first + length own) (group_ledgers rs ps)) (sym behind) (standing all rs (first + length own)),
+    )
+
 -- ## Filled name by name
 
--- So many names are done, and the others are left.
-pub record Naming (all left : List Ledger) (count : ℕ) (keys₀ keys : List ℕ) (points : List (Rows Point 6)) : Type 0 where
-  pub keys-so-far : Filling (name_keys all) (tag_keys_from count (ledger_tags left)) keys₀ count keys
-  pub points-so-far : map points_left (take count points) ++ points_in left ≡ points_in all
+-- So many names are done, and the others are left; the next point has the number `first`.
+pub record Naming (c : Ledgers) (left : List Ledger) (cells count first : ℕ) (keys₀ keys : List ℕ) (places : List Place) : Type 0 where
+  pub keys-so-far : Filling (name_keys (ledgers_left c)) (tag_keys_from count (ledger_tags left)) keys₀ count keys
+  pub points-so-far : map (points_at (all_points c)) (take count places) ++ points_in left ≡ points_in (ledgers_left c)
+  pub standing-left : Standing (all_points c) first left
   pub few : count + length left ≤ 2000
-  pub long : length points ≡ 2000
+  pub few-points : first + length (join_of (λ l. l.points) left) ≤ 1000000
+  pub cells-enough : count + length left ≤ cells
+  pub long : length places ≡ cells
 
-pub naming-start : (all left : List Ledger) (keys : List ℕ) (points : List (Rows Point 6)) → left ≡ all → length all ≤ 2000
-    → length keys ≡ 2000 → length points ≡ 2000 → Naming all left 0 keys keys points
-naming-start all left keys points e few k p =
+pub naming-start : (c : Ledgers) (left : List Ledger) (cells : ℕ) (keys : List ℕ) (places : List Place) → left ≡ ledgers_left c
+    → length (ledgers_left c) ≤ 2000 → length (join_of (λ l. l.points) (ledgers_left c)) ≤ 1000000 → length (ledgers_left c) ≤ cells
+    → length keys ≡ cells → length places ≡ cells → Naming c left cells 0 0 keys keys places
+naming-start c left cells keys places e few points enough k p =
     rw e
     (record {
-      keys-so-far = filling-new (name_keys all) keys (omega (arith, length-names all));
+      keys-so-far = filling-new (name_keys (ledgers_left c)) keys (omega (arith, length-names (ledgers_left c)));
       points-so-far = refl;
+      standing-left = standing (all_points c) (map (λ row. ledger_at row 0) c.rows.packed.now) 0;
       few = omega arith;
+      few-points = omega arith;
+      cells-enough = omega arith;
       long = p;
     })
 
-module _ {all left : List Ledger} {count : ℕ} {keys₀ keys : List ℕ} {points : List (Rows Point 6)} (n : Naming all left count keys₀ keys points)
+module _ {c : Ledgers} {left : List Ledger} {cells count first : ℕ} {keys₀ keys : List ℕ} {places : List Place} (n : Naming c left cells count first keys₀ keys places)
     (row : LedgerRow) {rest : List Ledger} (e : left ≡ ledger_of row ∷ rest) where
   keys-left : tag_keys_from count (ledger_tags left) ≡ tag_key row.tag count ∷ tag_keys_from (count + 1) (ledger_tags rest)
   keys-left = ap (λ (ls : List Ledger). tag_keys_from count (ledger_tags ls)) e ∙ tag-keys-cons count row.tag (ledger_tags rest)
 
-  pub naming-room : (count < length keys) × (count < length points)
-  naming-room = (filling-room _ _ _ _ _ n.keys-so-far _ _ keys-left, omega (arith, n.few, n.long, ap length e))
+  pub naming-room : (count < length keys) × (count < length places)
+  naming-room = (filling-room _ _ _ _ _ n.keys-so-far _ _ keys-left, omega (arith, n.cells-enough, n.long, ap length e))
 
-  pub naming-next : (key : ℕ) → key ≡ tag_key row.tag (count % 65536) → Naming all rest (count + 1) keys₀ (set keys count key) (set points count row.points)
-  naming-next key k =
+  points-more : length (join_of (λ l. l.points) left) ≡ length (points_left row.points) + length (join_of (λ l. l.points) rest)
+  points-more = ap (λ (ls : List Ledger). length (join_of (λ l. l.points) ls)) e ∙ length-append (points_left row.points) (join_of (λ l. l.points) rest)
+
+  pub naming-points : (m : ℕ) → m ≡ length (points_left row.points) → first + m ≤ 1000000
+  naming-points m q = omega (arith, n.few-points, points-more)
+
+  standing-here : Standing (all_points c) first (ledger_of row ∷ rest)
+  standing-here = subst (Standing (all_points c) first) e n.standing-left
+
+  pub naming-next : (key : ℕ) → key ≡ tag_key row.tag (count % 65536) → (m : ℕ) → m ≡ length (points_left row.points) → (place : Place)
+      → place.first ≡ first → place.count ≡ m → Naming c rest cells (count + 1) (first + m) keys₀ (set keys count key) (set places count place)
+  naming-next key k m q place f g =
       let long = ap length e in
       let number : count % 65536 ≡ count = mod-eq_of_lt (omega (arith, n.few)) in
+      let own : points_at (all_points c) place ≡ points_left row.points = rw (f, g, q) (sym standing-here.0) in
       record {
         keys-so-far = filling-put _ _ _ _ _ n.keys-so-far _ _ keys-left key (k ∙ ap (tag_key row.tag) number);
         points-so-far =
-            ap (λ (ps : List (Rows Point 6)). map points_left ps ++ points_in rest) (take-set-more points count row.points naming-room.1)
-            ∙ (ap (λ (ps : List (List Point)). ps ++ points_in rest) (map-append points_left (take count points) (row.points ∷ []))
-            ∙ (append_assoc (map points_left (take count points)) (points_left row.points ∷ []) (points_in rest)
-            ∙ (ap (λ (ls : List Ledger). map points_left (take count points) ++ points_in ls) (sym e) ∙ n.points-so-far)));
+            ap (λ (ps : List Place). map (points_at (all_points c)) ps ++ points_in rest) (take-set-more places count place naming-room.1)
+            ∙ (ap (λ (ps : List (List Point)). ps ++ points_in rest) (map-append (points_at (all_points c)) (take count places) (place ∷ []))
+            ∙ (append_assoc (map (points_at (all_points c)) (take count places)) (points_at (all_points c) place ∷ []) (points_in rest)
+            ∙ (ap (λ (ps : List Point). map (points_at (all_points c)) (take count places) ++ (ps ∷ points_in rest)) own
+            ∙ (ap (λ (ls : List Ledger). map (points_at (all_points c)) (take count places) ++ points_in ls) (sym e) ∙ n.points-so-far))));
+        standing-left = rw q standing-here.1;
         few = omega (arith, n.few);
-        long = length-set points count row.points ∙ n.long;
+        few-points = omega (arith, n.few-points, points-more);
+        cells-enough = omega (arith, n.cells-enough);
+        long = length-set places count place ∙ n.long;
       }
 
 -- ## The keys sorted
 
-module _ (c : Ledgers) {left : List Ledger} {count : ℕ} {keys₀ keys : List ℕ} {points : List (Rows Point 6)}
-    (n : Naming (ledgers_left c) left count keys₀ keys points) (e : left ≡ []) where
+module _ {c : Ledgers} {left : List Ledger} {cells count first : ℕ} {keys₀ keys : List ℕ} {places : List Place}
+    (n : Naming c left cells count first keys₀ keys places) (e : left ≡ []) where
   done : tag_keys_from count (ledger_tags left) ≡ []
   done = ap (λ (l : List Ledger). tag_keys_from count (ledger_tags l)) e ∙ tag-keys-nil count
 
   counted : count ≡ length (ledgers_left c)
   counted = filling-count _ _ _ _ _ n.keys-so-far done ∙ length-names (ledgers_left c)
 
-  pub names-inside : count ≡ length (take count keys)
-  names-inside = omega (arith, n.keys-so-far.fits, n.keys-so-far.long, length-take count keys)
+  pub names-inside : count ≤ length keys
+  names-inside = omega (arith, n.keys-so-far.fits, n.keys-so-far.long)
 
-  pub names-indexed : (sorted scratch₀ scratch₁ : List ℕ) → Sorts (take count keys) sorted scratch₀ scratch₁
-      → IsIndex c (sorted ++ drop count keys) points count
-  names-indexed sorted scratch₀ scratch₁ s =
+  pub places-inside : count ≤ length places
+  places-inside = omega (arith, n.cells-enough, n.long)
+
+  pub names-sorted : (sorted scratch₀ scratch₁ : List ℕ) → Sorts (take count keys) sorted scratch₀ scratch₁
+      → take count (sorted ++ drop count keys) ≡ sort_by leb (name_keys (ledgers_left c))
+  names-sorted sorted scratch₀ scratch₁ s =
       let ls = ledgers_left c in
       let cells =
       (rw sub-zero at (sorted_front (name_keys ls) keys₀ keys sorted count (filling-written _ _ _ _ _ n.keys-so-far done) (counted ∙ sym (length-names ls)) (rw sub-zero s.keys))) in
       let size : length (sort_by leb (name_keys ls)) ≡ count = length-sort leb (name_keys ls) ∙ length-names ls ∙ sym counted in
+      ap (take count) cells ∙ take_at (sort_by leb (name_keys ls)) (drop (length (sort_by leb (name_keys ls))) keys₀) count size
+
+  pub names-indexed : (sorted : List ℕ) → sorted ≡ sort_by leb (name_keys (ledgers_left c)) → IsIndex c sorted (take count places)
+  names-indexed sorted s =
       record {
-        counted = counted;
-        few = omega (arith, n.few);
-        sorted = ap (take count) cells ∙ take_at (sort_by leb (name_keys ls)) (drop (length (sort_by leb (name_keys ls))) keys₀) count size;
-        placed = sym (append-nil (map points_left (take count points))) ∙ (ap (λ (l : List Ledger). map points_left (take count points) ++ points_in l) (sym e) ∙ n.points-so-far);
+        few = omega (arith, n.few, counted);
+        sorted = s;
+        placed = sym (append-nil (map (points_at (all_points c)) (take count places))) ∙ (ap (λ (l : List Ledger). map (points_at (all_points c)) (take count places) ++ points_in l) (sym e) ∙ n.points-so-far);
       }
 
 -- ## A tag's points
 
-module _ {c : Ledgers} {keys : List ℕ} {points : List (Rows Point 6)} {count : ℕ} (x : IsIndex c keys points count) (tag : CountryTag) (r : code.Option ℕ)
-    (told : (ts : List CountryTag) → length ts ≤ 65536 → take count keys ≡ sort_by leb (tag_keys_from 0 ts) → option_of r ≡ place_from 0 tag ts) where
+module _ {c : Ledgers} {keys : List ℕ} {places : List Place} (x : IsIndex c keys places) (tag : CountryTag) (r : code.Option ℕ)
+    (told : (ts : List CountryTag) → length ts ≤ 65536 → keys ≡ sort_by leb (tag_keys_from 0 ts) → option_of r ≡ place_from 0 tag ts) where
   abbrev names : List Ledger
   names = ledgers_left c
 
@@ -121,8 +179,7 @@ module _ {c : Ledgers} {keys : List ℕ} {points : List (Rows Point 6)} {count :
   no_name = record { tag = tag; points = [] }
 
   place-told : option_of r ≡ place_from 0 tag (ledger_tags names)
-  place-told =
-      told (ledger_tags names) (omega (arith, length-map names (λ (l : Ledger). l.tag), x.few, x.counted)) x.sorted
+  place-told = told (ledger_tags names) (omega (arith, length-map names (λ (l : Ledger). l.tag), x.few)) x.sorted
 
   first-told : first_that (λ l. same_tag l.tag tag) names ≡ Option.map (λ i. get_or names i no_name) (option_of r)
   first-told = first-placed (λ (l : Ledger). l.tag) tag no_name names ∙ ap (Option.map (λ i. get_or names i no_name)) (sym place-told)
@@ -131,21 +188,22 @@ module _ {c : Ledgers} {keys : List ℕ} {points : List (Rows Point 6)} {count :
   found_none e = sym (ap (Option.map (λ l. l.points)) (first-told ∙ ap (λ (p : code.Option ℕ). Option.map (λ i. get_or names i no_name) (option_of p)) e))
 
   module _ {i : ℕ} (e : r ≡ Some i) where
-    pub found_inside : i < count
+    name-inside : i < length names
+    name-inside = omega (arith, place_inside tag (ledger_tags names) i (sym place-told ∙ ap option_of e), length-map names (λ (l : Ledger). l.tag))
+
+    pub found_inside : i < length places
     found_inside =
-        omega (arith, place_inside tag (ledger_tags names) i (sym place-told ∙ ap option_of e), length-map names (λ (l : Ledger). l.tag), x.counted)
+        omega (arith, name-inside, ap length x.placed, length-map places (points_at (all_points c)), length-map names (λ (l : Ledger). l.points))
 
-    inside : i < length points
-    inside =
-        omega (arith, found_inside, ap length x.placed, length-map (take count points) points_left, length-map names (λ (l : Ledger). l.points), x.counted, length-take count points)
+    pub found_few : i < 2000
+    found_few = omega (arith, name-inside, x.few)
 
-    pub found-points : (d : Rows Point 6) → some (points_left (get_or points i d)) ≡ Option.map (λ l. l.points) (first_that (λ l. same_tag l.tag tag) names)
-    found-points d =
-        let there : i < length (take count points) = omega (arith, length-take count points, found_inside, inside) in
-        let own : points_left (get_or points i d) ≡ (get_or names i no_name).points =
-        ap points_left (sym (get_or-take count points i d found_inside))
-        ∙ (sym (get_or-map points_left (take count points) i d [] there)
-        ∙ (ap (λ (ps : List (List Point)). get_or ps i []) x.placed ∙ get_or-map (λ (l : Ledger). l.points) names i no_name [] (omega (arith, found_inside, x.counted)))) in
+    pub found-points : (d : Place) (ps : List Point) → ps ≡ points_at (all_points c) (get_or places i d)
+        → some ps ≡ Option.map (λ l. l.points) (first_that (λ l. same_tag l.tag tag) names)
+    found-points d ps p =
+        let own : points_at (all_points c) (get_or places i d) ≡ (get_or names i no_name).points =
+        sym (get_or-map (points_at (all_points c)) places i d [] found_inside)
+        ∙ (ap (λ (qs : List (List Point)). get_or qs i []) x.placed ∙ get_or-map (λ (l : Ledger). l.points) names i no_name [] name-inside) in
         let found : first_that (λ l. same_tag l.tag tag) names ≡ some (get_or names i no_name) =
         first-told ∙ ap (λ (q : code.Option ℕ). Option.map (λ j. get_or names j no_name) (option_of q)) e in
-        rw found (ap some own)
+        rw found (ap some (p ∙ own))

@@ -1,27 +1,25 @@
 -- The outcomes of the calls, by case: the record's number, 11, 13, 10, or the rows.
 use mathlib.Core.Path.{◌≡◌, refl, sym, ap, ap₂, ◌∙◌}
-use mathlib.Core.Bool.{Bool, true, false, cond, not, ◌&&◌}
+use mathlib.Core.Bool.{Bool, true, false, cond, ◌&&◌}
 use mathlib.Core.List.{List, [], ◌∷◌}
 use mathlib.Core.Option.{none}
 use Prim.Native.Nat.{ℕ, ◌+◌, ◌*◌, ◌/◌, ◌≤◌, ◌<◌, min}
 use native.Mathlib.Decide.{dec_le}
 use native.Mathlib.Omega.{arith}
-use borrow.Author.Tests.{le-leb, lt-leb, not-true, not-false}
+use borrow.Author.Tests.{le-leb, lt-leb}
 use lib.ListN.{length, get_elem?, length-map}
 use Rattle.std.specs.Prelude as code
 use Rattle.std.specs.Prelude.{Ok, Err, IsErr, IsErrAnd}
-use Rattle.lists.specs.Lists.{numbers_from}
 use Rattle.lists.proofs.BoolLaws.{and-false}
-use Rattle.lists.proofs.ListLaws.{length-numbers}
 use Rattle.lists.proofs.ElementLaws.{at-inside}
 use Rattle.format.specs.declared.refused.Refusal.{Refusal}
-use Rattle.format.specs.declared.refused.Refusal.TheVariants.{NoRoom, NotShaped}
+use Rattle.format.specs.declared.refused.Refusal.TheVariants.{NoRoom}
 use Rattle.format.specs.Refused.{refusal_number}
 use Rattle.format.specs.Campaign.{campaign_of}
 use Rattle.format.specs.Refusal.{refusal, first_of}
-use Rattle.format.proofs.RefusedLaws.{refuses}
+use Rattle.format.proofs.RefusedLaws.{refuses, stop}
 use Rattle.format.proofs.FirstLaws.{first-stop, first-pass, first-zero, first_one, first-append}
-use Rattle.rules.specs.Lent.{written, fits, room_number}
+use Rattle.rules.specs.Lent.{Outcome, written, fits, room_number}
 use Rattle.rules.specs.NationRows.{NationRow, nation_rows_in, nations_in, well_shaped}
 use Rattle.rules.specs.Ledger.{LedgerPoint, point_rows}
 use Rattle.rules.specs.Refusals.{chronicle_number, asked_nation_number}
@@ -30,15 +28,15 @@ use Rattle.rules.proofs.LentLaws.{answered-refused, answered-gives, outcome-refu
 use Rattle.chronicle_rows.specs.RowAt.{nation_row_at}
 use Rattle.span_points.proofs.FillsLaws.{rows-length}
 use Rattle.ledger.specs.declared.index.Frame.{Frame}
-use Rattle.ledger.specs.Asked.{asked_number}
+use Rattle.ledger.specs.Asked.{asked_number, AllAsked}
 use Rattle.ledger.specs.Cases.{ledger_answer, ledger_outcome, ledger_cells, ledgers_outcome}
-use Rattle.ledger.specs.Ledgers.{Framed, row_ledger, ledger_numbered, row_ledgers, row_counts, WritesLedgers}
+use Rattle.ledger.specs.Ledgers.{Framed, row_ledger, row_ledgers, row_counts, WritesLedgers}
 use Rattle.ledger.proofs.NationLaws.{nations-size, nation-listed, nation-unlisted, numbered-ledger, all-ledgers, all-counts}
 
 -- What `?` returns.
-pub handed-on : (r : code.Result ℕ Refusal) (e : Refusal) → IsErr r × IsErrAnd r (λ x. x ≡ e) → r ≡ Err e
-handed-on (Ok x) e h = absurd h.1
-handed-on (Err x) e h = ap Err h.1
+pub refused-on : {A : Type 0} (r : code.Result A Refusal) (e : Refusal) → IsErr r × IsErrAnd r (λ x. x ≡ e) → r ≡ Err e
+refused-on (Ok x) e h = absurd h.1
+refused-on (Err x) e h = ap Err h.1
 
 -- ## The room for points
 
@@ -55,17 +53,16 @@ module _ (ps : List LedgerPoint) (before : List ℕ) (n : ℕ) (counted : n ≡ 
 
 -- ## The numbers before that
 
--- The shape was tested, s, and the nations counted.
-module _ (ws es : List ℕ) (i : ℕ) (s : Bool) (e : s ≡ well_shaped ws es) where
-  pub asked-torn : not s ≡ true → 11 ≡ asked_number ws es i
+module _ (ws es : List ℕ) (i : ℕ) where
+  pub asked-refused : (e : Refusal) → refusal_number e ≡ chronicle_number ws es → refusal_number e ≡ asked_number ws es i
   unfolding asked_number
-  asked-torn h =
-      sym (ap (λ (b : Bool). first_of (cond b 0 11 ∷ asked_nation_number (get_elem? (nations_in ws es) i) ∷ [])) (sym e ∙ not-true s h) ∙ first-stop 11 _ (λ q. omega arith))
+  asked-refused e h = stop _ e h
 
-  module _ (well : not s ≡ false) (count : ℕ) (m : count ≡ length (nation_rows_in ws)) where
+  -- The shape is good, and the nations are counted.
+  module _ (shaped : 0 ≡ chronicle_number ws es) (count : ℕ) (m : count ≡ length (nation_rows_in ws)) where
     last-asked : asked_number ws es i ≡ asked_nation_number (get_elem? (nations_in ws es) i)
     unfolding asked_number
-    last-asked = first-pass (chronicle_number ws es) _ (ap (λ (b : Bool). cond b 0 11) (sym e ∙ not-false s well)) ∙ first_one _
+    last-asked = first-pass (chronicle_number ws es) _ (sym shaped) ∙ first_one _
 
     pub asked-unlisted : count ≤ i → 13 ≡ asked_number ws es i
     asked-unlisted h = sym (last-asked ∙ ap asked_nation_number (nation-unlisted ws es i (omega arith)))
@@ -75,15 +72,18 @@ module _ (ws es : List ℕ) (i : ℕ) (s : Bool) (e : s ≡ well_shaped ws es) w
         let there = at-inside (nations_in ws es) i (omega (arith, nations-size ws es)) in
         sym (last-asked ∙ ap asked_nation_number there.1)
 
+pub well-shaped : (ws es : List ℕ) → 0 ≡ chronicle_number ws es → well_shaped ws es ≡ true
+well-shaped ws es h = go (well_shaped ws es) (sym h)
+  where
+    go : (b : Bool) → ◌≡◌ {A = ℕ} (cond b 0 11) 0 → b ≡ true
+    go true h = refl
+    go false h = absurd (omega arith)
+
 -- Where nothing refuses them the chronicle is well shaped, and the number is a nation's.
 module _ (ws es : List ℕ) (i : ℕ) (fine : asked_number ws es i ≡ 0) where
   asked-shaped : well_shaped ws es ≡ true
   unfolding asked_number
-  asked-shaped = go (well_shaped ws es) (first-zero (chronicle_number ws es) _ fine).0
-    where
-      go : (b : Bool) → ◌≡◌ {A = ℕ} (cond b 0 11) 0 → b ≡ true
-      go true h = refl
-      go false h = absurd (omega arith)
+  asked-shaped = well-shaped ws es (sym (first-zero (chronicle_number ws es) _ fine).0)
 
   asked-inside : i < length (nation_rows_in ws)
   unfolding asked_number
@@ -210,10 +210,8 @@ module _ (xs ws es before counts : List ℕ) where
   ledgers-refused e h = by_any e (first-stop (refusal xs) _ (λ z. omega (arith, h, z, refuses e)) ∙ sym h)
 
   module _ (z : refusal xs ≡ 0) where
-    pub ledgers-torn : well_shaped ws es ≡ false → ledgers_outcome (Err NotShaped) before counts ≡ call_nation_ledgers xs ws es lent
-    ledgers-torn h =
-        by_any NotShaped
-        (first-pass (refusal xs) _ z ∙ (ap (λ (b : Bool). first_of (cond b 0 11 ∷ room_number both_fit ∷ [])) h ∙ first-stop 11 _ (λ q. omega arith)))
+    pub ledgers-torn : (e : Refusal) → refusal_number e ≡ chronicle_number ws es → ledgers_outcome (Err e) before counts ≡ call_nation_ledgers xs ws es lent
+    ledgers-torn e h = by_any e (first-pass (refusal xs) _ z ∙ sym (stop _ e h))
 
     module _ {f : Frame} (t : Framed xs f) (shaped : well_shaped ws es ≡ true) where
       last : first ≡ room_number both_fit
@@ -229,8 +227,7 @@ module _ (xs ws es before counts : List ℕ) where
 
       size : length (row_counts f ws es) ≡ length (nation_rows_in ws)
       size =
-          length-map (numbers_from 0 (length (nation_rows_in ws))) (λ k. length (ledger_numbered f ws es k))
-          ∙ length-numbers 0 (length (nation_rows_in ws))
+          length-map (nation_rows_in ws) (λ n. length (row_ledger f es n))
 
       without : both_fit ≡ false → ledgers_outcome (Err NoRoom) before counts ≡ call_nation_ledgers xs ws es lent
       without e = by_any NoRoom (last ∙ ap room_number e)
@@ -258,3 +255,10 @@ module _ (xs ws es before counts : List ℕ) where
             ap (λ (l : List ℕ). fits l counts) same-counts ∙ le-leb (length (row_counts f ws es)) (length counts) (omega (arith, size)) in
             let none : first ≡ 0 = last ∙ ap room_number (ap₂ ◌&&◌ a b) in
             sym (outcome-gives first _ _ lent none ∙ rw (few.0, w.cells, w.counted, same-rows, same-counts, ← all-ledgers t ws es shaped))
+
+-- The call, where nothing refuses it but want of room, of words that are those lent.
+pub all-asked : (xs ws es us vs : List ℕ) (lent : LedgerCells) (f : Frame) (o : Outcome ℕ LedgerCells) → us ≡ ws → vs ≡ es → refusal xs ≡ 0 → Framed xs f → 0 ≡ chronicle_number ws es
+    → (AllAsked xs us vs f → o ≡ call_nation_ledgers xs us vs lent) → o ≡ call_nation_ledgers xs ws es lent
+all-asked xs ws es us vs lent f o e q z t c h =
+    let all : AllAsked xs us vs f = rw (e, q) (record { accepted = z; framed = t; shaped = well-shaped ws es c }) in
+    h all ∙ ap₂ (λ (a b : List ℕ). call_nation_ledgers xs a b lent) e q

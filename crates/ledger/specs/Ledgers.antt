@@ -1,12 +1,12 @@
 -- How the code reads and writes a nation's ledger: inner steps. No promise of a call of 01 cites them.
 use Rattle.std.specs.Prelude.{◌≡◌, List, map, ℕ, length}
-use Rattle.lists.specs.Lists.{join_of, numbers_from}
+use Rattle.lists.specs.Lists.{join_of}
 use Rattle.format.specs.Campaign.{campaign_of}
 use Rattle.record.specs.Cursors.{ledgers_left}
 use Rattle.rules.specs.Lent.{written}
 use Rattle.rules.specs.NationRows.{NationRow, nation_rows_in}
 use Rattle.rules.specs.Ledger.{LedgerPoint, spans_from, span_points, point_rows}
-use Rattle.chronicle_rows.specs.RowAt.{entries_at, nation_row_at}
+use Rattle.chronicle_rows.specs.RowAt.{entries_at}
 use Rattle.spans.specs.SpanSteps.{opened_span}
 use Rattle.ledger.specs.declared.index.Frame.{Frame}
 
@@ -23,24 +23,13 @@ abbrev pub row_ledger : Frame → List ℕ → NationRow → List LedgerPoint
 row_ledger f es n =
     join_of (span_points (ledgers_left f.ledgers)) (spans_from f.current (opened_span n.initial f.start) (entries_at es n.first n.count))
 
--- The points of nation number i.
-abbrev pub ledger_numbered : Frame → List ℕ → List ℕ → ℕ → List LedgerPoint
-ledger_numbered f ws es i = row_ledger f es (nation_row_at ws i)
-
--- Those of so many nations from a number on.
-abbrev pub ledgers_from : Frame → List ℕ → List ℕ → ℕ → ℕ → List LedgerPoint
-ledgers_from f ws es i n = join_of (ledger_numbered f ws es) (numbers_from i n)
-
--- How many each of them has.
-abbrev pub counts_numbered : Frame → List ℕ → List ℕ → ℕ → ℕ → List ℕ
-counts_numbered f ws es i n = map (λ k. length (ledger_numbered f ws es k)) (numbers_from i n)
-
 -- Of all nations.
 abbrev pub row_ledgers : Frame → List ℕ → List ℕ → List LedgerPoint
-row_ledgers f ws es = ledgers_from f ws es 0 (length (nation_rows_in ws))
+row_ledgers f ws es = join_of (row_ledger f es) (nation_rows_in ws)
 
+-- How many each has.
 abbrev pub row_counts : Frame → List ℕ → List ℕ → List ℕ
-row_counts f ws es = counts_numbered f ws es 0 (length (nation_rows_in ws))
+row_counts f ws es = map (λ n. length (row_ledger f es n)) (nation_rows_in ws)
 
 -- ## Rows
 

@@ -8,12 +8,13 @@ ghost use Rattle.spans.specs.SpanSteps.{span_in};
 ghost use Rattle.ledger.specs.Ledgers.{row_ledger, row_ledgers};
 
 use crate::index::LedgerIndex;
-use chronicle_rows::{Nation, nation_at, nation_count};
+use chronicle_rows::{Chronicle, Nation, Nations};
 use span_points::count_span;
 use spans::{Span, Spans};
 
-impl LedgerIndex<'_> {
-    // How many points a span gives, at most so many.
+impl LedgerIndex<'_, '_> {
+    // How many points a span gives, at most so many. Beside `write_points`, since `count_span` and `write_span` are two: one function over both would
+    // need a trait and two types for its two lines.
     fn count_points(&self, span: Span, most: usize) -> usize
         ensures { result ≡ min (length (span_points (ledgers_left self.now.frame.ledgers) (span_in span))) most }
     {
@@ -23,7 +24,7 @@ impl LedgerIndex<'_> {
         }
     }
 
-    // How many points a nation has, at most so many.
+    // How many points a nation has, at most so many. Not one loop with `write`: this one stops as soon as the most is reached.
     pub(crate) fn count(&self, entries: &[u32], nation: Nation, most: usize) -> usize
         ensures { result ≡ min (length (row_ledger self.now.frame entries.now (nation_told nation))) most }
     {
@@ -37,13 +38,13 @@ impl LedgerIndex<'_> {
         n
     }
 
-    // How many points all nations have, at most so many.
-    pub(crate) fn count_all(&self, nations: &[u32], entries: &[u32], most: usize) -> usize
-        ensures { result ≡ min (length (row_ledgers self.now.frame nations.now entries.now)) most }
+    // How many points all nations have, at most so many. Not one loop with `write_all`, which goes over the counts that it writes.
+    pub(crate) fn count_all(&self, chronicle: Chronicle<'_>, most: usize) -> usize
+        ensures { result ≡ min (length (row_ledgers self.now.frame chronicle.entry.nations.now chronicle.entry.entries.now)) most }
     {
         let mut n = 0;
-        for i in 0..nation_count(nations) {
-            n += self.count(entries, nation_at(nations, i), most - n);
+        for nation in Nations::of(chronicle.nations) {
+            n += self.count(chronicle.entries, nation, most - n);
         }
         n
     }

@@ -1,14 +1,17 @@
 // `nation_ledger` and `nation_ledger_rows`.
-ghost use Rattle.std.specs.Prelude.{◌≡◌, IfOk};
+ghost use Rattle.std.specs.Prelude.{◌≡◌, List, ℕ, ◌≤◌, min, length, IfOk};
 ghost use Rattle.format.specs.Refused.{number_of};
 ghost use Rattle.rules.specs.Outcomes.{call_nation_ledger, call_nation_ledger_rows};
+ghost use Rattle.record.specs.Cursors.{ledgers_left};
 ghost use Rattle.chronicle_rows.specs.Cases.{nation_told};
 ghost use Rattle.chronicle_rows.specs.RowAt.{nation_row_at};
 ghost use Rattle.ledger.specs.Cases.{ledger_answer, ledger_outcome};
-ghost use Rattle.ledger.specs.Asked.{asked_number};
+ghost use Rattle.ledger.specs.Asked.{asked_number, RightlyAsked};
+ghost use Rattle.ledger.specs.Ledgers.{row_ledger};
 
-use crate::index::{Frame, LedgerIndex};
-use chronicle_rows::{Nation, is_well_shaped, nation_at, nation_count};
+use crate::index::{FEW_LEDGERS, Frame, LedgerIndex, Place};
+use chronicle_rows::{Chronicle, Nation, nation_at, nation_count};
+use format::MOST_LEDGERS;
 use record::Refusal;
 use span_points::LEDGER_WIDTH;
 
@@ -17,21 +20,40 @@ fn asked_nation(nations: &[u32], entries: &[u32], nation: usize) -> Result<Natio
     ensures number { number_of result ≡ asked_number nations.now entries.now nation }
     ensures row { IfOk result (λ n. nation_told n ≡ nation_row_at nations.now nation) }
 {
-    let count = nation_count(nations);
-    let shaped = is_well_shaped(nations, entries);
-    let torn = !shaped;
-    if torn {
-        return Err(Refusal::NotShaped);
-    }
-    if count <= nation {
+    Chronicle::open(nations, entries)?;
+    if nation_count(nations) <= nation {
         return Err(Refusal::NoNation);
     }
     Ok(nation_at(nations, nation))
 }
 
+// The ledger of a nation's row, with an index of at most so many names. The three calls each choose a size for a function of their own: one choice for
+// all would take what is done with the index as a closure. That the names fit is a fact of a frame and a size together, so no type has it.
+fn ledger_indexed<const NAMES: usize>(
+    frame: Frame<'_>,
+    entries: &[u32],
+    row: Nation,
+    out: &mut [u32],
+) -> Result<usize, Refusal>
+    requires enough { length (ledgers_left frame.ledgers) ≤ NAMES }
+    requires possible { NAMES ≤ 2000 }
+    ensures { (xs ws : List ℕ) (i : ℕ) → RightlyAsked xs ws entries.now i frame.entry (nation_told row) → ledger_outcome result out.new ≡ call_nation_ledger xs ws entries.now i out.old }
+{
+    let mut keys = [0; NAMES];
+    let mut places = [Place::NONE; NAMES];
+    let ledgers = LedgerIndex::of(frame, &mut keys, &mut places);
+    let room = out.len() / LEDGER_WIDTH;
+    let n = ledgers.count(entries, row, room + 1);
+    if room < n {
+        return Err(Refusal::NoRoom);
+    }
+    ledgers.write(entries, row, out);
+    Ok(n)
+}
+
 // The ledger of the nation of that number, from 0: a row of three words for each point, tag, year and value; returns how many. A bad record
-// is refused by its refusal, a chronicle that is not well shaped by `NotShaped`, a number of no nation by `NoNation`, a slice that is too short by `NoRoom`. A count stops with
-// the span in which it passes the room.
+// is refused by its refusal, a chronicle that is not well shaped by `NotShaped`, a number of no nation by `NoNation`, a slice that is too short by
+// `NoRoom`. A count stops with the span in which it passes the room.
 pub fn nation_ledger(
     s: &[u8],
     nations: &[u32],
@@ -43,14 +65,26 @@ pub fn nation_ledger(
 {
     let frame = Frame::open(s)?;
     let row = asked_nation(nations, entries, nation)?;
-    let ledgers = LedgerIndex::of(frame);
-    let room = out.len() / LEDGER_WIDTH;
-    let n = ledgers.count(entries, row, room + 1);
-    if room < n {
-        return Err(Refusal::NoRoom);
+    if frame.ledgers.len() <= FEW_LEDGERS {
+        return ledger_indexed::<FEW_LEDGERS>(frame, entries, row, out);
     }
-    ledgers.write(entries, row, out);
-    Ok(n)
+    ledger_indexed::<MOST_LEDGERS>(frame, entries, row, out)
+}
+
+// How many points a nation's row has, at most so many, with an index of at most so many names.
+fn rows_indexed<const NAMES: usize>(
+    frame: Frame<'_>,
+    entries: &[u32],
+    row: Nation,
+    most: usize,
+) -> usize
+    requires enough { length (ledgers_left frame.ledgers) ≤ NAMES }
+    requires possible { NAMES ≤ 2000 }
+    ensures { result ≡ min (length (row_ledger frame.entry entries.now (nation_told row))) most }
+{
+    let mut keys = [0; NAMES];
+    let mut places = [Place::NONE; NAMES];
+    LedgerIndex::of(frame, &mut keys, &mut places).count(entries, row, most)
 }
 
 // How many rows `nation_ledger` would write; from `most` on it counts no further. It refuses the same, but nothing for want of room.
@@ -65,6 +99,8 @@ pub fn nation_ledger_rows(
 {
     let frame = Frame::open(s)?;
     let row = asked_nation(nations, entries, nation)?;
-    let ledgers = LedgerIndex::of(frame);
-    Ok(ledgers.count(entries, row, most))
+    if frame.ledgers.len() <= FEW_LEDGERS {
+        return Ok(rows_indexed::<FEW_LEDGERS>(frame, entries, row, most));
+    }
+    Ok(rows_indexed::<MOST_LEDGERS>(frame, entries, row, most))
 }

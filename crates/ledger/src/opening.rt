@@ -1,5 +1,5 @@
 // A record's ledger names and dates, an index of the names, and a look-up in it.
-ghost use Rattle.std.specs.Prelude.{◌≡◌, IfOk};
+ghost use Rattle.std.specs.Prelude.{◌≡◌, ◌≤◌, length, IfOk};
 ghost use Rattle.std.proofs.Math.Option.{map};
 ghost use Rattle.lists.specs.Lists.{first_that};
 ghost use Rattle.lists.specs.Options.{option_of};
@@ -9,9 +9,9 @@ ghost use Rattle.format.specs.Refused.{number_of};
 ghost use Rattle.record.specs.Cursors.{points_left, ledgers_left};
 ghost use Rattle.ledger.specs.Ledgers.{Framed};
 
-use crate::index::{Frame, LedgerIndex, MOST_NAMES};
+use crate::index::{Frame, LedgerIndex, Place};
 use record::{CountryTag, Points, Record, Refusal, open_record};
-use search::{first_place, tag_key};
+use search::{SortedKeys, first_place, tag_key};
 use sorting::sort_keys;
 
 impl<'a> Frame<'a> {
@@ -34,26 +34,34 @@ impl<'a> Frame<'a> {
     }
 }
 
-impl<'a> LedgerIndex<'a> {
-    // The index of the names.
-    pub(crate) fn of(frame: Frame<'a>) -> LedgerIndex<'a>
+impl<'n, 'a> LedgerIndex<'n, 'a> {
+    // The index of the names, in cells for as many at least. They are counted by hand: with `enumerate` their number, which is needed behind the loop,
+    // would stand beside its own.
+    pub(crate) fn of<const NAMES: usize>(
+        frame: Frame<'a>,
+        keys: &'n mut [u64; NAMES],
+        places: &'n mut [Place; NAMES],
+    ) -> LedgerIndex<'n, 'a>
+        requires { length (ledgers_left frame.ledgers) ≤ NAMES }
         ensures { result.frame ≡ frame.entry }
     {
-        let mut keys = [0; MOST_NAMES];
-        let mut points = [frame.ledgers.points_from(0, 0); MOST_NAMES];
-        let mut count = 0;
+        let mut names = 0;
+        let mut first = 0;
         for row in frame.ledgers {
-            keys[count] = tag_key(row.tag, count);
-            points[count] = row.points;
-            count += 1;
+            let count = row.points.len();
+            keys[names] = tag_key(row.tag, names);
+            places[names] = Place { first, count };
+            names += 1;
+            first += count;
         }
-        let mut scratch = [0; MOST_NAMES];
-        sort_keys(&mut keys[..count], &mut scratch);
+        let mut scratch = [0; NAMES];
+        sort_keys(&mut keys[..names], &mut scratch);
         LedgerIndex {
             frame,
-            keys,
-            points,
-            count,
+            keys: SortedKeys {
+                keys: &keys[..names],
+            },
+            places: &places[..names],
         }
     }
 
@@ -61,7 +69,8 @@ impl<'a> LedgerIndex<'a> {
     pub(crate) fn points_of(&self, tag: CountryTag) -> Option<Points<'a>>
         ensures { map points_left (option_of result) ≡ map (λ l. l.points) (first_that (λ l. same_tag l.tag tag) (ledgers_left self.now.frame.ledgers)) }
     {
-        let i = first_place(&self.keys[..self.count], tag)?;
-        Some(self.points[i])
+        let number = first_place(self.keys, tag)?;
+        let place = self.places[number];
+        Some(self.frame.ledgers.points_from(place.first, place.count))
     }
 }

@@ -9,11 +9,11 @@ ghost use Rattle.span_points.specs.PointSteps.{FillsSpan};
 ghost use Rattle.ledger.specs.Ledgers.{row_ledger, row_ledgers, WritesLedgers};
 
 use crate::index::LedgerIndex;
-use chronicle_rows::{Nation, nation_at, nation_count};
+use chronicle_rows::{Chronicle, Nation, Nations};
 use span_points::{LEDGER_WIDTH, write_span};
 use spans::{Span, Spans};
 
-impl LedgerIndex<'_> {
+impl LedgerIndex<'_, '_> {
     // Writes the rows of a span, as many as find room, and gives their number.
     fn write_points(&self, span: Span, out: &mut [u32]) -> usize
         ensures { FillsSpan (span_points (ledgers_left self.now.frame.ledgers) (span_in span)) result out.old out.new }
@@ -35,23 +35,21 @@ impl LedgerIndex<'_> {
         n
     }
 
-    // Writes the rows of all nations, each nation's behind those before it, and for each the number of its points.
-    pub(crate) fn write_all(
-        &self,
-        nations: &[u32],
-        entries: &[u32],
-        out: &mut [u32],
-        counts: &mut [u64],
-    )
-        requires rows_in_bounds { 3 * length (row_ledgers self.now.frame nations.now entries.now) ≤ length out.old }
-        requires counts_in_bounds { length (nation_rows_in nations.now) ≤ length counts.old }
-        ensures { WritesLedgers self.now.frame nations.now entries.now out.old counts.old out.new counts.new }
+    // Writes the rows of all nations, each nation's behind those before it, and for each the number of its points. Not by a `zip` with `iter_mut`: a
+    // proof knows no cell that is written through it.
+    pub(crate) fn write_all(&self, chronicle: Chronicle<'_>, out: &mut [u32], counts: &mut [u64])
+        requires rows_in_bounds { 3 * length (row_ledgers self.now.frame chronicle.nations.now chronicle.entries.now) ≤ length out.old }
+        requires counts_in_bounds { length (nation_rows_in chronicle.nations.now) ≤ length counts.old }
+        ensures { WritesLedgers self.now.frame chronicle.entry.nations.now chronicle.entry.entries.now out.old counts.old out.new counts.new }
     {
         let mut passed = 0;
-        for i in 0..nation_count(nations) {
-            let row = nation_at(nations, i);
-            let n = self.write(entries, row, &mut out[LEDGER_WIDTH * passed..]);
-            counts[i] = n as u64;
+        let mut left = Nations::of(chronicle.nations);
+        for count in counts.iter_mut() {
+            let Some(nation) = left.next() else {
+                return;
+            };
+            let n = self.write(chronicle.entries, nation, &mut out[LEDGER_WIDTH * passed..]);
+            *count = n as u64;
             passed += n;
         }
     }

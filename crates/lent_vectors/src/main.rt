@@ -21,17 +21,27 @@ mod vector;
 
 use std::io;
 use std::io::Read;
-use stored_input::{BrokenOff, Counts, Replay, read_head, read_part, replay_list};
+use stored_input::{BrokenOff, Counts, Replay, read_head, read_part, replay_file};
 use vector::{HEAD, Vector};
+
+// How many bytes the record of a vector has at most, and how many numbers the vector behind its head.
+const RECORD_BYTES: usize = 16384;
+
+const VECTOR_NUMBERS: usize = 4096;
 
 // Room for the record of a vector, and for its numbers: of a fixed size, since nothing is allocated.
 #[derive(Drop)]
 struct Vectors {
-    record: [u8; 16384],
-    numbers: [u32; 4096],
+    record: [u8; RECORD_BYTES],
+    numbers: [u32; VECTOR_NUMBERS],
 }
 
 impl Replay for Vectors {
+    ghost use Rattle.std.specs.Prelude.{⊤};
+
+    // Of its cases nothing is promised: each is of one of seven kinds, and what they come to is held to the file stdout.
+    ghost comes_to = { λ _ _ _. ⊤ };
+
     fn replay<R: Read>(&mut self, count: u32, list: &mut R) -> Result<Counts, BrokenOff> {
         let head: [u32; HEAD] = read_head(list)?;
         let n = (count as usize).checked_sub(HEAD).ok_or(BrokenOff)?;
@@ -42,12 +52,13 @@ impl Replay for Vectors {
     }
 }
 
+// What is printed no promise tells: no clause of the host's output says which bytes reach it. It is held to the file stdout.
 fn main(rt: HostRuntime) -> io::Result<()> {
     let mut vectors = Vectors {
-        record: [0; 16384],
-        numbers: [0; 4096],
+        record: [0; RECORD_BYTES],
+        numbers: [0; VECTOR_NUMBERS],
     };
-    let all = replay_list(&rt, "lent.bin", &mut vectors);
+    let all = replay_file(&rt, "lent.bin", &mut vectors).unwrap_or_default();
     let counts = all.counts;
     print!(rt;
         "{} vectors, {} questions one at a time, ",

@@ -1,7 +1,6 @@
 pub mod WalkLaws
 pub mod MergeEntryLaws
 pub mod ListingLaws
-pub mod CountNationsLaws
 pub mod WriteNationsLaws
 pub mod PlacingLaws
 pub mod ReadingLaws

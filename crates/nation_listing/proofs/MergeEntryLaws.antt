@@ -1,17 +1,18 @@
 -- The merge of a country's switches with its lives, entry by entry, and the last target of its switches.
 use mathlib.Core.Path.{◌≡◌, refl, sym, ap, ap₂, ◌∙◌}
-use mathlib.Core.Bool.{true, false}
+use mathlib.Core.Bool.{Bool, true, false}
 use mathlib.Core.List.{List, [], ◌∷◌, map}
-use Prim.Native.Nat.{ℕ, suc, ◌-◌, ◌*◌, ◌<◌}
+use Prim.Native.Nat.{ℕ, suc, ◌+◌, ◌-◌, ◌*◌, ◌<◌}
 use native.Mathlib.Omega.{arith}
-use lib.ListN.{length, get_or, take, drop}
+use lib.Dec.{leb}
+use lib.ListN.{length, get_or, length-map}
 use Rattle.std.specs.Prelude.{Option, Some, None}
 use Rattle.std.specs.Iterator.{YieldsFirstBy}
 use Rattle.lists.specs.Lists.{last_or}
 use Rattle.lists.proofs.BoolLaws.{clash}
 use Rattle.lists.proofs.ListLaws.{length-join}
-use Rattle.lists.proofs.WriteLaws.{part-all}
 use Rattle.sorting.specs.Steps.{into, merge_by}
+use Rattle.sorting.proofs.SortLaws.{length-merge}
 use Rattle.format.specs.declared.tag.CountryTag.{CountryTag}
 use Rattle.format.specs.declared.date.Eu4Date.{Eu4Date}
 use Rattle.chronicle_rows.specs.declared.rows.Entry as code
@@ -23,7 +24,7 @@ use Rattle.rules.specs.Nations.{targets}
 use Rattle.rules.specs.NationRows.{entry_width, entry_row, entry_row_words}
 use Rattle.nation_tables.specs.Turning.{by_date}
 use Rattle.nation_tables.specs.Switches.{date_in, target_in, switch_in}
-use Rattle.nation_listing.specs.Entries.{merged_entries, switch_first, lives_told, entries_words, latest_tag}
+use Rattle.nation_listing.specs.Entries.{merged_entries, lives_told, entries_words, latest_tag}
 
 -- ## The last target
 
@@ -59,22 +60,41 @@ merge-second : (a b : Entry) (xs ys : List Entry) → by_date a b ≡ false → 
 unfolding into merge_by
 merge-second a b xs ys h = simp h
 
--- The first switch of a run comes next, as the code reads it.
-pub switch-next : (words run : List ℕ) (life : Option code.Entry) (lives : List Entry) (date : Eu4Date) (target : CountryTag)
-    → switch_first run life ≡ true → date.0 ≡ date_in (get_or run 0 0) → target.0 ≡ target_in words (get_or run 0 0)
-    → merged_entries words run (lives_told life lives)
-    ≡ record { date = date; kind = switch target } ∷ merged_entries words (take (length run - 1) (drop 1 run)) (lives_told life lives)
-unfolding into merge_by
-switch-next words run life lives date target h p q =
-    rw (part-all run 1)
-    (go run life h
-    ∙ ap₂ (λ (d t : ℕ). record { date = record { 0 = d }; kind = switch (record { 0 = t }) } ∷ merged_entries words (drop 1 run) (lives_told life lives)) (sym p) (sym q))
+-- Whether the first switch of a run comes next, where the lives have told their next.
+abbrev pub switch_first : List ℕ → Option code.Entry → Bool
+switch_first [] life = false
+switch_first (key ∷ run) (Some life) = leb (date_in key) life.date.0
+switch_first (key ∷ run) None = true
+
+-- Without a switch it does not.
+pub first-none : (run : List ℕ) (life : Option code.Entry) → length run ≡ 0 → switch_first run life ≡ false
+first-none [] life h = refl
+first-none (key ∷ run) life h = absurd (omega arith)
+
+-- With one, it is as the code tests it.
+pub first-some : (run rest : List ℕ) (key : ℕ) (life : Option code.Entry) (test : Bool) → run ≡ key ∷ rest → (life ≡ None → test ≡ true)
+    → ((x : code.Entry) → life ≡ Some x → test ≡ leb (date_in key) x.date.0) → switch_first run life ≡ test
+first-some run rest key life test e none some = ap (λ (r : List ℕ). switch_first r life) e ∙ go life none some
   where
-    go : (run : List ℕ) (life : Option code.Entry) → switch_first run life ≡ true
-        → merged_entries words run (lives_told life lives) ≡ switch_in words (get_or run 0 0) ∷ merged_entries words (drop 1 run) (lives_told life lives)
-    go [] life h = clash false h refl
-    go (key ∷ run) (Some life) h = merge-first (switch_in words key) (entry_told life) (map (switch_in words) run) lives h
-    go (key ∷ run) None h = refl
+    go : (life : Option code.Entry) → (life ≡ None → test ≡ true) → ((x : code.Entry) → life ≡ Some x → test ≡ leb (date_in key) x.date.0)
+        → switch_first (key ∷ rest) life ≡ test
+    go None none some = sym (none refl)
+    go (Some x) none some = sym (some x refl)
+
+-- The first switch comes next.
+pub switch-next : (words run rest : List ℕ) (key : ℕ) (life : Option code.Entry) (lives : List Entry) (date : Eu4Date) (target : CountryTag)
+    → run ≡ key ∷ rest → switch_first run life ≡ true → date.0 ≡ date_in key → target.0 ≡ target_in words key
+    → merged_entries words run (lives_told life lives) ≡ record { date = date; kind = switch target } ∷ merged_entries words rest (lives_told life lives)
+unfolding into merge_by
+switch-next words run rest key life lives date target e h p q =
+    ap (λ (r : List ℕ). merged_entries words r (lives_told life lives)) e
+    ∙ (go life (ap (λ (r : List ℕ). switch_first r life) (sym e) ∙ h)
+    ∙ ap₂ (λ (d t : ℕ). record { date = record { 0 = d }; kind = switch (record { 0 = t }) } ∷ merged_entries words rest (lives_told life lives)) (sym p) (sym q))
+  where
+    go : (life : Option code.Entry) → switch_first (key ∷ rest) life ≡ true
+        → merged_entries words (key ∷ rest) (lives_told life lives) ≡ switch_in words key ∷ merged_entries words rest (lives_told life lives)
+    go (Some life) h = merge-first (switch_in words key) (entry_told life) (map (switch_in words) rest) lives h
+    go None h = refl
 
 -- The told life comes next.
 pub life-next : (words run : List ℕ) (told : Option code.Entry) (life : code.Entry) (lives : List Entry) → told ≡ Some life → switch_first run told ≡ false
@@ -100,6 +120,10 @@ none-next words run told lives e h = ap (λ t. merged_entries words run (lives_t
 pub lives-before : (s t : Lives) (r : Option code.Entry) → YieldsFirstBy entry_told lives_left s r t → lives_left s ≡ lives_told r (lives_left t)
 lives-before s t (Some life) h = h
 lives-before s t None h = h.0
+
+-- The entries that are left are switches and lives.
+pub length-entries-left : (words run : List ℕ) (lives : List Entry) → length (merged_entries words run lives) ≡ length run + length lives
+length-entries-left words run lives = length-merge by_date (map (switch_in words) run) lives ∙ ap (λ (n : ℕ). n + length lives) (length-map run (switch_in words))
 
 -- An entry row has three words.
 pub length-entries-words : (es : List Entry) → length (entries_words es) ≡ entry_width * length es

@@ -1,81 +1,87 @@
 -- What `place_nations` asks of its steps, and what it leaves: tables that pass the test can be counted and read, and the test for room is the
 -- nations' own.
-use mathlib.Core.Path.{◌≡◌, refl, sym, ap, ◌∙◌}
-use mathlib.Core.Bool.{Bool, true, false, not, true≢false}
+use mathlib.Core.Path.{◌≡◌, refl, sym, ap, subst, ◌∙◌}
+use mathlib.Core.Bool.{Bool, true, false, true≢false}
 use mathlib.Core.List.{List}
-use Prim.Native.Nat.{ℕ, ◌*◌, ◌<◌}
+use Prim.Native.Nat.{ℕ, ◌*◌, ◌/◌}
 use native.Mathlib.Omega.{arith}
-use borrow.Author.Tests.{leb-true, not-true, not-false}
+use borrow.Author.Tests.{leb-true, leb-false, le-leb, lt-leb}
 use lib.Dec.{leb}
 use lib.ListN.{length}
-use Rattle.lists.proofs.BoolLaws.{and_left, and_right}
+use Rattle.lists.proofs.BoolLaws.{cases, and_left, and_right}
 use Rattle.format.specs.declared.refused.Refusal.{Refusal}
 use Rattle.format.specs.declared.refused.Refusal.TheVariants.{NoRecord, UnknownVersion, WrongSizes, BadTag, BadDate, UndefinedBit, Repeated, EndsEarly, LongYear, NoRoom, NotShaped, BadQuestion, NoNation}
 use Rattle.rules.specs.Chronicle.{Nation}
 use Rattle.rules.specs.NationRows.{nation_width, entry_width}
 use Rattle.rules.proofs.RowLaws.{length-nation_words, length-entry_words}
-use Rattle.nation_tables.specs.Layout.{word_span}
 use Rattle.nation_tables.specs.Gathering.{Cells}
-use Rattle.nation_listing.specs.declared.listing.Listed.{Listed}
+use Rattle.nation_listing.specs.declared.placing.Listed.{Listed}
 use Rattle.nation_listing.specs.declared.tables.NationTables.{NationTables}
-use Rattle.nation_listing.specs.Listing.{cells_of, nations_at, listed_of, Readable, NationsRoom, NationsWritten}
-use Rattle.nation_listing.specs.Placing.{nations_for, PlacedRows, NonePlaced, refused_for}
-use Rattle.nation_listing.specs.Reading.{readable_of}
-use Rattle.nation_listing.proofs.CountNationsLaws.{nations-few}
-use Rattle.nation_listing.proofs.ReadingLaws.{readable-cells}
+use Rattle.nation_listing.specs.declared.tables.ReadableTables.{ReadableTables}
+use Rattle.nation_listing.specs.Tables.{cells_of}
+use Rattle.nation_listing.specs.Reading.{readable_of, cells_in}
+use Rattle.nation_listing.specs.Listing.{nations_at}
+use Rattle.nation_listing.specs.Placing.{listed_of, nations_for, PlacedRows, NonePlaced, refused_for, NationsRoom, NationsWritten}
 
-module _ (t : NationTables) (b : Bool) (test : b ≡ readable_of t) where
-  abbrev cells : Cells
-  cells = cells_of t
+-- So many rows have room if they are not more than the whole rows of a slice.
+pub nations-by : (n cells : ℕ) → leb n (cells / nation_width) ≡ leb (nation_width * n) cells
+nations-by n cells =
+    cases (leb n (cells / nation_width))
+    (λ h. h ∙ sym (le-leb (nation_width * n) cells (omega (arith, leb-true n (cells / nation_width) h))))
+    (λ h. h ∙ sym (lt-leb (nation_width * n) cells (omega (arith, leb-false n (cells / nation_width) h))))
+
+pub entries-by : (n cells : ℕ) → leb n (cells / entry_width) ≡ leb (entry_width * n) cells
+entries-by n cells =
+    cases (leb n (cells / entry_width))
+    (λ h. h ∙ sym (le-leb (entry_width * n) cells (omega (arith, leb-true n (cells / entry_width) h))))
+    (λ h. h ∙ sym (lt-leb (entry_width * n) cells (omega (arith, leb-false n (cells / entry_width) h))))
+
+-- Tables that can be read, as they were lent and as they are read, and what is counted of them.
+module _ (t : NationTables) (rt : ReadableTables) (test : true ≡ readable_of t) (same : cells_in rt ≡ cells_of t)
+    (r : Listed) (counted : r ≡ listed_of (nations_at (cells_in rt) rt.initial_keys.keys.now)) where
+  abbrev here : List Nation
+  here = nations_at (cells_in rt) rt.initial_keys.keys.now
 
   abbrev nations : List Nation
-  nations = nations_at cells cells.initials
+  nations = nations_at (cells_of t) t.initial_keys.now
 
-  abbrev readable : Bool
-  readable = readable_of t
+  same-nations : here ≡ nations
+  same-nations = ap (λ (w : Cells). nations_at w w.initials) same
 
-  module _ (pass : not b ≡ false) where
-    passed : readable ≡ true
-    passed = sym test ∙ not-false b pass
+  module _ (rows₀ entries₀ : List ℕ) (fit : Bool) (told : fit ≡ nations_for r (length rows₀) (length entries₀)) where
+    -- There is no room.
+    pub place_short : fit ≡ false → NonePlaced (readable_of t) nations NoRoom rows₀ rows₀ entries₀ entries₀
+    place_short f =
+        record {
+          cause = (
+            sym test,
+            ap (λ (ns : List Nation). nations_for (listed_of ns) (length rows₀) (length entries₀)) (sym same-nations)
+                ∙ ap (λ (l : Listed). nations_for l (length rows₀) (length entries₀)) (sym counted)
+                ∙ sym told
+                ∙ f,
+          );
+          rows = refl;
+          entries = refl;
+        }
 
-    pub place-readable : Readable cells
-    place-readable = readable-cells t.tag_words.now t.initial_keys.now t.runs.now t.targets.now t.firsts.now t.started.now t.keys.now t.turns.now t.start passed
+    -- There is.
+    place-fits : fit ≡ true → nations_for (listed_of here) (length rows₀) (length entries₀) ≡ true
+    place-fits f = ap (λ (l : Listed). nations_for l (length rows₀) (length entries₀)) (sym counted) ∙ sym told ∙ f
 
-    module _ (r : Listed) (counted : r ≡ listed_of nations) where
-      -- They are few.
-      pub place-few : (r.nations < word_span) × (r.entries < word_span)
-      place-few = rw counted (nations-few cells place-readable)
+    pub rows-fit : fit ≡ true → NationsRoom here rows₀ entries₀
+    rows-fit f =
+        let n : Bool = leb (nation_width * (listed_of here).nations) (length rows₀) in
+        let e : Bool = leb (entry_width * (listed_of here).entries) (length entries₀) in
+        let fits = place-fits f in
+        record {
+          rows = omega (arith, length-nation_words here, leb-true (nation_width * (listed_of here).nations) (length rows₀) (and_left n e fits));
+          entries = omega (arith, length-entry_words here, leb-true (entry_width * (listed_of here).entries) (length entries₀) (and_right n e fits));
+        }
 
-      module _ (rows₀ entries₀ : List ℕ) (fit : Bool) (told : fit ≡ nations_for r (length rows₀) (length entries₀)) where
-        -- There is no room.
-        pub place_short : not fit ≡ true → NonePlaced readable nations NoRoom rows₀ rows₀ entries₀ entries₀
-        place_short f =
-            record {
-              cause = (passed, ap (λ (l : Listed). nations_for l (length rows₀) (length entries₀)) (sym counted) ∙ sym told ∙ not-true fit f);
-              rows = refl;
-              entries = refl;
-            }
-
-        -- There is.
-        place-fits : not fit ≡ false → nations_for (listed_of nations) (length rows₀) (length entries₀) ≡ true
-        place-fits t = ap (λ (l : Listed). nations_for l (length rows₀) (length entries₀)) (sym counted) ∙ sym told ∙ not-false fit t
-
-        place-room : not fit ≡ false → NationsRoom nations rows₀ entries₀
-        place-room t =
-            let n : Bool = leb (nation_width * (listed_of nations).nations) (length rows₀) in
-            let e : Bool = leb (entry_width * (listed_of nations).entries) (length entries₀) in
-            let fits = place-fits t in
-            record {
-              rows = omega (arith, length-nation_words nations, leb-true (nation_width * (listed_of nations).nations) (length rows₀) (and_left n e fits));
-              entries = omega (arith, length-entry_words nations, leb-true (entry_width * (listed_of nations).entries) (length entries₀) (and_right n e fits));
-            }
-
-        pub place-asked : not fit ≡ false → Readable cells × NationsRoom nations rows₀ entries₀
-        place-asked t = (place-readable, place-room t)
-
-        pub place-put : not fit ≡ false → (rows₁ entries₁ : List ℕ) → NationsWritten nations rows₀ rows₁ entries₀ entries₁
-            → (readable ≡ true) × PlacedRows nations r rows₀ rows₁ entries₀ entries₁
-        place-put t rows₁ entries₁ w = (passed, record { listed = counted; room = place-fits t; put = w })
+    pub place-put : fit ≡ true → (rows₁ entries₁ : List ℕ) → NationsWritten here rows₀ rows₁ entries₀ entries₁
+        → (readable_of t ≡ true) × PlacedRows nations r rows₀ rows₁ entries₀ entries₁
+    place-put f rows₁ entries₁ w =
+        (sym test, subst (λ (ns : List Nation). PlacedRows ns r rows₀ rows₁ entries₀ entries₁) same-nations (record { listed = counted; room = place-fits f; put = w }))
 
 -- Where the tables can be read, it is the room that is wanting.
 pub short-of-room : (e : Refusal) (b : Bool) (ns : List Nation) (rows₀ entries₀ : List ℕ) → b ≡ true

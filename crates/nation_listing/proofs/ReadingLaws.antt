@@ -2,28 +2,32 @@
 use mathlib.Core.Path.{◌≡◌, refl, sym, ap, ◌∙◌}
 use mathlib.Core.Bool.{Bool, true, false, not, ◌&&◌}
 use mathlib.Core.List.{List, [], ◌∷◌}
-use Prim.Native.Nat.{ℕ, zero, suc, ◌+◌, ◌/◌, ◌%◌, ◌≤◌, ◌<◌, min}
+use Prim.Native.Nat.{ℕ, zero, suc, ◌+◌, ◌≤◌, ◌<◌, min}
 use native.Mathlib.Numerals.{add-one}
 use native.Mathlib.Omega.{arith}
 use borrow.Author.Tests.{leb-true, ltb-true, eqb-true, le-leb, le-ltb, lt-ltb, eq-eqb, not-true, not-false}
 use lib.Dec.{leb, ltb, eqb}
 use lib.ListN.{length, drop, get_or, length-map, drop_of_length-le}
+use Rattle.std.specs.Prelude.{All as Each, fold}
 use Rattle.lists.specs.Lists.{All, all_of}
 use Rattle.lists.proofs.BoolLaws.{both}
 use Rattle.lists.proofs.EachLaws.{all_of-all}
-use Rattle.lists.proofs.ListLaws.{InOrder, all_map, all_both, all-all_of}
+use Rattle.lists.proofs.ElementLaws.{all-inside}
+use Rattle.lists.proofs.ListLaws.{InOrder, all_map, all-all_of}
 use Rattle.lists.proofs.StepLaws.{next}
 use Rattle.sorting.specs.Sort.{sort_by}
 use Rattle.sorting.specs.Steps.{falls_from}
 use Rattle.sorting.proofs.FallLaws.{falls-none}
 use Rattle.sorting.proofs.SortedKeyLaws.{sorted-up}
 use Rattle.format.specs.declared.date.Eu4Date.{Eu4Date}
-use Rattle.nation_tables.specs.Layout.{key_rows, key_numbers, row_key_span, half, no_change}
+use Rattle.nation_tables.specs.Layout.{key_rows, key_numbers, row_key_span, short_span, no_change}
 use Rattle.nation_tables.specs.Lookup.{row_in}
-use Rattle.nation_tables.specs.Turning.{high_halves, low_halves}
+use Rattle.nation_tables.specs.declared.layout.Turn.{Turn}
+use Rattle.nation_tables.specs.Turning.{losses, gains}
 use Rattle.nation_tables.specs.Gathering.{Cells, cells_from}
-use Rattle.nation_listing.specs.Listing.{Readable}
-use Rattle.nation_listing.specs.Reading.{counts_fit, leads_inside, few_slots, keys_rise, links_rise, readable_by, is_readable}
+use Rattle.nation_listing.specs.declared.tables.NationTables.{NationTables}
+use Rattle.nation_listing.specs.Tables.{cells_of, KeyInside, Readable}
+use Rattle.nation_listing.specs.Reading.{counts_fit, leads_inside, few_slots, keys_rise, links_rise, readable_by, is_readable, readable_of}
 
 -- ## One test more
 
@@ -37,14 +41,15 @@ found-end : (all good rest : Bool) → rest ≡ true → good && rest ≡ all �
 found-end all true rest e h = sym e ∙ h
 found-end all false rest e h = h
 
--- A test of each.
-module _ (p : ℕ → Bool) (xs : List ℕ) (good : Bool) (i : ℕ) (found : good && all_of p (drop i xs) ≡ all_of p xs) where
-  pub each_more : i < length xs → (good && p (get_or xs i 0)) && all_of p (drop (i + 1) xs) ≡ all_of p xs
-  each_more h =
-      found-more (all_of p xs) good (p (get_or xs i 0)) (all_of p (drop i xs)) (all_of p (drop (i + 1) xs)) (ap (all_of p) (next xs i 0 h)) found
-
-  pub each-end : length xs ≤ i → good ≡ all_of p xs
-  each-end h = found-end (all_of p xs) good (all_of p (drop i xs)) (ap (all_of p) (drop_of_length-le xs {i = i} h)) found
+-- A test of each, by a fold.
+pub all_by_fold : (p : ℕ → Bool) (xs : List ℕ) → fold (λ good x. good && p x) true xs ≡ all_of p xs
+all_by_fold p xs = go true xs
+  where
+    go : (good : Bool) (xs : List ℕ) → fold (λ good x. good && p x) good xs ≡ good && all_of p xs
+    go true [] = refl
+    go false [] = refl
+    go true (x ∷ xs) = go (p x) xs
+    go false (x ∷ xs) = go false xs
 
 -- A test of each with the one before it.
 module _ (xs : List ℕ) (good : Bool) (last i : ℕ) (found : good && keys_rise last (drop i xs) ≡ keys_rise 0 xs) where
@@ -58,15 +63,15 @@ module _ (xs : List ℕ) (good : Bool) (last i : ℕ) (found : good && keys_rise
       found-end (keys_rise 0 xs) good (keys_rise last (drop i xs)) (ap (keys_rise last) (drop_of_length-le xs {i = i} h)) found
 
 -- A test of each with its number.
-module _ (xs : List ℕ) (good : Bool) (k : ℕ) (found : good && links_rise k (drop k xs) ≡ links_rise 0 xs) where
-  abbrev later : ℕ → Bool
-  later x = ltb k (x / half) && ltb k (x % half)
+module _ (xs : List Turn) (good : Bool) (k : ℕ) (found : good && links_rise k (drop k xs) ≡ links_rise 0 xs) where
+  abbrev later : Turn → Bool
+  later x = ltb k x.loss && ltb k x.gain
 
-  pub links-more : k < length xs → (good && later (get_or xs k 0)) && links_rise (k + 1) (drop (k + 1) xs) ≡ links_rise 0 xs
-  links-more h =
-      found-more (links_rise 0 xs) good (later (get_or xs k 0)) (links_rise k (drop k xs)) (links_rise (k + 1) (drop (k + 1) xs))
-      (ap (links_rise k) (next xs k 0 h)
-      ∙ ap (λ (n : ℕ). later (get_or xs k 0) && links_rise n (drop (k + 1) xs)) (sym (add-one k))) found
+  pub links-more : (d : Turn) → k < length xs → (good && later (get_or xs k d)) && links_rise (k + 1) (drop (k + 1) xs) ≡ links_rise 0 xs
+  links-more d h =
+      found-more (links_rise 0 xs) good (later (get_or xs k d)) (links_rise k (drop k xs)) (links_rise (k + 1) (drop (k + 1) xs))
+      (ap (links_rise k) (next xs k d h)
+      ∙ ap (λ (n : ℕ). later (get_or xs k d) && links_rise n (drop (k + 1) xs)) (sym (add-one k))) found
 
   pub links_end : length xs ≤ k → good ≡ links_rise 0 xs
   links_end h = found-end (links_rise 0 xs) good (links_rise k (drop k xs)) (ap (links_rise k) (drop_of_length-le xs {i = k} h)) found
@@ -95,31 +100,36 @@ sorted-rise (x ∷ xs) e =
     simp (le-leb 0 x (omega arith)) (order-rise x xs o.0 o.1)
 
 -- Links that pass lead to later numbers, and such links pass.
-links-later : (j : ℕ) (xs : List ℕ) → links_rise j xs ≡ true → (k : ℕ) → k < length xs
-    → (j + k < get_or (high_halves xs) k 0) × (j + k < get_or (low_halves xs) k 0)
+links-later : (j : ℕ) (xs : List Turn) → links_rise j xs ≡ true → (k : ℕ) → k < length xs
+    → (j + k < get_or (losses xs) k 0) × (j + k < get_or (gains xs) k 0)
 links-later j [] h k l = absurd (omega arith)
 links-later j (x ∷ xs) h zero l =
-    let b = both (ltb j (x / half) && ltb j (x % half)) (links_rise (suc j) xs) h in
-    let a = both (ltb j (x / half)) (ltb j (x % half)) b.0 in
-    let up = ltb-true j (x / half) a.0 in
-    let down = ltb-true j (x % half) a.1 in
+    let b = both (ltb j x.loss && ltb j x.gain) (links_rise (suc j) xs) h in
+    let a = both (ltb j x.loss) (ltb j x.gain) b.0 in
+    let up = ltb-true j x.loss a.0 in
+    let down = ltb-true j x.gain a.1 in
     (omega (arith, up), omega (arith, down))
 links-later j (x ∷ xs) h (suc k) l =
-    let b = both (ltb j (x / half) && ltb j (x % half)) (links_rise (suc j) xs) h in
+    let b = both (ltb j x.loss && ltb j x.gain) (links_rise (suc j) xs) h in
     let r = links-later (suc j) xs b.1 k (omega arith) in
     (omega (arith, r.0), omega (arith, r.1))
 
-later-links : (j : ℕ) (xs : List ℕ) → ((k : ℕ) → k < length xs → j + k < get_or (high_halves xs) k 0)
-    → ((k : ℕ) → k < length xs → j + k < get_or (low_halves xs) k 0) → links_rise j xs ≡ true
+later-links : (j : ℕ) (xs : List Turn) → ((k : ℕ) → k < length xs → j + k < get_or (losses xs) k 0)
+    → ((k : ℕ) → k < length xs → j + k < get_or (gains xs) k 0) → links_rise j xs ≡ true
 later-links j [] f g = refl
 later-links j (x ∷ xs) f g =
     simp (
-      lt-ltb j (x / half) (omega (arith, f 0 (omega arith))),
-      lt-ltb j (x % half) (omega (arith, g 0 (omega arith))),
+      lt-ltb j x.loss (omega (arith, f 0 (omega arith))),
+      lt-ltb j x.gain (omega (arith, g 0 (omega arith))),
     )
     (later-links (suc j) xs (λ k l. omega (arith, f (suc k) (omega arith))) (λ k l. omega (arith, g (suc k) (omega arith))))
 
 -- ## All tests
+
+-- What holds at each place holds of all.
+each_all : (P : ℕ → Type 0) (xs : List ℕ) → Each P xs → All P xs
+each_all P [] h = tt
+each_all P (x ∷ xs) h = (h 0 x (omega arith), each_all P xs (λ k d l. h (suc k) d (omega arith)))
 
 four : (a b c d : Bool) → (a && b && c && d) ≡ true → (a ≡ true) × (b ≡ true) × (c ≡ true) × (d ≡ true)
 four a b c d h =
@@ -135,7 +145,7 @@ five a b c d e h =
     (p.0, p.1, p.2, p.3, r.1)
 
 -- What the code knows behind its test of the counts.
-module _ (words : ℕ) (initials runs : List ℕ) (firsts : ℕ) (started : List ℕ) (keys : ℕ) (turns : List ℕ) (fits : Bool)
+module _ (words : ℕ) (initials runs : List ℕ) (firsts : ℕ) (started : List ℕ) (keys : ℕ) (turns : List Turn) (fits : Bool)
     (told : fits ≡ counts_fit (length initials) (length runs) keys (length turns)) where
   abbrev rest : Bool
   rest =
@@ -160,7 +170,7 @@ module _ (words : ℕ) (initials runs : List ℕ) (firsts : ℕ) (started : List
     fit-read rows low el er leads few rises runs_rise later e₀ e₁ e₂ e₃ e₄ =
         rw (sym told ∙ not-false fits h) (rw (e₀, e₁, e₂, e₃, e₄, er, el) refl)
 
-module _ (words initials runs targets firsts started keys turns : List ℕ) (start : Eu4Date) where
+module _ (words initials runs targets : List ℕ) (firsts : List Turn) (started keys : List ℕ) (turns : List Turn) (start : Eu4Date) where
   abbrev cells : Cells
   cells = cells_from words initials runs targets firsts started keys turns start
 
@@ -170,14 +180,14 @@ module _ (words initials runs targets firsts started keys turns : List ℕ) (sta
   abbrev readable : Bool
   readable = is_readable words initials runs firsts started keys turns
 
-  high : length (high_halves firsts) ≡ length firsts
-  high = length-map firsts (λ x. x / half)
+  high : length (losses firsts) ≡ length firsts
+  high = length-map firsts (λ x. x.loss)
 
-  low : length (low_halves firsts) ≡ length firsts
-  low = length-map firsts (λ x. x % half)
+  low : length (gains firsts) ≡ length firsts
+  low = length-map firsts (λ x. x.gain)
 
   -- Tables that pass can be read.
-  pub readable-cells : readable ≡ true → Readable cells
+  readable-cells : readable ≡ true → Readable cells
   readable-cells h =
       let a : Bool = counts_fit (length initials) (length runs) (length keys) (length turns) in
       let t =
@@ -185,16 +195,24 @@ module _ (words initials runs targets firsts started keys turns : List ℕ) (sta
       let q = four (leb (length initials) key_rows) (leb (length runs) key_numbers) (leb (length keys) no_change) (eqb (length turns) (length keys)) t.0 in
       let p = five (all_of (leads_inside rows) initials) (all_of few_slots started) (keys_rise 0 initials) (keys_rise 0 runs) (links_rise 0 turns) t.1 in
       let leads = all_of-all (leads_inside rows) initials p.0 in
-      let at : (k : ℕ) → leads_inside rows k ≡ true → (row_in k < rows) × (k < row_key_span) =
-      λ k t. let b = both (ltb (row_in k) rows) (ltb k row_key_span) t in (ltb-true (row_in k) rows b.0, ltb-true k row_key_span b.1) in
-      let inside : (d : ℕ) → rows ≤ d → All (λ k. row_in k < d) initials = λ d l. all_map (λ k t. omega (arith, (at k t).0)) initials leads in
+      let inside : (k : ℕ) → leads_inside rows k ≡ true → KeyInside cells k =
+      λ k t.
+      let b = both (ltb (row_in k) rows) (ltb k row_key_span) t in
+      let l = ltb-true (row_in k) rows b.0 in
+      record {
+        tagged = omega (arith, l);
+        started = omega (arith, l);
+        loses = omega (arith, l, high);
+        gains = omega (arith, l, low);
+        narrow = ltb-true k row_key_span b.1;
+      } in
       let later = links-later 0 turns p.4 in
       let long = eqb-true (length turns) (length keys) q.3 in
       record {
         chained = record {
           few = leb-true (length keys) no_change q.2;
-          all_olds = length-map turns (λ x. x / half) ∙ long;
-          all_news = length-map turns (λ x. x % half) ∙ long;
+          all_olds = length-map turns (λ x. x.loss) ∙ long;
+          all_news = length-map turns (λ x. x.gain) ∙ long;
           olds_rise = λ k l. omega (arith, (later k (omega (arith, long))).0);
           news_rise = λ k l. omega (arith, (later k (omega (arith, long))).1);
         };
@@ -202,12 +220,8 @@ module _ (words initials runs targets firsts started keys turns : List ℕ) (sta
         initials = rise-sorted initials p.2;
         few = leb-true (length initials) key_rows q.0;
         few_runs = leb-true (length runs) key_numbers q.1;
-        tag_rows = inside (length words) (omega arith);
-        start_rows = inside (length started) (omega arith);
-        loss_rows = inside (length (high_halves firsts)) (omega (arith, high));
-        gain_rows = inside (length (low_halves firsts)) (omega (arith, low));
-        words = all_map (λ k t. (at k t).1) initials leads;
-        started = all_map (λ k t. leb-true k half t) started (all_of-all few_slots started p.1);
+        inside = λ k d h. all-inside (KeyInside cells) initials k d (all_map inside initials leads) h;
+        started = λ k d h. all-inside (λ n. n ≤ short_span) started k d (all_map (λ n t. leb-true n short_span t) started (all_of-all few_slots started p.1)) h;
       }
 
   leads-inside : (k : ℕ) → row_in k < length words → row_in k < length firsts → row_in k < length started → k < row_key_span → leads_inside rows k ≡ true
@@ -216,23 +230,21 @@ module _ (words initials runs targets firsts started keys turns : List ℕ) (sta
   -- Tables that can be read pass.
   pub readable-found : Readable cells → readable ≡ true
   readable-found q =
-      let long : length turns ≡ length keys = sym (length-map turns (λ x. x / half)) ∙ q.chained.all_olds in
-      let pairs = all_both (λ k. row_in k < length words) (λ k. row_in k < length started) initials q.tag_rows q.start_rows in
-      let heads = all_both (λ k. row_in k < length (high_halves firsts)) (λ k. k < row_key_span) initials q.loss_rows q.words in
+      let long : length turns ≡ length keys = sym (length-map turns (λ x. x.loss)) ∙ q.chained.all_olds in
       rw (
         le-leb (length initials) key_rows q.few,
         le-leb (length runs) key_numbers q.few_runs,
         le-leb (length keys) no_change q.chained.few,
         eq-eqb (length turns) (length keys) long,
-        all-all_of
-            (λ k. ((row_in k < length words) × (row_in k < length started)) × ((row_in k < length (high_halves firsts)) × (k < row_key_span)))
-            (leads_inside rows) (λ k t. leads-inside k t.0.0 (omega (arith, high, t.1.0)) t.0.1 t.1.1) initials
-            (all_both (λ k. (row_in k < length words) × (row_in k < length started)) (λ k. (row_in k < length (high_halves firsts)) × (k < row_key_span))
-            initials pairs heads),
-        all-all_of (λ k. k ≤ half) few_slots (λ k t. le-leb k half t) started q.started,
+        all-all_of (KeyInside cells) (leads_inside rows) (λ k t. leads-inside k t.tagged (omega (arith, high, t.loses)) t.started t.narrow) initials (each_all (KeyInside cells) initials q.inside),
+        all-all_of (λ k. k ≤ short_span) few_slots (λ k t. le-leb k short_span t) started (each_all (λ k. k ≤ short_span) started q.started),
         sorted-rise initials q.initials,
         sorted-rise runs q.runs,
         later-links 0 turns (λ k l. omega (arith, q.chained.olds_rise k (omega (arith, long))))
             (λ k l. omega (arith, q.chained.news_rise k (omega (arith, long)))),
       )
       refl
+
+-- Tables that are lent, by the test of the code.
+pub readable-tables : (t : NationTables) → readable_of t ≡ true → Readable (cells_of t)
+readable-tables t h = readable-cells t.tag_words.now t.initial_keys.now t.runs.now t.targets.now t.firsts.now t.started.now t.keys.now t.turns.now t.start h

@@ -7,19 +7,17 @@ use Prim.Native.Nat.{ℕ, zero, suc, ◌+◌, ◌-◌, ◌*◌, ◌≤◌, ◌<�
 use native.Mathlib.Omega.{arith}
 use borrow.Author.Tests.{ltb-false, eq-eqb, ne_eqb}
 use lib.Dec.{ltb, eqb}
-use lib.ListN.{length, get_or, drop, length-append}
+use lib.ListN.{length, get_or, drop, length-append, get_or-map}
 use lib.Seq.{drop-cons, drop-length}
 use Rattle.lists.proofs.BoolLaws.{neither}
 use Rattle.format.specs.declared.date.Eu4Date.{Eu4Date}
 use Rattle.format.specs.Dates.{earlier}
 use Rattle.rules.specs.Chronicle.{appeared, annexed, Entry}
 use Rattle.rules.specs.Nations.{turn_entries, turn_count}
-use Rattle.nation_tables.specs.Turning.{Lived, before, key_date}
-use Rattle.std.specs.Prelude.{Some, None}
-use Rattle.chronicle_rows.specs.declared.rows.Entry as code
-use Rattle.nation_tables.specs.Layout.{half}
+use Rattle.nation_tables.specs.declared.layout.Turn.{Turn}
+use Rattle.nation_tables.specs.Turning.{Lived, before, key_date, losses, gains}
 use Rattle.nation_listing.specs.declared.lives.Lives.{Lives}
-use Rattle.nation_listing.specs.Lives.{walk_in, lives_left, Steps}
+use Rattle.nation_listing.specs.Lives.{walk_in, lives_left}
 use Rattle.nation_listing.specs.Walks.{Walk, past_change, lived_from, lived_left, life_entry, Chained, ahead}
 
 -- The walk after a loss, and after a gain.
@@ -175,6 +173,14 @@ module _ (start : Eu4Date) (keys olds news : List ℕ) (s : Chained keys olds ne
       pub gain-silent : eqb c.held 0 && earlier start date ≡ false → Past [] (record { lose = c.lose; gain = gains; held = c.held + 1 })
       gain-silent e = rw p (rw (rw d at e) at gain)
 
+-- A link as the code reads it.
+module _ (turns : List Turn) (k n : ℕ) (e : k ≡ n) where
+  pub linked-loss : (get_or turns k (record { loss = 0; gain = 0 })).loss ≡ get_or (losses turns) n 0
+  linked-loss = rw e (sym (get_or-map (λ x. x.loss) turns n (record { loss = 0; gain = 0 })))
+
+  pub linked-gain : (get_or turns k (record { loss = 0; gain = 0 })).gain ≡ get_or (gains turns) n 0
+  linked-gain = rw e (sym (get_or-map (λ x. x.gain) turns n (record { loss = 0; gain = 0 })))
+
 -- ## The end
 
 -- Behind the last change nothing is left.
@@ -185,23 +191,7 @@ none-left start keys olds news c h =
     ap (λ (x : Lived). x.entries)
     (walk_end start olds news keys c (ltb-false c.lose (length keys) past.0) (ltb-false c.gain (length keys) past.1))
 
--- ## From entry to entry
-
--- An iterator came from one place to another without a word.
-pub record Walked (from to : Lives) : Type 0 where
-  pub told : lives_left from ≡ lives_left to
-  pub light : to.held ≤ to.gain + half
-  pub near : ahead (walk_in to) ≤ ahead (walk_in from)
-
-pub walked_none : (c : Lives) → Walked c c
-walked_none c = record { told = refl; light = c.light; near = omega arith }
-
-module _ (from to : Lives) (w : Walked from to) where
-  pub walked_more : (c : Lives) → Steps to None c → Walked from c
-  walked_more c t = record { told = w.told ∙ t.told; light = c.light; near = omega (arith, w.near, t.less) }
-
-  pub walked-told : (x : code.Entry) (c : Lives) → Steps to (Some x) c → Steps from (Some x) c
-  walked-told x c t = record { told = w.told ∙ t.told; less = omega (arith, w.near, t.less) }
+-- ## How many entries
 
 -- A change tells two entries at most.
 pub turn-short : (start date : Eu4Date) (loses gains : Bool) (n : ℕ) → length (turn_entries start date loses gains n) ≤ 2
@@ -227,3 +217,8 @@ lived-short start olds news k (x ∷ xs) c =
       turn-short start (key_date x) (eqb c.lose k) (eqb c.gain k) c.held,
       lived-short start olds news (suc k) xs (past_change olds news k c),
     )
+
+-- So an iterator has few lives left.
+pub lives-short : (l : Lives) → length (lives_left l) ≤ 131070
+lives-short l =
+    omega (arith, l.chained.few, lived-short l.start (losses l.turns.now) (gains l.turns.now) 0 l.keys.now (walk_in l))

@@ -1,156 +1,137 @@
--- The rows of the listed nations and of their entries, written key by key of the initials.
-use mathlib.Core.Path.{◌≡◌, refl, ap, ◌∙◌}
+-- The rows of the listed nations and of their entries, written nation by nation.
+use mathlib.Core.Path.{◌≡◌, refl, ap, subst, ◌∙◌}
 use mathlib.Core.List.{List, [], ◌∷◌, ◌++◌}
 use Prim.Native.Nat.{ℕ, ◌+◌, ◌-◌, ◌*◌, ◌≤◌, ◌<◌}
 use native.Mathlib.Omega.{arith}
-use lib.ListN.{length, get_or, take, drop, length-append, length-drop}
+use borrow.Author.Tests.{le-leb}
+use lib.ListN.{length, take, drop, length-append, length-drop}
 use lib.Seq.{length-take-le}
 use Rattle.lists.specs.Lists.{join_of}
-use Rattle.lists.proofs.ListLaws.{join-append, length-join}
-use Rattle.lists.proofs.WriteLaws.{Behind, Writing, writing-none, writing_more, writing-done}
-use Rattle.nation_listing.specs.declared.listing.Listed.{Listed}
+use Rattle.lists.proofs.ListLaws.{join-append}
+use Rattle.lists.proofs.WriteLaws.{Writing, behind, writing-none, writing_more, writing-done}
 use Rattle.rules.specs.Chronicle.{Entry, Nation}
-use Rattle.rules.specs.NationRows.{NationRow, nation_width, nation_row_words, nation_rows_from, entry_row, entry_row_words, nation_words, entry_words, entry_width}
-use Rattle.nation_tables.specs.Gathering.{Cells}
-use Rattle.nation_listing.specs.Listing.{key_nations, nations_at, listed_of}
-use Rattle.nation_listing.specs.Listing.{Readable, NationsRoom, NationsWritten}
-use Rattle.rules.proofs.RowLaws.{all_entries, length-rows_from, length-nation_words, length-entry_words}
-use Rattle.nation_listing.proofs.ListingLaws.{key-short, key-nations-next, nations-end}
+use Rattle.rules.specs.NationRows.{nation_width, nation_row_words, nation_rows_from, entry_row, entry_row_words, nation_words, entry_words, entry_width}
+use Rattle.chronicle_rows.specs.RowAt.{row_put}
+use Rattle.nation_tables.specs.Layout.{word_span}
+use Rattle.nation_listing.specs.Entries.{entries_words}
+use Rattle.nation_listing.specs.Placing.{row_of, NationRoom, NationPut, NationsRoom, NationsWritten}
+use Rattle.rules.proofs.RowLaws.{all_entries}
+use Rattle.nation_listing.proofs.MergeEntryLaws.{length-entries-words}
+
+-- A row that finds room is put.
+pub put_room : (width : ℕ) (row row' cells after : List ℕ) → after ≡ row_put width row cells → row ≡ row' → width ≤ length cells → after ≡ row' ++ drop width cells
+put_room width row row' cells after p e h = p ∙ rw (le-leb width (length cells) h) (ap (λ (r : List ℕ). r ++ drop width cells) e)
 
 -- The words of the rows of nations, the first of whose entries has a number.
 abbrev pub rows_words : ℕ → List Nation → List ℕ
 rows_words first ns = join_of nation_row_words (nation_rows_from first ns)
 
--- Rows behind rows: their entries begin behind the others'.
-rows_append : (first : ℕ) (xs ys : List Nation)
-    → nation_rows_from first (xs ++ ys) ≡ nation_rows_from first xs ++ nation_rows_from (first + length (all_entries xs)) ys
+-- Those of a nation stand before those of the nations behind it.
+row-next : (first : ℕ) (n : Nation) (ns : List Nation) → rows_words first (n ∷ ns) ≡ nation_row_words (row_of first n) ++ rows_words (first + length n.entries) ns
 unfolding nation_rows_from
-rows_append first [] ys = let e : first ≡ first + 0 = omega arith in ap (λ (n : ℕ). nation_rows_from n ys) e
-rows_append first (x ∷ xs) ys =
-    let e : first + length x.entries + length (all_entries xs) ≡ first + length (x.entries ++ all_entries xs) =
-    omega (arith, length-append x.entries (all_entries xs)) in
-    let row : NationRow = record { initial = x.initial; latest = x.latest; stored = x.stored; first = first; count = length x.entries } in
-    ap (λ (rows : List NationRow). row ∷ rows)
-    (rows_append (first + length x.entries) xs ys
-    ∙ ap (λ (n : ℕ). nation_rows_from (first + length x.entries) xs ++ nation_rows_from n ys) e)
+row-next first n ns = refl
 
--- So it is with their words.
-words_append : (first : ℕ) (xs ys : List Nation) → rows_words first (xs ++ ys) ≡ rows_words first xs ++ rows_words (first + length (all_entries xs)) ys
-words_append first xs ys =
-    ap (join_of nation_row_words) (rows_append first xs ys)
-    ∙ join-append nation_row_words (nation_rows_from first xs) (nation_rows_from (first + length (all_entries xs)) ys)
-
--- A row has five words.
-length-rows-words : (first : ℕ) (ns : List Nation) → length (rows_words first ns) ≡ nation_width * length ns
-length-rows-words first ns =
-    length-join nation_width nation_row_words (λ r. refl) (nation_rows_from first ns) ∙ ap (λ (n : ℕ). nation_width * n) (length-rows_from first ns)
-
--- The words of entries, one behind the other.
-entries-append : (xs ys : List Nation) → entry_words (xs ++ ys) ≡ entry_words xs ++ entry_words ys
+-- So it is with the words of their entries.
+entries_next : (n : Nation) (ns : List Nation) → entry_words (n ∷ ns) ≡ entries_words n.entries ++ entry_words ns
 unfolding entry_words
-entries-append xs ys =
-    ap (join_of (λ (e : Entry). entry_row_words (entry_row e))) (join-append (λ (n : Nation). n.entries) xs ys)
-    ∙ join-append (λ (e : Entry). entry_row_words (entry_row e)) (all_entries xs) (all_entries ys)
+entries_next n ns = join-append (λ (e : Entry). entry_row_words (entry_row e)) n.entries (all_entries ns)
 
--- The nations of the keys before i are written, n of them, and their entries, up to number first; the others find room behind them.
-pub record Listing (w : Cells) (rows₀ entries₀ : List ℕ) (i n first : ℕ) (rows entries : List ℕ) : Type 0 where
-  pub inside : i ≤ length w.initials
-  pub short : first ≤ 163840 * i
-  pub nations : Writing (nation_words (nations_at w w.initials)) (rows_words first (nations_at w (drop i w.initials))) rows₀ (nation_width * n) rows
-  pub lives : Writing (entry_words (nations_at w w.initials)) (entry_words (nations_at w (drop i w.initials))) entries₀ (entry_width * first) entries
+-- Of the nations some are left: the others are written, n of them with so many entries, and behind them there is room for those that are left.
+pub record Placing (all left : List Nation) (n first : ℕ) (rows₀ rows entries₀ entries : List ℕ) : Type 0 where
+  pub nations : Writing (nation_words all) (rows_words first left) rows₀ (nation_width * n) rows
+  pub told : Writing (entry_words all) (entry_words left) entries₀ (entry_width * first) entries
+  pub counted : first + length (all_entries left) ≡ length (all_entries all)
 
-module _ (w : Cells) where
-  -- At first nothing is written.
-  pub listing_none : (rows entries : List ℕ) → NationsRoom (nations_at w w.initials) rows entries → Listing w rows entries 0 0 0 rows entries
-  unfolding nation_words
-  listing_none rows entries room =
-      record {
-        inside = omega arith;
-        short = omega arith;
-        nations = writing-none (rows_words 0 (nations_at w w.initials)) rows room.rows;
-        lives = writing-none (entry_words (nations_at w w.initials)) entries room.entries;
-      }
+-- At first nothing is written.
+pub placing-none : (all left : List Nation) (n : ℕ) (rows entries : List ℕ) → left ≡ all → n ≡ 0 → NationsRoom all rows entries → Placing all left n 0 rows rows entries entries
+unfolding nation_words
+placing-none all left n rows entries e z room =
+    rw (e, z)
+    (record {
+      nations = writing-none (rows_words 0 all) rows room.rows;
+      told = writing-none (entry_words all) entries room.entries;
+      counted = omega arith;
+    })
 
-  module _ (rows₀ entries₀ : List ℕ) (i n first : ℕ) (rows entries : List ℕ) (l : Listing w rows₀ entries₀ i n first rows entries) where
-    module _ (h : i < length w.initials) where
-      abbrev here : List Nation
-      here = key_nations w (get_or w.initials i 0)
+-- It is the same whichever name the nations left and their number have.
+pub placing-same : (all left left' : List Nation) (n n' first : ℕ) (rows₀ rows entries₀ entries : List ℕ) → left ≡ left' → n' ≡ n
+    → Placing all left n first rows₀ rows entries₀ entries → Placing all left' n' first rows₀ rows entries₀ entries
+placing-same all left left' n n' first rows₀ rows entries₀ entries e z p = rw z (subst (λ (l : List Nation). Placing all l n first rows₀ rows entries₀ entries) e p)
 
-      abbrev rest : List Nation
-      rest = nations_at w (drop (i + 1) w.initials)
+-- One nation more.
+module _ (all : List Nation) (x : Nation) (rest : List Nation) (n first : ℕ) (rows₀ rows entries₀ entries : List ℕ)
+    (p : Placing all (x ∷ rest) n first rows₀ rows entries₀ entries) where
+  -- The next nation finds room.
+  pub row-fits : nation_width * n + nation_width ≤ length rows
+  row-fits =
+      omega (
+        arith,
+        p.nations.fits,
+        p.nations.long,
+        ap length (row-next first x rest),
+        length-append (nation_row_words (row_of first x)) (rows_words (first + length x.entries) rest),
+      )
 
-      -- What is left begins with the nation of the key at i.
-      next : nations_at w (drop i w.initials) ≡ here ++ rest
-      next = key-nations-next w w.initials i h
+  -- So do its entries.
+  pub entries-fit : entry_width * first + entry_width * length x.entries ≤ length entries
+  entries-fit =
+      omega (
+        arith,
+        p.told.fits,
+        p.told.long,
+        ap length (entries_next x rest),
+        length-append (entries_words x.entries) (entry_words rest),
+        length-entries-words x.entries,
+      )
 
-      -- So do the words of the rows.
-      row_words : rows_words first (nations_at w (drop i w.initials)) ≡ rows_words first here ++ rows_words (first + length (all_entries here)) rest
-      row_words = ap (rows_words first) next ∙ words_append first here rest
+  -- The number of its first entry, and of each, is a word, if all are so few.
+  pub place-few : length (all_entries all) < word_span → first + length x.entries < word_span
+  place-few few =
+      omega (arith, few, p.counted, length-append x.entries (all_entries rest))
 
-      -- So do the words of the entries.
-      entry-words-next : entry_words (nations_at w (drop i w.initials)) ≡ entry_words here ++ entry_words rest
-      entry-words-next = ap entry_words next ∙ entries-append here rest
+  -- The tails that are lent have room.
+  abbrev rows-tail : List ℕ
+  rows-tail = take (length rows - nation_width * n) (drop (nation_width * n) rows)
 
-      -- The next nation finds room.
-      pub rows_fit : nation_width * n + length (rows_words first here) ≤ length rows
-      rows_fit =
-          omega (
-            arith,
-            l.nations.fits,
-            l.nations.long,
-            ap length row_words,
-            length-append (rows_words first here) (rows_words (first + length (all_entries here)) rest),
-          )
+  abbrev entries-tail : List ℕ
+  entries-tail = take (length entries - entry_width * first) (drop (entry_width * first) entries)
 
-      -- Its entries find room.
-      pub entries_fit : entry_width * first + length (entry_words here) ≤ length entries
-      entries_fit =
-          omega (arith, l.lives.fits, l.lives.long, ap length entry-words-next, length-append (entry_words here) (entry_words rest))
+  pub place-room : NationRoom x rows-tail entries-tail
+  place-room =
+      let row-long = length-take-le (length rows - nation_width * n) (drop (nation_width * n) rows) (omega (arith, length-drop (nation_width * n) rows)) in
+      let entry-long =
+      length-take-le (length entries - entry_width * first) (drop (entry_width * first) entries) (omega (arith, length-drop (entry_width * first) entries)) in
+      record { row = omega (arith, row-long, row-fits); entries = omega (arith, entry-long, entries-fit) }
 
-      -- The numbers stay in the slices.
-      pub nations-inside : (r : Listed) → r ≡ listed_of here → nation_width * (n + r.nations) ≤ length rows
-      nations-inside r e = rw e (omega (arith, rows_fit, length-rows-words first here))
+  -- It is written behind the others.
+  pub place-more : (count : ℕ) (rows' entries' : List ℕ) → NationPut x first count rows-tail rows' entries-tail entries' → (n' first' : ℕ) → n' ≡ n + 1 → first' ≡ first + count
+      → Placing all rest n' first' rows₀ (take (nation_width * n) rows ++ (rows' ++ drop (length rows - nation_width * n) (drop (nation_width * n) rows)))
+      entries₀ (take (entry_width * first) entries ++ (entries' ++ drop (length entries - entry_width * first) (drop (entry_width * first) entries)))
+  place-more count rows' entries' put n' first' a b =
+      let row : List ℕ = nation_row_words (row_of first x) in
+      let told : List ℕ = entries_words x.entries in
+      let nations-more : nation_width * (n + 1) ≡ nation_width * n + length row = omega arith in
+      let entries-more : entry_width * (first + length x.entries) ≡ entry_width * first + length told = omega (arith, length-entries-words x.entries) in
+      rw (a, b, put.told.counted)
+      (record {
+        nations =
+            rw nations-more
+            (writing_more _ _ (rows_words (first + length x.entries) rest) _ row rows _ (nation_width * n) (row-next first x rest) p.nations
+            (behind rows row rows' (nation_width * n) row-fits put.row));
+        told =
+            rw entries-more
+            (writing_more _ _ (entry_words rest) _ told entries _ (entry_width * first) (entries_next x rest) p.told
+            (behind entries told entries' (entry_width * first) (omega (arith, entries-fit, length-entries-words x.entries)) put.told.cells));
+        counted =
+            omega (arith, p.counted, length-append x.entries (all_entries rest));
+      })
 
-      pub entries-inside : (r : Listed) → r ≡ listed_of here → entry_width * (first + r.entries) ≤ length entries
-      entries-inside r e = rw e (omega (arith, entries_fit, length-entry_words here))
-
-      -- So the tails that are lent have room.
-      pub listing-room : NationsRoom here (take (length rows - nation_width * n) (drop (nation_width * n) rows)) (take (length entries - entry_width * first) (drop (entry_width * first) entries))
-      listing-room =
-          let row-tail = length-take-le (length rows - nation_width * n) (drop (nation_width * n) rows) (omega (arith, length-drop (nation_width * n) rows)) in
-          let entry-tail =
-          length-take-le (length entries - entry_width * first) (drop (entry_width * first) entries) (omega (arith, length-drop (entry_width * first) entries)) in
-          record {
-            rows = omega (arith, row-tail, rows_fit, length-rows-words first here, length-nation_words here);
-            entries = omega (arith, entry-tail, entries_fit);
-          }
-
-      -- It is written behind the others.
-      pub listing-more : Readable w → (r : Listed) → r ≡ listed_of here → (n' first' : ℕ) → n' ≡ n + r.nations → first' ≡ first + r.entries
-          → (rows' entries' : List ℕ) → Behind rows (rows_words first here) (nation_width * n) rows' → Behind entries (entry_words here) (entry_width * first) entries'
-          → Listing w rows₀ entries₀ (i + 1) n' first' rows' entries'
-      listing-more readable r e n' first' p q rows' entries' a b =
-          let nations-more : nation_width * (n + length here) ≡ nation_width * n + length (rows_words first here) = omega (arith, length-rows-words first here) in
-          let entries-more : entry_width * (first + length (all_entries here)) ≡ entry_width * first + length (entry_words here) = omega (arith, length-entry_words here) in
-          rw (p, q, e)
-          (record {
-            inside = omega arith;
-            short = omega (arith, l.short, key-short w readable (get_or w.initials i 0));
-            nations =
-                rw nations-more
-                (writing_more _ _ (rows_words (first + length (all_entries here)) rest) _ (rows_words first here) rows rows' (nation_width * n) row_words
-                l.nations a);
-            lives =
-                rw entries-more
-                (writing_more _ _ (entry_words rest) _ (entry_words here) entries entries' (entry_width * first) entry-words-next l.lives b);
-          })
-
-    -- All nations are written.
-    pub listing-done : length w.initials ≤ i → NationsWritten (nations_at w w.initials) rows₀ rows entries₀ entries
-    unfolding nation_rows_from entry_words
-    listing-done h =
-        let none : nations_at w (drop i w.initials) ≡ [] = nations-end w w.initials i h in
-        record {
-          rows = writing-done _ rows₀ rows (nation_width * n) (rw none at l.nations);
-          entries = writing-done _ entries₀ entries (entry_width * first) (rw none at l.lives);
-        }
+-- All are written.
+pub placing-done : (all left : List Nation) (n first : ℕ) (rows₀ rows entries₀ entries : List ℕ) → left ≡ [] → Placing all left n first rows₀ rows entries₀ entries
+    → NationsWritten all rows₀ rows entries₀ entries
+unfolding nation_rows_from entry_words
+placing-done all left n first rows₀ rows entries₀ entries none p =
+    record {
+      rows = writing-done _ rows₀ rows (nation_width * n) (rw none at p.nations);
+      entries = writing-done _ entries₀ entries (entry_width * first) (rw none at p.told);
+    }

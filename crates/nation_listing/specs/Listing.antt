@@ -1,28 +1,21 @@
 -- The listed nations in the order of the keys of initials, as they are read from cells. No call of 01 is promised by these: they are how the
 -- nations are computed.
-use Rattle.std.specs.Prelude.{◌≡◌, Option, Some, None, Bool, cond, ◌&&◌, ◌||◌, List, [], ◌∷◌, ℕ, suc, ◌+◌, ◌-◌, ◌*◌, ◌≤◌, ◌<◌, leb, ltb, eqb, length, get_or, take, drop}
-use Rattle.lists.specs.Lists.{All, join_of}
-use Rattle.sorting.specs.Sort.{sort_by}
-use Rattle.nation_listing.specs.declared.listing.Listed.{Listed}
-use Rattle.nation_listing.specs.declared.tables.NationTables.{NationTables}
+use Rattle.std.specs.Prelude as code
+use Rattle.std.specs.Prelude.{Some, None, Bool, false, cond, ◌&&◌, ◌||◌, List, [], ◌∷◌, ℕ, suc, ◌+◌, ◌-◌, ◌*◌, ltb, eqb, get_or, take, drop}
+use Rattle.std.proofs.Math.Option.{Option, none, some}
+use Rattle.lists.specs.Lists.{join_of}
 use Rattle.rules.specs.Chronicle.{Entry, Nation}
-use Rattle.rules.specs.Lent.{written}
-use Rattle.rules.specs.NationRows.{nation_row_words, nation_rows_from, nation_words, entry_words}
-use Rattle.nation_tables.specs.Layout.{key_rows, key_numbers, row_key_span, half, no_change}
+use Rattle.nation_tables.specs.Layout.{key_rows, no_change}
 use Rattle.nation_tables.specs.Keys.{word_in}
 use Rattle.nation_tables.specs.Lookup.{row_in, last_within}
 use Rattle.nation_tables.specs.Turning.{Lived}
-use Rattle.nation_listing.specs.Walks.{Walk, lived_left, first_lives, Chained}
 use Rattle.nation_tables.specs.Switches.{run_start}
-use Rattle.nation_tables.specs.Gathering.{Cells, cells_from}
-use Rattle.nation_listing.specs.Entries.{merged_entries, latest_tag}
-
--- ## What is read
-
--- The cells of the tables that are lent.
-abbrev pub cells_of : NationTables → Cells
-cells_of t =
-    cells_from t.tag_words.now t.initial_keys.now t.runs.now t.targets.now t.firsts.now t.started.now t.keys.now t.turns.now t.start
+use Rattle.nation_tables.specs.Gathering.{Cells}
+use Rattle.nation_listing.specs.declared.listing.ListedNation.{ListedNation}
+use Rattle.nation_listing.specs.declared.listing.ListedNations.{ListedNations}
+use Rattle.nation_listing.specs.Walks.{Walk, lived_left, first_lives}
+use Rattle.nation_listing.specs.Entries.{merged_entries, latest_tag, entries_left}
+use Rattle.nation_listing.specs.Reading.{cells_in}
 
 -- ## The nation of a key
 
@@ -42,10 +35,15 @@ run_of runs row = take (run_start (suc row) runs - run_start row runs) (drop (ru
 abbrev pub row_entries : Cells → ℕ → List Entry
 row_entries w row = merged_entries w.targets (run_of w.runs row) (lived_of w row).entries
 
+-- The row that is found is this one.
+abbrev pub is_row : Option ℕ → ℕ → Bool
+is_row none row = false
+is_row (some found) row = eqb found row
+
 -- Of a key of an initial: it is the last one with that initial, and the walk holds a slot now or gains one later.
 abbrev pub is_listed : List ℕ → ℕ → Walk → Bool
 is_listed initials key walk =
-    eqb (last_within (word_in key * key_rows) (word_in key * key_rows + key_rows) initials) (row_in key)
+    is_row (last_within (word_in key * key_rows) (word_in key * key_rows + key_rows) initials) (row_in key)
     && (ltb 0 walk.held || ltb walk.gain no_change)
 
 -- The nation of a key.
@@ -66,45 +64,17 @@ key_nations w key = cond (is_listed w.initials key (walk_of w (row_in key))) (na
 abbrev pub nations_at : Cells → List ℕ → List Nation
 nations_at w keys = join_of (key_nations w) keys
 
--- How many nations, and how many entries they have.
-abbrev pub listed_of : List Nation → Listed
-listed_of ns = record { nations = length ns; entries = length (join_of (λ n. n.entries) ns) }
+-- ## From key to key
 
--- Of one key: how many entries its nation has, if it is listed.
-abbrev pub one_listed : Option ℕ → Listed
-one_listed (Some n) = record { nations = 1; entries = n }
-one_listed None = record { nations = 0; entries = 0 }
+-- A listed nation.
+abbrev pub nation_in : ListedNation → Nation
+nation_in l = record { initial = l.initial; latest = l.latest; stored = l.stored; entries = entries_left l.entries }
 
--- ## What the reading asks of the cells
+-- It, if there is one.
+abbrev pub nation_listed : code.Option ListedNation → List Nation
+nation_listed (Some l) = nation_in l ∷ []
+nation_listed None = []
 
--- Chains that rise, keys in order, and rows that are countries'.
-pub record Readable (w : Cells) : Type 0 where
-  pub chained : Chained w.keys w.olds w.news
-  pub runs : sort_by leb w.runs ≡ w.runs
-  pub initials : sort_by leb w.initials ≡ w.initials
-  pub few : length w.initials ≤ key_rows
-  pub few_runs : length w.runs ≤ key_numbers
-  pub tag_rows : All (λ key. row_in key < length w.tags) w.initials
-  pub start_rows : All (λ key. row_in key < length w.started) w.initials
-  pub loss_rows : All (λ key. row_in key < length w.losses) w.initials
-  pub gain_rows : All (λ key. row_in key < length w.gains) w.initials
-  pub words : All (λ key. key < row_key_span) w.initials
-  pub started : All (λ n. n ≤ half) w.started
-
--- ## What the functions leave
-
--- Room for the rows of nations and of their entries.
-pub record NationsRoom (ns : List Nation) (rows₀ entries₀ : List ℕ) : Type 0 where
-  pub rows : length (nation_words ns) ≤ length rows₀
-  pub entries : length (entry_words ns) ≤ length entries₀
-
--- The rows of nations, the first of whose entries has a number, and of their entries, and how many they are.
-pub record NationsPut (ns : List Nation) (first : ℕ) (r : Listed) (rows₀ rows₁ entries₀ entries₁ : List ℕ) : Type 0 where
-  pub listed : r ≡ listed_of ns
-  pub rows : rows₁ ≡ written (join_of nation_row_words (nation_rows_from first ns)) rows₀
-  pub entries : entries₁ ≡ written (entry_words ns) entries₀
-
--- The rows of the nations, and of their entries.
-pub record NationsWritten (ns : List Nation) (rows₀ rows₁ entries₀ entries₁ : List ℕ) : Type 0 where
-  pub rows : rows₁ ≡ written (nation_words ns) rows₀
-  pub entries : entries₁ ≡ written (entry_words ns) entries₀
+-- The nations that the iterator has left.
+abbrev pub nations_left : ListedNations → List Nation
+nations_left it = nations_at (cells_in it.tables.now) it.keys.now

@@ -4,17 +4,17 @@ use Rattle.std.specs.Prelude.{◌≡◌, List, Option, Some, None, ◌∷◌, �
 use Rattle.chronicle_rows.specs.declared.rows.Entry as code
 use Rattle.chronicle_rows.specs.Cases.{entry_told}
 use Rattle.rules.specs.Chronicle.{Entry}
-use Rattle.nation_tables.specs.Turning.{high_halves, low_halves}
+use Rattle.nation_tables.specs.Turning.{losses, gains}
 use Rattle.nation_listing.specs.declared.lives.Lives.{Lives}
 use Rattle.nation_listing.specs.Walks.{Walk, lived_left, ahead}
 
 -- Where it stands.
 abbrev pub walk_in : Lives → Walk
-walk_in l = record { lose = l.lose; gain = l.gain; held = l.held }
+walk_in l = record { lose = l.next.loss; gain = l.next.gain; held = l.held }
 
 -- The entries that it has left.
 abbrev pub lives_left : Lives → List Entry
-lives_left l = (lived_left l.start l.keys.now (high_halves l.turns.now) (low_halves l.turns.now) (walk_in l)).entries
+lives_left l = (lived_left l.start l.keys.now (losses l.turns.now) (gains l.turns.now) (walk_in l)).entries
 
 -- An entry, if one was told, before others.
 abbrev pub told_before : Option code.Entry → List Entry → List Entry

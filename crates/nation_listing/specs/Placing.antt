@@ -1,13 +1,52 @@
 -- The nations placed in two lent slices: by what they are counted and written, or left. No call of 01 is promised by these: they are how the nations
 -- are computed.
 use Rattle.std.specs.Prelude as code
-use Rattle.std.specs.Prelude.{Ok, Err, ◌≡◌, Bool, true, false, ◌&&◌, List, ℕ, ◌*◌, leb, length}
+use Rattle.std.specs.Prelude.{Ok, Err, ◌≡◌, Bool, true, false, ◌&&◌, List, ℕ, ◌*◌, ◌≤◌, leb, length}
+use Rattle.lists.specs.Lists.{join_of}
 use Rattle.format.specs.declared.refused.Refusal.{Refusal}
 use Rattle.format.specs.declared.refused.Refusal.TheVariants.{NoRoom, NotShaped}
-use Rattle.rules.specs.Chronicle.{Nation}
-use Rattle.rules.specs.NationRows.{nation_width, entry_width}
-use Rattle.nation_listing.specs.declared.listing.Listed.{Listed}
-use Rattle.nation_listing.specs.Listing.{listed_of, NationsWritten}
+use Rattle.rules.specs.Chronicle.{Entry, Nation}
+use Rattle.rules.specs.Lent.{written}
+use Rattle.rules.specs.NationRows.{nation_width, entry_width, NationRow, nation_row_words, nation_words, entry_words}
+use Rattle.nation_listing.specs.declared.placing.Listed.{Listed}
+use Rattle.nation_listing.specs.Entries.{entries_words}
+
+-- ## Rows
+
+-- What the walk over a country's entries leaves in a slice: their rows, and how many they are.
+pub record EntriesWritten (entries : List Entry) (count : ℕ) (before after : List ℕ) : Type 0 where
+  pub counted : count ≡ length entries
+  pub cells : after ≡ written (entries_words entries) before
+
+-- The row of a nation whose entries begin at a number.
+abbrev pub row_of : ℕ → Nation → NationRow
+row_of first n = record { initial = n.initial; latest = n.latest; stored = n.stored; first = first; count = length n.entries }
+
+-- Room for the row of a nation and for those of its entries.
+pub record NationRoom (n : Nation) (rows₀ entries₀ : List ℕ) : Type 0 where
+  pub row : nation_width ≤ length rows₀
+  pub entries : entry_width * length n.entries ≤ length entries₀
+
+-- They are written.
+pub record NationPut (n : Nation) (first count : ℕ) (rows₀ rows₁ entries₀ entries₁ : List ℕ) : Type 0 where
+  pub row : rows₁ ≡ written (nation_row_words (row_of first n)) rows₀
+  pub told : EntriesWritten n.entries count entries₀ entries₁
+
+-- Room for the rows of nations and of their entries.
+pub record NationsRoom (ns : List Nation) (rows₀ entries₀ : List ℕ) : Type 0 where
+  pub rows : length (nation_words ns) ≤ length rows₀
+  pub entries : length (entry_words ns) ≤ length entries₀
+
+-- They are written.
+pub record NationsWritten (ns : List Nation) (rows₀ rows₁ entries₀ entries₁ : List ℕ) : Type 0 where
+  pub rows : rows₁ ≡ written (nation_words ns) rows₀
+  pub entries : entries₁ ≡ written (entry_words ns) entries₀
+
+-- How many nations, and how many entries they have.
+abbrev pub listed_of : List Nation → Listed
+listed_of ns = record { nations = length ns; entries = length (join_of (λ n. n.entries) ns) }
+
+-- ## Placed or left
 
 -- Slices of these lengths have room for so many nations and entries.
 abbrev pub nations_for : Listed → ℕ → ℕ → Bool

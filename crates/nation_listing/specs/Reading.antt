@@ -1,9 +1,12 @@
 -- Whether tables can be read, as a test: no call of 01 is promised by it, and no table of a record fails it.
-use Rattle.std.specs.Prelude.{Bool, true, ◌&&◌, List, [], ◌∷◌, ℕ, suc, ◌/◌, ◌%◌, min, leb, ltb, eqb, length}
+use Rattle.std.specs.Prelude.{Bool, true, ◌&&◌, List, [], ◌∷◌, ℕ, suc, min, leb, ltb, eqb, length}
 use Rattle.lists.specs.Lists.{all_of}
 use Rattle.nation_listing.specs.declared.tables.NationTables.{NationTables}
-use Rattle.nation_tables.specs.Layout.{key_rows, key_numbers, row_key_span, half, no_change}
+use Rattle.nation_listing.specs.declared.tables.ReadableTables.{ReadableTables}
+use Rattle.nation_tables.specs.Layout.{key_rows, key_numbers, row_key_span, short_span, no_change}
+use Rattle.nation_tables.specs.declared.layout.Turn.{Turn}
 use Rattle.nation_tables.specs.Lookup.{row_in}
+use Rattle.nation_tables.specs.Gathering.{Cells, cells_from}
 
 -- So many initials, switches and changes are few enough, and there are as many links as changes.
 abbrev pub counts_fit : ℕ → ℕ → ℕ → ℕ → Bool
@@ -15,20 +18,20 @@ leads_inside rows key = ltb (row_in key) rows && ltb key row_key_span
 
 -- So few slots that a walk can count them.
 abbrev pub few_slots : ℕ → Bool
-few_slots n = leb n half
+few_slots n = leb n short_span
 
 -- No key is below the one before it, the first not below `last`.
 abbrev pub keys_rise : ℕ → List ℕ → Bool
 keys_rise last [] = true
 keys_rise last (key ∷ keys) = leb last key && keys_rise key keys
 
--- Each cell, numbered from k on, leads twice to a later number.
-abbrev pub links_rise : ℕ → List ℕ → Bool
+-- Each change, numbered from k on, leads twice to a later number.
+abbrev pub links_rise : ℕ → List Turn → Bool
 links_rise k [] = true
-links_rise k (x ∷ xs) = (ltb k (x / half) && ltb k (x % half)) && links_rise (suc k) xs
+links_rise k (x ∷ xs) = (ltb k x.loss && ltb k x.gain) && links_rise (suc k) xs
 
 -- Tables can be read, three of them by their length.
-abbrev pub readable_by : ℕ → List ℕ → List ℕ → ℕ → List ℕ → ℕ → List ℕ → Bool
+abbrev pub readable_by : ℕ → List ℕ → List ℕ → ℕ → List ℕ → ℕ → List Turn → Bool
 readable_by words initials runs firsts started keys turns =
     counts_fit (length initials) (length runs) keys (length turns)
     && (all_of (leads_inside (min words (min firsts (length started)))) initials
@@ -38,8 +41,13 @@ readable_by words initials runs firsts started keys turns =
     && links_rise 0 turns)
 
 -- Tables can be read.
-abbrev pub is_readable : List ℕ → List ℕ → List ℕ → List ℕ → List ℕ → List ℕ → List ℕ → Bool
+abbrev pub is_readable : List ℕ → List ℕ → List ℕ → List Turn → List ℕ → List ℕ → List Turn → Bool
 is_readable words initials runs firsts started keys turns = readable_by (length words) initials runs (length firsts) started (length keys) turns
 
 abbrev pub readable_of : NationTables → Bool
 readable_of t = is_readable t.tag_words.now t.initial_keys.now t.runs.now t.firsts.now t.started.now t.keys.now t.turns.now
+
+-- The cells of tables that can be read.
+abbrev pub cells_in : ReadableTables → Cells
+cells_in t =
+    cells_from t.tag_words.now t.initial_keys.keys.now t.runs.keys.now t.targets.now t.firsts.now t.started.now t.keys.now t.turns.now t.start

@@ -3,7 +3,7 @@ use Rattle.std.specs.Prelude.{◌≡◌, Bool, cond, List, [], ◌∷◌, ℕ, s
 use Rattle.format.specs.declared.date.Eu4Date.{Eu4Date}
 use Rattle.rules.specs.Chronicle.{Kind, appeared, annexed, Entry}
 use Rattle.rules.specs.Nations.{turn_entries, turn_count}
-use Rattle.nation_tables.specs.Layout.{half, no_change}
+use Rattle.nation_tables.specs.Layout.{short_span, no_change}
 use Rattle.nation_tables.specs.Turning.{key_date, Lived, before}
 
 -- A walk over a country's two chains: the next change at which it loses a slot, the next at which it gains one, and the slots that it holds.
@@ -49,7 +49,7 @@ pub record Chained (keys olds news : List ℕ) : Type 0 where
 
 -- How many links it may still follow.
 abbrev pub ahead : Walk → ℕ
-ahead c = (half - c.lose) + (half - c.gain)
+ahead c = (short_span - c.lose) + (short_span - c.gain)
 
 -- The walk of a row from the first change of each of its chains.
 abbrev pub first_lives : List ℕ → List ℕ → ℕ → ℕ → Walk

@@ -1,9 +1,8 @@
 // The entries of one country: its switches by date, merged with its Annexed and Appeared.
-ghost use Rattle.std.specs.Prelude.{◌≡◌, ◌++◌, ◌≤◌, length, drop};
-ghost use Rattle.rules.specs.NationRows.{entry_width, kind_word, target_word, entry_row, entry_row_words};
-ghost use Rattle.chronicle_rows.specs.Cases.{kind_told, entry_told};
+ghost use Rattle.std.specs.Prelude.{◌≡◌, length};
+ghost use Rattle.chronicle_rows.specs.Cases.{entry_told};
 ghost use Rattle.nation_tables.specs.Switches.{date_in, target_in};
-ghost use Rattle.nation_listing.specs.Entries.{latest_tag, switch_first};
+ghost use Rattle.nation_listing.specs.Entries.{latest_tag};
 
 use crate::lives::Lives;
 use chronicle_rows::{Entry, Kind};
@@ -29,55 +28,9 @@ fn switch_target(targets: &[u64], key: u64) -> CountryTag
 pub(crate) fn latest(run: &[u64], targets: &[u64], initial: CountryTag) -> CountryTag
     ensures { result ≡ latest_tag targets.now run.now initial }
 {
-    let n = run.len();
-    if n == 0 {
-        return initial;
-    }
-    switch_target(targets, run[n - 1])
-}
-
-// The word of an entry row that tells its kind: rows are words, so it is a number.
-fn kind_word(kind: Kind) -> u32
-    ensures { result ≡ kind_word (kind_told kind) }
-{
-    match kind {
-        Kind::Switch(_) => 0,
-        Kind::Appeared => 1,
-        Kind::Annexed => 2,
-    }
-}
-
-// The word of an entry row for the target, 0 where there is none.
-fn target_word(kind: Kind) -> u32
-    ensures { result ≡ target_word (kind_told kind) }
-{
-    match kind {
-        Kind::Switch(target) => u32::from(target),
-        Kind::Appeared => 0,
-        Kind::Annexed => 0,
-    }
-}
-
-// Writes an entry row: date, kind, target.
-pub(crate) fn put_entry(entry: Entry, out: &mut [u32])
-    requires { entry_width ≤ length out.old }
-    ensures { out.new ≡ entry_row_words (entry_row (entry_told entry)) ++ drop entry_width out.old }
-{
-    out[0] = u32::from(entry.date);
-    out[1] = kind_word(entry.kind);
-    out[2] = target_word(entry.kind);
-}
-
-// Whether a switch is the next entry: on one day switches come before the others.
-fn switch_first(run: &[u64], life: Option<Entry>) -> bool
-    ensures { result ≡ switch_first run.now life }
-{
-    if run.is_empty() {
-        return false;
-    }
-    match life {
-        Some(life) => switch_date(run[0]) <= life.date,
-        None => true,
+    match run.last() {
+        Some(key) => switch_target(targets, *key),
+        None => initial,
     }
 }
 
@@ -107,6 +60,16 @@ impl<'a> Entries<'a> {
             lives,
         }
     }
+
+    // How many entries are left.
+    pub(crate) fn len(self) -> usize
+        ensures { result ≡ length (entries_left self.entry) }
+    {
+        match self.life {
+            Some(_) => self.run.len() + 1 + self.lives.count(),
+            None => self.run.len(),
+        }
+    }
 }
 
 impl Iterator for Entries<'_> {
@@ -119,14 +82,17 @@ impl Iterator for Entries<'_> {
 
     ghost remaining = { item_count entries_left };
 
+    // The next switch, or the next of the lives. On one day switches come before the others.
     fn next(&mut self) -> Option<Entry> {
-        if switch_first(self.run, self.life) {
-            let key = self.run[0];
-            self.run = &self.run[1..];
-            return Some(Entry {
-                date: switch_date(key),
-                kind: Kind::Switch(switch_target(self.targets, key)),
-            });
+        if let Some((key, rest)) = self.run.split_first() {
+            let date = switch_date(*key);
+            if self.life.is_none_or(|life| date <= life.date) {
+                self.run = rest;
+                return Some(Entry {
+                    date,
+                    kind: Kind::Switch(switch_target(self.targets, *key)),
+                });
+            }
         }
         let life = self.life?;
         self.life = self.lives.next();

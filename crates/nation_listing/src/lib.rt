@@ -8,6 +8,5 @@ mod placing;
 mod reading;
 mod tables;
 
-pub use listing::Listed;
-pub use placing::place_nations;
+pub use placing::{Listed, place_nations};
 pub use tables::NationTables;

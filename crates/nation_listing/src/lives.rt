@@ -1,43 +1,26 @@
 // The Annexed and Appeared of one country, told one by one along its two chains of changes.
 ghost use Rattle.std.specs.Prelude.{◌≡◌, true, ◌||◌, ◌+◌, ◌≤◌, ◌<◌, ltb, length, get_or};
-ghost use Rattle.nation_tables.specs.Layout.{half, no_change};
-ghost use Rattle.nation_tables.specs.Turning.{high_halves, low_halves, key_date};
+ghost use Rattle.nation_tables.specs.Layout.{short_span, no_change};
+ghost use Rattle.nation_tables.specs.Turning.{losses, gains, key_date};
 ghost use Rattle.nation_listing.specs.Walks.{Chained};
 
-use crate::tables::NationTables;
+use crate::tables::ReadableTables;
 use change_keys::PER_DATE;
 use chronicle_rows::{Entry, Kind};
-use nation_tables::{HALF, NO_CHANGE};
+use nation_tables::{NO_CHANGE, Turn};
 use record::Eu4Date;
 
-// An iterator over a country's lives: keys and links of the changes, the next change at which it loses a slot, the next at which it gains
-// one, and the slots that it holds now.
+// An iterator over a country's lives: keys and links of the changes, the next changes at which it loses and gains a slot, and the slots that
+// it holds now.
 #[derive(Clone, Copy)]
 pub(crate) struct Lives<'a> {
     keys: &'a [u64],
-    turns: &'a [u32],
+    turns: &'a [Turn],
     start: Eu4Date,
-    lose: usize,
-    gain: usize,
+    next: Turn,
     held: u32,
-    ghost chained: { Chained keys.now (high_halves turns.now) (low_halves turns.now) },
-    ghost light: { held ≤ gain + half },
-}
-
-// The next loss in cell k, by the number of its change: the upper half. Two halves of a cell: both fit 32 bits, and a link is read at each change.
-fn loss_at(cells: &[u32], k: usize) -> usize
-    requires { k < length cells.now }
-    ensures { result ≡ get_or (high_halves cells.now) k 0 }
-{
-    (cells[k] / HALF) as usize
-}
-
-// The next gain: the lower half.
-fn gain_at(cells: &[u32], k: usize) -> usize
-    requires { k < length cells.now }
-    ensures { result ≡ get_or (low_halves cells.now) k 0 }
-{
-    (cells[k] % HALF) as usize
+    ghost chained: { Chained keys.now (losses turns.now) (gains turns.now) },
+    ghost light: { held ≤ next.gain + short_span },
 }
 
 // The date of change k. It is not tested again: the key was made of a date.
@@ -49,48 +32,47 @@ fn change_date(keys: &[u64], k: usize) -> Eu4Date
 }
 
 impl<'a> Lives<'a> {
-    ghost use Rattle.nation_listing.specs.Listing.{cells_of, walk_of, lived_of, Readable};
+    ghost use Rattle.nation_listing.specs.Reading.{cells_in};
+    ghost use Rattle.nation_listing.specs.Listing.{walk_of, lived_of};
     ghost use Rattle.nation_listing.specs.Lives.{walk_in, lives_left, Steps};
 
     // The lives of a row's country, from the first change of each of its two chains.
-    pub(crate) fn of(tables: &NationTables<'a>, row: usize) -> Lives<'a>
-        requires readable { Readable (cells_of tables.now) }
-        requires row_in_bounds { (row < length tables.now.firsts.now) × (row < length tables.now.started.now) }
-        ensures walk { walk_in result ≡ walk_of (cells_of tables.now) row }
-        ensures lives { lives_left result ≡ (lived_of (cells_of tables.now) row).entries }
+    pub(crate) fn of(tables: &ReadableTables<'a>, row: usize) -> Lives<'a>
+        requires { (row < length tables.now.firsts.now) × (row < length tables.now.started.now) }
+        ensures walk { walk_in result ≡ walk_of (cells_in tables.now) row }
+        ensures lives { lives_left result ≡ (lived_of (cells_in tables.now) row).entries }
     {
         Lives {
             keys: tables.keys,
             turns: tables.turns,
             start: tables.start,
-            lose: loss_at(tables.firsts, row),
-            gain: gain_at(tables.firsts, row),
+            next: tables.firsts[row],
             held: tables.started[row],
         }
     }
 
-    // Whether the country holds a slot now or gains one later. The end of a chain is the number NO_CHANGE, as it stands in a cell.
+    // Whether the country holds a slot now or gains one later.
     pub(crate) fn holds_ever(&self) -> bool
-        ensures { result ≡ (ltb 0 self.now.held || ltb self.now.gain no_change) }
+        ensures { result ≡ (ltb 0 self.now.held || ltb self.now.next.gain no_change) }
     {
-        (0 < self.held) | (self.gain < NO_CHANGE as usize)
+        (0 < self.held) | (self.next.gain < NO_CHANGE)
     }
 
     // Whether a change of the country is still to come.
     fn more(&self) -> bool
-        ensures { result ≡ (ltb self.now.lose (length self.now.keys.now) || ltb self.now.gain (length self.now.keys.now)) }
+        ensures { result ≡ (ltb self.now.next.loss (length self.now.keys.now) || ltb self.now.next.gain (length self.now.keys.now)) }
     {
         let n = self.keys.len();
-        (self.lose < n) | (self.gain < n)
+        (usize::from(self.next.loss) < n) | (usize::from(self.next.gain) < n)
     }
 
     // The country loses a slot; at 0 it is annexed.
     fn lose_slot(&mut self) -> Option<Entry>
-        requires { (self.old.lose < length self.old.keys.now) × (self.old.lose ≤ self.old.gain) }
+        requires { (self.old.next.loss < length self.old.keys.now) × (self.old.next.loss ≤ self.old.next.gain) }
         ensures { Steps self.old result self.new }
     {
-        let k = self.lose;
-        self.lose = loss_at(self.turns, k);
+        let k = usize::from(self.next.loss);
+        self.next.loss = self.turns[k].loss;
         self.held = self.held.saturating_sub(1);
         if 0 < self.held {
             return None;
@@ -103,12 +85,13 @@ impl<'a> Lives<'a> {
 
     // The country gains a slot. It appears where it had none before, on a day behind the start.
     fn gain_slot(&mut self) -> Option<Entry>
-        requires { (self.old.gain < length self.old.keys.now) × (self.old.gain < self.old.lose) }
+        requires { (self.old.next.gain < length self.old.keys.now) × (self.old.next.gain < self.old.next.loss) }
         ensures { Steps self.old result self.new }
     {
-        let date = change_date(self.keys, self.gain);
+        let k = usize::from(self.next.gain);
+        let date = change_date(self.keys, k);
         let appears = (self.held == 0) & (self.start < date);
-        self.gain = gain_at(self.turns, self.gain);
+        self.next.gain = self.turns[k].gain;
         self.held += 1;
         if appears {
             return Some(Entry {
@@ -121,10 +104,10 @@ impl<'a> Lives<'a> {
 
     // The next change of the country. At one that takes a slot and gives one the loss comes first.
     fn turn(&mut self) -> Option<Entry>
-        requires { (ltb self.old.lose (length self.old.keys.now) || ltb self.old.gain (length self.old.keys.now)) ≡ true }
+        requires { (ltb self.old.next.loss (length self.old.keys.now) || ltb self.old.next.gain (length self.old.keys.now)) ≡ true }
         ensures { Steps self.old result self.new }
     {
-        if self.lose <= self.gain {
+        if self.next.loss <= self.next.gain {
             return self.lose_slot();
         }
         self.gain_slot()

@@ -1,21 +1,102 @@
 // The rows of the listed nations and of their entries, written once there is room for every one of them.
-ghost use Rattle.std.specs.Prelude.{◌≡◌, ◌<◌};
+ghost use Rattle.std.specs.Prelude.{◌≡◌, ◌+◌, ◌*◌, ◌≤◌, ◌<◌, length};
+ghost use Rattle.rules.specs.NationRows.{entry_width};
 ghost use Rattle.nation_tables.specs.Layout.{word_span};
-ghost use Rattle.nation_listing.specs.Listing.{cells_of, nations_at};
+ghost use Rattle.nation_listing.specs.Tables.{cells_of};
+ghost use Rattle.nation_listing.specs.Entries.{entries_left};
 ghost use Rattle.nation_listing.specs.Reading.{readable_of};
-ghost use Rattle.nation_listing.specs.Placing.{nations_for, placed_told};
+ghost use Rattle.nation_listing.specs.Listing.{nation_in, nations_at};
+ghost use Rattle.nation_listing.specs.Placing.{EntriesWritten, NationRoom, NationPut, nations_for, placed_told};
 
-use crate::listing::Listed;
-use crate::tables::NationTables;
-use chronicle_rows::{ENTRY_WIDTH, NATION_WIDTH};
+use crate::entries::Entries;
+use crate::listing::ListedNation;
+use crate::tables::{NationTables, ReadableTables};
+use chronicle_rows::{ENTRY_WIDTH, NATION_WIDTH, Nation, put};
 use record::Refusal;
 
-// Whether slices of these lengths have room for so many nations and entries.
+// How many nations are listed, and how many entries they have.
+#[derive(Clone, Copy, Debug, PartialEq, Eq)]
+pub struct Listed {
+    pub nations: usize,
+    pub entries: usize,
+}
+
+// Writes the rows of entries, one behind the other, and returns how many there are: so they are counted by hand.
+fn write_entries(entries: Entries, out: &mut [u32]) -> usize
+    requires { entry_width * length (entries_left entries) ≤ length out.old }
+    ensures { EntriesWritten (entries_left entries.entry) result out.old out.new }
+{
+    let mut k = 0;
+    for entry in entries {
+        put(
+            <[u32; ENTRY_WIDTH]>::from(entry),
+            &mut out[ENTRY_WIDTH * k..],
+        );
+        k += 1;
+    }
+    k
+}
+
+// Writes the row of a nation, in which `first` is the number of its first entry, and the rows of its entries. Returns how many entries it has.
+fn write_nation(
+    nation: ListedNation,
+    first: usize,
+    nations: &mut [u32],
+    entries: &mut [u32],
+) -> usize
+    requires few { first + length (entries_left nation.entries) < word_span }
+    requires room { NationRoom (nation_in nation) nations.old entries.old }
+    ensures { NationPut (nation_in nation.entry) first result nations.old nations.new entries.old entries.new }
+{
+    let count = write_entries(nation.entries, entries);
+    let row = Nation {
+        initial: nation.initial,
+        latest: nation.latest,
+        stored: nation.stored,
+        first: first as u32,
+        count: count as u32,
+    };
+    put(<[u32; NATION_WIDTH]>::from(row), nations);
+    count
+}
+
+impl ReadableTables<'_> {
+    ghost use Rattle.nation_listing.specs.Reading.{cells_in};
+    ghost use Rattle.nation_listing.specs.Placing.{listed_of, NationsRoom, NationsWritten};
+
+    // Counts the listed nations and their entries, both by hand: `count` would tell the first alone.
+    fn count_nations(&self) -> Listed
+        ensures { result ≡ listed_of (nations_at (cells_in self.now) self.now.initial_keys.keys.now) }
+    {
+        let mut nations = 0;
+        let mut entries = 0;
+        for nation in self.nations() {
+            nations += 1;
+            entries += nation.entries.len();
+        }
+        Listed { nations, entries }
+    }
+
+    // Writes the rows of the listed nations, and of each nation's entries behind those of the nations before it.
+    fn write_nations(&self, nations: &mut [u32], entries: &mut [u32])
+        requires { NationsRoom (nations_at (cells_in self.now) self.now.initial_keys.keys.now) nations.old entries.old }
+        ensures { NationsWritten (nations_at (cells_in self.now) self.now.initial_keys.keys.now) nations.old nations.new entries.old entries.new }
+    {
+        let mut first = 0;
+        for (n, nation) in self.nations().enumerate() {
+            let at = NATION_WIDTH * n;
+            let behind = ENTRY_WIDTH * first;
+            let count = write_nation(nation, first, &mut nations[at..], &mut entries[behind..]);
+            first += count;
+        }
+    }
+}
+
+// Whether slices of these lengths have room for so many nations and entries. By division: of any numbers the products may not fit.
 fn nations_fit(listed: Listed, nations: usize, entries: usize) -> bool
-    requires { (listed.nations < word_span) × (listed.entries < word_span) }
     ensures { result ≡ nations_for listed nations entries }
 {
-    (NATION_WIDTH * listed.nations <= nations) & (ENTRY_WIDTH * listed.entries <= entries)
+    (listed.nations <= nations / NATION_WIDTH) & (listed.entries <= entries / ENTRY_WIDTH)
 }
 
 // Writes the rows of the nations that the tables tell, and of their entries. Tables that cannot be read are refused by `NotShaped`, either slice
@@ -27,9 +108,9 @@ pub fn place_nations(
 ) -> Result<Listed, Refusal>
     ensures { placed_told (readable_of tables.now) (nations_at (cells_of tables.now) tables.now.initial_keys.now) result nations.old nations.new entries.old entries.new }
 {
-    if !tables.is_readable() {
+    let Some(tables) = tables.readable() else {
         return Err(Refusal::NotShaped);
-    }
+    };
     let listed = tables.count_nations();
     if !nations_fit(listed, nations.len(), entries.len()) {
         return Err(Refusal::NoRoom);

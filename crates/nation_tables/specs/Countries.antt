@@ -10,10 +10,10 @@ use Rattle.format.specs.declared.tag.CountryTag.{CountryTag}
 use Rattle.format.specs.declared.rows.Switch.{Switch}
 use Rattle.format.specs.Campaign.{Country}
 use Rattle.rules.specs.Lent.{written}
-use Rattle.rules.specs.Nations.{initial_of, maps_to}
+use Rattle.rules.specs.Nations.{initial_of}
 pub use Rattle.nation_tables.specs.Keys.{settling_key}
 use Rattle.nation_tables.specs.Keys.{row_key}
-use Rattle.nation_tables.specs.Layout.{key_rows, key_dates, key_tags, last_date, no_row}
+use Rattle.nation_tables.specs.Layout.{key_rows, key_dates, key_tags, last_date, no_row, row_number}
 use Rattle.nation_tables.specs.Lookup.{last_within}
 
 -- ## Rows
@@ -54,8 +54,12 @@ abbrev pub row_keys : List ℕ → List ℕ
 row_keys ws = sort_by leb (word_keys 0 ws)
 
 -- The row that the keys of initials have for a tag: the last one with it.
-abbrev pub initial_row : List ℕ → CountryTag → ℕ
+abbrev pub initial_row : List ℕ → CountryTag → Option ℕ
 initial_row keys t = last_within (t.0 * key_rows) (t.0 * key_rows + key_rows) keys
+
+-- As it stands in a cell.
+abbrev pub initial_number : List ℕ → CountryTag → ℕ
+initial_number keys t = row_number (initial_row keys t)
 
 -- The key of a switch of the country in a row, by the tag that was left.
 abbrev pub switch_key : ℕ → Switch → ℕ
@@ -118,12 +122,6 @@ pub record Tabled (ks : List Country) (count : ℕ) (tags₀ tags₁ initials₀
   pub counted : count ≡ length ks
   pub tags : tags₁ ≡ written (words_of_tags ks) tags₀
   pub initials : initials₁ ≡ written (initial_words ks) initials₀
-
--- The row of the country that an initial maps to, by keys: of any countries whose initials the keys are.
-pub record RowMapped (keys : List ℕ) (t : CountryTag) (row : ℕ) : Type 0 where
-  pub key : row ≡ initial_row keys t
-  pub holder : (ks : List Country) → length ks ≤ key_rows → keys ≡ row_keys (initial_words ks) → maps_to ks t ≡ tag_at_row ks row
-  pub inside : (ks : List Country) → length ks ≤ key_rows → keys ≡ row_keys (initial_words ks) → (row ≡ no_row → ⊥) → row < length ks
 
 -- So many cells in the front of a slice.
 pub record Filled (cells : List ℕ) (count : ℕ) (before after : List ℕ) : Type 0 where

@@ -19,9 +19,10 @@ use Rattle.change_keys.specs.ChangeSteps.{entered, most_changes, change_keys_fro
 use Rattle.nation_tables.specs.declared.gathering.Sizes.{Sizes}
 use Rattle.nation_tables.specs.declared.gathering.TableSizes.{TableSizes}
 use Rattle.nation_tables.specs.declared.gathering.TablesGathered.{TablesGathered}
-use Rattle.nation_tables.specs.Layout.{most_countries, most_switches, most_settling, most_slots, rows_within}
+use Rattle.nation_tables.specs.Layout.{most_switches, most_settling, most_slots, rows_within}
 use Rattle.nation_tables.specs.Countries.{words_of_tags, initial_words, row_keys, switch_keys_from, settling_keys_from, settling_keys, Keyed}
-use Rattle.nation_tables.specs.Turning.{high_halves, low_halves, Linked, TurnsLinked, Rowed, row_turns_of}
+use Rattle.nation_tables.specs.declared.layout.Turn.{Turn}
+use Rattle.nation_tables.specs.Turning.{losses, gains, Linked, TurnsLinked, Rowed, row_turns_of}
 use Rattle.nation_tables.specs.Holders.{started_of, slot_cells}
 use Rattle.nation_tables.specs.Switches.{run_keys, target_words}
 
@@ -29,7 +30,6 @@ use Rattle.nation_tables.specs.Switches.{run_keys, target_words}
 
 -- Room for a cell of each country, and for the keys that changes settle by.
 pub record TablesRoom (ks : List Country) (words₀ initials₀ switches₀ : List ℕ) : Type 0 where
-  pub few : length ks ≤ most_countries
   pub words : length ks ≤ length words₀
   pub initials : length ks ≤ length initials₀
   pub switches : length (settling_keys_from 0 ks) ≤ length switches₀
@@ -42,14 +42,13 @@ pub record TablesFilled (ks : List Country) (r : Sizes) (words₁ initials₁ sw
   pub initials : take r.countries initials₁ ≡ row_keys (initial_words ks)
   pub switches : take r.settling switches₁ ≡ settling_keys ks
 
--- The switches have room in their keys, and in two slices.
-pub record FewSwitches (ks : List Country) (runs₀ targets₀ : List ℕ) : Type 0 where
-  pub few : length (switch_keys_from 0 ks) ≤ most_switches
+-- Room for the key of each switch, and for its target.
+pub record SwitchesRoom (ks : List Country) (runs₀ targets₀ : List ℕ) : Type 0 where
   pub runs : length (switch_keys_from 0 ks) ≤ length runs₀
   pub targets : length (switch_keys_from 0 ks) ≤ length targets₀
 
 -- Chains of losses and gains, and the keys and targets of switches at the front of their cells.
-pub record Arranged (ks : List Country) (turns₀ turns₁ firsts₁ runs₁ targets₁ : List ℕ) : Type 0 where
+pub record Arranged (ks : List Country) (turns₀ turns₁ firsts₁ : List Turn) (runs₁ targets₁ : List ℕ) : Type 0 where
   pub linked : TurnsLinked turns₀ turns₁ firsts₁
   pub runs : take (length (switch_keys_from 0 ks)) runs₁ ≡ run_keys ks
   pub targets : take (length (switch_keys_from 0 ks)) targets₁ ≡ target_words ks
@@ -71,25 +70,25 @@ pub record Cells : Type 0 where
   pub news : List ℕ
   pub start : Eu4Date
 
--- The cells as they are lent: the first losses and gains share cells, and so do the links of changes.
-abbrev pub cells_from : List ℕ → List ℕ → List ℕ → List ℕ → List ℕ → List ℕ → List ℕ → List ℕ → Eu4Date → Cells
+-- The cells as they are lent: the first losses and gains stand together, and so do the links of changes.
+abbrev pub cells_from : List ℕ → List ℕ → List ℕ → List ℕ → List Turn → List ℕ → List ℕ → List Turn → Eu4Date → Cells
 cells_from tags initials runs targets firsts started keys turns start =
     record {
       tags = tags;
       initials = initials;
       runs = runs;
       targets = targets;
-      losses = high_halves firsts;
-      gains = low_halves firsts;
+      losses = losses firsts;
+      gains = gains firsts;
       started = started;
       keys = keys;
-      olds = high_halves turns;
-      news = low_halves turns;
+      olds = losses turns;
+      news = gains turns;
       start = start;
     }
 
 -- So many cells from the front of each table.
-abbrev pub fronts_of : TableSizes → List ℕ → List ℕ → List ℕ → List ℕ → List ℕ → List ℕ → List ℕ → List ℕ → Cells
+abbrev pub fronts_of : TableSizes → List ℕ → List ℕ → List ℕ → List ℕ → List Turn → List ℕ → List ℕ → List Turn → Cells
 fronts_of z words initials runs targets firsts started keys turns =
     cells_from (take z.countries words) (take z.countries initials) (take z.switches runs) (take z.switches targets) firsts
     (take z.countries started) (take z.changes keys) (take z.changes turns) z.start
@@ -124,38 +123,22 @@ pub record Begun (xs : List ℕ) (from : Record) : Type 0 where
   pub countries : countries_left from.countries ≡ (campaign_of xs).countries
   pub start : from.start ≡ (campaign_of xs).start
 
--- Room for the tables of any record of so many bytes.
-pub record TableRoom (bytes : ℕ) (words₀ initials₀ switches₀ keys₀ cells₀ slots₀ started₀ turns₀ firsts₀ : List ℕ) : Type 0 where
-  pub words : most_countries ≤ length words₀
-  pub initials : most_countries ≤ length initials₀
-  pub switches : rows_within most_settling bytes ≤ length switches₀
-  pub keys : rows_within most_changes bytes ≤ length keys₀
-  pub cells : rows_within most_changes bytes ≤ length cells₀
-  pub slots : most_slots ≤ length slots₀
-  pub started : most_countries ≤ length started₀
-  pub turns : rows_within most_changes bytes ≤ length turns₀
-  pub firsts : most_countries ≤ length firsts₀
+-- So many keys that changes settle by, and so many changes, suffice for any record of so many bytes.
+pub record TableRoom (bytes m n : ℕ) : Type 0 where
+  pub keys : rows_within most_settling bytes ≤ m
+  pub changes : rows_within most_changes bytes ≤ n
 
 -- An accepted record, and room for its tables.
-pub record FillAsked (xs : List ℕ) (from : Record) (words₀ initials₀ switches₀ keys₀ cells₀ slots₀ started₀ turns₀ firsts₀ : List ℕ) : Type 0 where
+pub record FillAsked (xs : List ℕ) (from : Record) (m n : ℕ) : Type 0 where
   pub begun : Begun xs from
-  pub room : TableRoom (length xs) words₀ initials₀ switches₀ keys₀ cells₀ slots₀ started₀ turns₀ firsts₀
+  pub room : TableRoom (length xs) m n
 
--- The room by lengths.
-abbrev pub room_of : ℕ → ℕ → ℕ → ℕ → ℕ → ℕ → ℕ → ℕ → ℕ → ℕ → Bool
-room_of bytes words initials switches keys cells slots started turns firsts =
-    leb most_countries words
-    && leb most_countries initials
-    && leb (rows_within most_settling bytes) switches
-    && leb (rows_within most_changes bytes) keys
-    && leb (rows_within most_changes bytes) cells
-    && leb most_slots slots
-    && leb most_countries started
-    && leb (rows_within most_changes bytes) turns
-    && leb most_countries firsts
+-- The room as it is tested.
+abbrev pub room_of : ℕ → ℕ → ℕ → Bool
+room_of bytes keys changes = leb (rows_within most_settling bytes) keys && leb (rows_within most_changes bytes) changes
 
 -- The tables of an accepted record at the fronts of their cells, the targets in front of those that served the sorts; and how many there are.
-pub record Gathered (xs : List ℕ) (z : TableSizes) (provinces₀ : Provinces) (words₁ initials₁ runs₁ keys₁ targets₁ slots₁ started₁ turns₁ firsts₁ : List ℕ) : Type 0 where
+pub record Gathered (xs : List ℕ) (z : TableSizes) (provinces₀ : Provinces) (words₁ initials₁ runs₁ keys₁ targets₁ slots₁ started₁ : List ℕ) (turns₁ firsts₁ : List Turn) : Type 0 where
   pub ready : AtFirstProvince xs provinces₀
   pub start : z.start ≡ (campaign_of xs).start
   pub countries : z.countries ≡ length (campaign_of xs).countries
@@ -167,6 +150,6 @@ pub record Gathered (xs : List ℕ) (z : TableSizes) (provinces₀ : Provinces) 
   pub slots : take z.slots slots₁ ≡ slot_cells (campaign_of xs) (holders_of (campaign_of xs))
 
 -- What is gathered of any bytes: the tables, or the number by which they are refused.
-pub record RightlyGathered (xs : List ℕ) (r : code.Result TablesGathered Refusal) (words₁ initials₁ runs₁ keys₁ targets₁ slots₁ started₁ turns₁ firsts₁ : List ℕ) : Type 0 where
+pub record RightlyGathered (xs : List ℕ) (r : code.Result TablesGathered Refusal) (words₁ initials₁ runs₁ keys₁ targets₁ slots₁ started₁ : List ℕ) (turns₁ firsts₁ : List Turn) : Type 0 where
   pub number : number_of r ≡ refusal xs
   pub tables : IfOk r (λ t. Gathered xs t.sizes t.provinces words₁ initials₁ runs₁ keys₁ targets₁ slots₁ started₁ turns₁ firsts₁)

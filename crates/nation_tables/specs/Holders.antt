@@ -12,9 +12,10 @@ use Rattle.rules.specs.Lent.{written}
 use Rattle.rules.specs.Changes.{changes_of}
 use Rattle.rules.specs.Nations.{matches, start_holders, all_switches, settles, holders_of}
 use Rattle.change_keys.specs.ChangeSteps.{entered, per_id, change_keys_from, AtFirstProvince}
-use Rattle.nation_tables.specs.Layout.{most_slots, word_span, half, key_dates, key_tags, cell_rows, nobody_cell}
+use Rattle.nation_tables.specs.Layout.{most_slots, word_span, key_dates, key_tags, cell_rows, nobody_cell}
 use Rattle.nation_tables.specs.Countries.{words_of_tags, initial_words, row_keys, settling_keys, Keyed, OwnLast}
-use Rattle.nation_tables.specs.Turning.{high_halves, low_halves, key_date, row_among, RowTurn, row_turns_of, Rowed}
+use Rattle.nation_tables.specs.declared.layout.Turn as code
+use Rattle.nation_tables.specs.Turning.{losses, gains, key_date, row_among, RowTurn, row_turns_of, Rowed}
 
 -- ## Tables
 
@@ -32,6 +33,10 @@ pub record Tables (ks : List Country) (ws is ss : List ℕ) : Type 0 where
   pub initials : is ≡ row_keys (initial_words ks)
 
 -- ## Rows of slots
+
+-- The rows in cells.
+abbrev pub rows_in : List ℕ → List ℕ
+rows_in cells = map (λ x. x % cell_rows) cells
 
 -- For each of so many rows, how many slots have it.
 abbrev pub slot_counts : List ℕ → ℕ → List ℕ
@@ -82,9 +87,9 @@ unfoldable pub cells_along : List Step → List ℕ → List ℕ
 cells_along [] slots = slots
 cells_along (x ∷ xs) slots = cells_along xs (set slots x.slot x.cell)
 
--- The two rows of a turn in one cell.
-abbrev pub turn_cell : RowTurn → ℕ
-turn_cell x = x.old * half + x.new
+-- The two rows of a turn.
+abbrev pub turn_cell : RowTurn → code.Turn
+turn_cell x = record { loss = x.old; gain = x.new }
 
 -- A cell is put into a slot; the answer is the one that was there, or nobody's.
 pub record Replaced (slots : List ℕ) (slot cell r : ℕ) (after : List ℕ) : Type 0 where
@@ -92,7 +97,7 @@ pub record Replaced (slots : List ℕ) (slot cell r : ℕ) (after : List ℕ) : 
   pub cells : after ≡ set slots slot cell
 
 -- The turns of the steps, and the cells of the slots after them.
-pub record Passed (keys cells slots₀ slots₁ turns₁ : List ℕ) : Type 0 where
+pub record Passed (keys cells slots₀ slots₁ : List ℕ) (turns₁ : List code.Turn) : Type 0 where
   pub turns : turns₁ ≡ map turn_cell (turns_along slots₀ (steps_of cells keys))
   pub slots : slots₁ ≡ cells_along (steps_of cells keys) slots₀
 
@@ -119,7 +124,7 @@ pub record StepsAsked (xs : List ℕ) (provinces : Provinces) (ws ss keys₀ cel
   pub cells : length (entered xs) ≤ length cells₀
 
 -- Room for every change, a cell for each slot, and one for each country.
-pub record HoldingRoom (xs keys₀ cells₀ slots₀ started₀ turns₀ : List ℕ) : Type 0 where
+pub record HoldingRoom (xs keys₀ cells₀ slots₀ started₀ : List ℕ) (turns₀ : List code.Turn) : Type 0 where
   pub keys : length (entered xs) ≤ length keys₀
   pub cells : length (entered xs) ≤ length cells₀
   pub turns : length (entered xs) ≤ length turns₀
@@ -127,7 +132,7 @@ pub record HoldingRoom (xs keys₀ cells₀ slots₀ started₀ turns₀ : List 
   pub started : length started₀ ≡ length (campaign_of xs).countries
 
 -- For all of it: an accepted record at its first province, its tables, and room.
-pub record HoldingAsked (xs : List ℕ) (provinces : Provinces) (ws is ss keys₀ cells₀ slots₀ started₀ turns₀ : List ℕ) : Type 0 where
+pub record HoldingAsked (xs : List ℕ) (provinces : Provinces) (ws is ss keys₀ cells₀ slots₀ started₀ : List ℕ) (turns₀ : List code.Turn) : Type 0 where
   pub ready : AtFirstProvince xs provinces
   pub tables : Tables (campaign_of xs).countries ws is ss
   pub room : HoldingRoom xs keys₀ cells₀ slots₀ started₀ turns₀
@@ -153,10 +158,10 @@ pub record Stepped (xs : List ℕ) (n : ℕ) (keys cells : List ℕ) : Type 0 wh
 
 -- The keys of all changes in order, the row of the old and of the new holder of each, the cell of each slot after the last change, and how
 -- many slots each country holds at the start.
-pub record Held (xs : List ℕ) (n : ℕ) (keys slots₁ started₁ turns : List ℕ) : Type 0 where
+pub record Held (xs : List ℕ) (n : ℕ) (keys slots₁ started₁ : List ℕ) (turns : List code.Turn) : Type 0 where
   pub counted : n ≡ length (changes_of (campaign_of xs))
   pub sorted : take n keys ≡ sort_by leb (change_keys_from 0 (entered xs))
-  pub rowed : Rowed (take n keys) (high_halves (take n turns)) (low_halves (take n turns)) (row_turns_of (campaign_of xs))
+  pub rowed : Rowed (take n keys) (losses (take n turns)) (gains (take n turns)) (row_turns_of (campaign_of xs))
   pub slots : slots₁ ≡ slot_cells (campaign_of xs) (holders_of (campaign_of xs))
   pub started : started₁ ≡ started_of (campaign_of xs)
 
@@ -169,4 +174,4 @@ pub record SlotsRoom (slots : List ℕ) (n : ℕ) (holders₀ held₀ : List ℕ
 -- The holder of each slot and the slots held by each of so many countries, by the cells of the slots, in the fronts of two slices.
 pub record SlotsPut (slots : List ℕ) (n : ℕ) (holders₀ holders₁ held₀ held₁ : List ℕ) : Type 0 where
   pub holders : holders₁ ≡ written (map cell_word slots) holders₀
-  pub held : held₁ ≡ written (slot_counts (low_halves slots) n) held₀
+  pub held : held₁ ≡ written (slot_counts (rows_in slots) n) held₀

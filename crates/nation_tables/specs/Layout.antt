@@ -1,7 +1,8 @@
 -- How numbers share keys and cells, and how many of each a record has at most. No call of 01 is promised by these: they are how the nations are
 -- computed. A key of 64 bits has room for a row of 11 bits, a date of 27 and the number of a switch of 15, or for a tag of 24, a date and a
--- row; a cell of 32 bits for two numbers of 16.
+-- row.
 use Rattle.std.specs.Prelude.{ℕ, ◌/◌, min}
+use Rattle.std.proofs.Math.Option.{Option, none, some}
 
 -- ## At most so many of a record
 
@@ -62,21 +63,22 @@ row_span = 4398046511104
 
 -- ## Cells
 
--- Two numbers share a cell, each below this.
-abbrev pub half : ℕ
-half = 65536
+-- Any number of 16 bits is below this.
+abbrev pub short_span : ℕ
+short_span = 65536
 
 -- No change has this number: it ends a chain.
 abbrev pub no_change : ℕ
 no_change = 65535
 
--- No first loss and no first gain.
-abbrev pub no_firsts : ℕ
-no_firsts = 4294967295
-
 -- No row: there is no country.
 abbrev pub no_row : ℕ
 no_row = 65535
+
+-- A row as it stands in a cell.
+abbrev pub row_number : Option ℕ → ℕ
+row_number none = no_row
+row_number (some row) = row
 
 -- In the cell of a holder so many rows have room below the word.
 abbrev pub cell_rows : ℕ

@@ -1,7 +1,9 @@
 -- Keys of country rows and how they are looked up. No call of 01 is promised by these: they are how the nations are computed.
 -- A key ends with the row of a country.
 use Rattle.std.specs.Prelude.{Bool, ◌&&◌, List, map, ℕ, leb, ltb}
-use Rattle.lists.specs.Lists.{keep, first_or, last_or}
+use Rattle.std.proofs.Math.Option.{Option}
+use Rattle.std.proofs.Math.ListN.{get_elem?}
+use Rattle.lists.specs.Lists.{keep, last}
 pub use Rattle.nation_tables.specs.Keys.{row_in}
 pub use Rattle.nation_tables.specs.Layout.{no_row}
 
@@ -14,8 +16,8 @@ abbrev pub rows_between : ℕ → ℕ → List ℕ → List ℕ
 rows_between low high keys = map row_in (keep (in_range low high) keys)
 
 -- The first of these rows, and the last.
-unfoldable pub first_within : ℕ → ℕ → List ℕ → ℕ
-first_within low high keys = first_or no_row (rows_between low high keys)
+unfoldable pub first_within : ℕ → ℕ → List ℕ → Option ℕ
+first_within low high keys = get_elem? (rows_between low high keys) 0
 
-unfoldable pub last_within : ℕ → ℕ → List ℕ → ℕ
-last_within low high keys = last_or no_row (rows_between low high keys)
+unfoldable pub last_within : ℕ → ℕ → List ℕ → Option ℕ
+last_within low high keys = last (rows_between low high keys)

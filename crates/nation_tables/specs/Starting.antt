@@ -8,7 +8,7 @@ use Rattle.format.specs.Campaign.{Campaign, Province}
 use Rattle.format.specs.Rows.{same_id}
 use Rattle.rules.specs.Nations.{start_holders}
 use Rattle.nation_tables.specs.Layout.{key_rows}
-use Rattle.nation_tables.specs.Countries.{tag_at_row, initial_words, row_keys, initial_row}
+use Rattle.nation_tables.specs.Countries.{tag_at_row, initial_words, row_keys, initial_number}
 
 -- The owner of the province with an id, `---` if there is none.
 abbrev pub owner_in : List Province → ProvinceId → CountryTag
@@ -16,7 +16,7 @@ owner_in ps slot = first_or NONE (map (λ p. p.owner) (keep (λ p. same_id p.id 
 
 -- So many slots, each with the row that its owner maps to by the keys of the initials.
 abbrev pub slot_rows : List ℕ → List Province → ℕ → List ℕ
-slot_rows keys ps slots = map (λ n. initial_row keys (owner_in ps (record { 0 = n }))) (numbers_from 0 slots)
+slot_rows keys ps slots = map (λ n. initial_number keys (owner_in ps (record { 0 = n }))) (numbers_from 0 slots)
 
 -- Each province's owner put into its slot, as a number, in row order.
 unfoldable pub put_owners : (CountryTag → ℕ) → List Province → List ℕ → List ℕ

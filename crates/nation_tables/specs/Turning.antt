@@ -1,6 +1,6 @@
 -- Turns by country rows, and the chain of changes at which a row loses or gains a slot. No promise of a call of 01 cites these: they are
 -- how the nations are computed.
-use Rattle.std.specs.Prelude.{◌≡◌, Bool, cond, List, [], ◌∷◌, ◌++◌, map, ℕ, suc, ◌/◌, ◌%◌, ◌<◌, ltb, eqb, length, get_or, set}
+use Rattle.std.specs.Prelude.{◌≡◌, Bool, cond, List, [], ◌∷◌, ◌++◌, map, ℕ, suc, ◌/◌, ◌<◌, ltb, eqb, length, get_or, set}
 use Rattle.std.proofs.Math.Option.{Option, none, some}
 use Rattle.format.specs.declared.tag.CountryTag.{CountryTag}
 use Rattle.format.specs.declared.date.Eu4Date.{Eu4Date}
@@ -9,7 +9,8 @@ use Rattle.format.specs.Campaign.{Campaign}
 use Rattle.rules.specs.Chronicle.{Entry}
 use Rattle.rules.specs.Nations.{Turn, turns_of, turn_entries, turn_count}
 use Rattle.change_keys.specs.ChangeSteps.{per_date}
-use Rattle.nation_tables.specs.Layout.{half, no_change, no_row}
+use Rattle.nation_tables.specs.declared.layout.Turn as code
+use Rattle.nation_tables.specs.Layout.{no_change, no_row}
 use Rattle.nation_tables.specs.Countries.{words_of_tags}
 
 -- The number of the first place that holds x, counted from k; `no_change` if none does.
@@ -25,15 +26,15 @@ by_date a b = not_after a.date b.date
 abbrev pub key_date : ℕ → Eu4Date
 key_date key = record { 0 = key / per_date }
 
--- ## Two numbers in a cell
+-- ## Two numbers for each change
 
 -- Of a change these are the row of the old holder and that of the new one, and later the
 -- links to the next loss and to the next gain; of a row its first loss and its first gain.
-abbrev pub high_halves : List ℕ → List ℕ
-high_halves cells = map (λ x. x / half) cells
+abbrev pub losses : List code.Turn → List ℕ
+losses turns = map (λ x. x.loss) turns
 
-abbrev pub low_halves : List ℕ → List ℕ
-low_halves cells = map (λ x. x % half) cells
+abbrev pub gains : List code.Turn → List ℕ
+gains turns = map (λ x. x.gain) turns
 
 -- ## Turns by rows
 
@@ -103,10 +104,10 @@ pub record Linked (rows links heads : List ℕ) : Type 0 where
   pub cells : links ≡ links_from (length heads) 0 rows
   pub firsts : (r : ℕ) → r < length heads → get_or heads r 0 ≡ first_at r 0 rows
 
--- Both chains of the changes in cells, with the first changes of each row in cells.
-pub record TurnsLinked (turns links firsts : List ℕ) : Type 0 where
-  pub losses : Linked (high_halves turns) (high_halves links) (high_halves firsts)
-  pub gains : Linked (low_halves turns) (low_halves links) (low_halves firsts)
+-- Both chains of the changes, with the first changes of each row.
+pub record TurnsLinked (turns links firsts : List code.Turn) : Type 0 where
+  pub loss : Linked (losses turns) (losses links) (losses firsts)
+  pub gain : Linked (gains turns) (gains links) (gains firsts)
 
 -- A change becomes its row's first; the answer is the one that was first. A number that is no row's is let be.
 pub record Pushed (heads : List ℕ) (row k r : ℕ) (after : List ℕ) : Type 0 where
@@ -114,12 +115,10 @@ pub record Pushed (heads : List ℕ) (row k r : ℕ) (after : List ℕ) : Type 0
   pub cells : after ≡ set heads row k
 
 -- So it is with the first losses, and the first gains stay; and the other way round.
-pub record LossPushed (firsts : List ℕ) (row k r : ℕ) (after : List ℕ) : Type 0 where
-  pub loss : Pushed (high_halves firsts) row k r (high_halves after)
-  pub gain : low_halves after ≡ low_halves firsts
-  pub small : r < half
+pub record LossPushed (firsts : List code.Turn) (row k r : ℕ) (after : List code.Turn) : Type 0 where
+  pub loss : Pushed (losses firsts) row k r (losses after)
+  pub gain : gains after ≡ gains firsts
 
-pub record GainPushed (firsts : List ℕ) (row k r : ℕ) (after : List ℕ) : Type 0 where
-  pub gain : Pushed (low_halves firsts) row k r (low_halves after)
-  pub loss : high_halves after ≡ high_halves firsts
-  pub small : r < half
+pub record GainPushed (firsts : List code.Turn) (row k r : ℕ) (after : List code.Turn) : Type 0 where
+  pub gain : Pushed (gains firsts) row k r (gains after)
+  pub loss : losses after ≡ losses firsts

@@ -1,18 +1,29 @@
 // Tables of the countries: words in row order, and keys in order by which a country's row is found.
-ghost use Rattle.std.specs.Prelude.{◌≤◌, ◌≡◌, leb, length, unwrap_or};
-ghost use Rattle.sorting.specs.Sort.{sort_by};
+ghost use Rattle.std.specs.Prelude.{◌≤◌, ◌≡◌, map, length};
+ghost use Rattle.lists.specs.Options.{option_of};
 ghost use Rattle.record.specs.Cursors.{countries_left};
 ghost use Rattle.rules.specs.Lent.{written};
-ghost use Rattle.nation_tables.specs.Layout.{key_rows, no_row};
-ghost use Rattle.nation_tables.specs.Countries.{Tabled, row_keys, RowMapped};
+ghost use Rattle.nation_tables.specs.Layout.{most_countries, most_switches, key_rows};
+ghost use Rattle.nation_tables.specs.Countries.{Keyed, with_own, switch_keys_from, Tabled, row_keys, initial_row};
 
 use crate::keys::row_key;
 use crate::layout::KEY_ROWS;
 use crate::lookup;
 use crate::switches::first_tag;
 use record::{Countries, CountryTag};
+use search::SortedKeys;
 
-// Writes the words of each country's tag and initial, in row order, and returns how many countries there are.
+// Countries of a record. They and their switches have room in keys, each country with a switch more, from its own tag and behind every date.
+#[derive(Clone, Copy)]
+pub(crate) struct KeyedCountries<'a> {
+    pub(crate) countries: Countries<'a>,
+    pub(crate) ghost keyed: { Keyed (map with_own (countries_left countries)) },
+    pub(crate) ghost few: { length (countries_left countries) ≤ most_countries },
+    pub(crate) ghost few_switches: { length (switch_keys_from 0 (countries_left countries)) ≤ most_switches },
+}
+
+// Writes the words of each country's tag and initial, in row order, and returns how many countries there are. Counted by hand: with `enumerate` the
+// count that is returned would stand beside its own.
 pub(crate) fn country_words(countries: Countries, tags: &mut [u32], initials: &mut [u32]) -> usize
     requires { (length (countries_left countries) ≤ length tags.old) × (length (countries_left countries) ≤ length initials.old) }
     ensures { Tabled (countries_left countries.entry) result tags.old tags.new initials.old initials.new }
@@ -26,8 +37,8 @@ pub(crate) fn country_words(countries: Countries, tags: &mut [u32], initials: &m
     n
 }
 
-// Writes the keys of words, in order: each word with its row below it, written by index: a proof knows no cell that is written through a `zip` with `iter_mut`. No word is tested again.
-// The scratch is to have room for as many keys.
+// Writes the keys of words, in order: each word with its row below it. By index: a proof knows no cell that is written through a `zip` with `iter_mut`.
+// No word is tested again. The scratch is to have room for as many keys.
 pub(crate) fn row_keys(words: &[u32], keys: &mut [u64], scratch: &mut [u64])
     requires { (length words.now ≤ key_rows) × (length words.now ≤ length keys.old) }
     ensures { keys.new ≡ written (row_keys words.now) keys.old }
@@ -35,14 +46,13 @@ pub(crate) fn row_keys(words: &[u32], keys: &mut [u64], scratch: &mut [u64])
     for (i, word) in words.iter().enumerate() {
         keys[i] = row_key(CountryTag::kept(*word), i as u64);
     }
-    sorting::sort_keys(&mut keys[0..words.len()], scratch);
+    sorting::sort_keys(&mut keys[..words.len()], scratch);
 }
 
 // The last row of a country with an initial, by the keys of initials: the country that the initial maps to.
-pub(crate) fn mapped_row(keys: &[u64], tag: CountryTag) -> Option<u16>
-    requires { sort_by leb keys.now ≡ keys.now }
-    ensures { RowMapped keys.now tag (unwrap_or result no_row) }
+pub(crate) fn mapped_row(initials: SortedKeys<'_>, tag: CountryTag) -> Option<u16>
+    ensures { option_of result ≡ initial_row initials.entry.keys.now tag }
 {
     let low = u64::from(u32::from(tag)) * KEY_ROWS;
-    lookup::last_within(keys, low, low + KEY_ROWS)
+    lookup::last_within(initials, low, low + KEY_ROWS)
 }

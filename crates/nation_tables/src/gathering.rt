@@ -1,14 +1,17 @@
 // The tables of the countries, the chains of changes, and the switches of each country: all that nations are read from.
-ghost use Rattle.std.specs.Prelude.{◌≡◌, List, ℕ, map, ◌≤◌, length};
-ghost use Rattle.record.specs.Cursors.{countries_left};
+ghost use Rattle.std.specs.Prelude.{◌≡◌, List, ℕ, ◌+◌, ◌≤◌, length, take};
+ghost use Rattle.record.specs.Cursors.{countries_left, provinces_left};
+ghost use Rattle.nation_tables.specs.Holders.{HoldingAsked, Held};
 ghost use Rattle.nation_tables.specs.Layout.{no_change};
-ghost use Rattle.nation_tables.specs.Countries.{Keyed, with_own};
-ghost use Rattle.nation_tables.specs.Gathering.{TablesRoom, TablesFilled, FewSwitches, Arranged, TableRoom, room_of, FillAsked, Gathered, RightlyGathered};
+ghost use Rattle.nation_tables.specs.Gathering.{TablesRoom, TablesFilled, SwitchesRoom, Arranged, TableRoom, room_of, FillAsked, Gathered, RightlyGathered};
 
-use crate::layout::{MOST_COUNTRIES, MOST_SETTLING, MOST_SLOTS, NO_FIRSTS, rows_within};
+use crate::countries::KeyedCountries;
+use crate::layout::{MOST_SETTLING, MOST_SLOTS, Turn, rows_within};
 use crate::{chains, countries, holders, switches};
 use change_keys::MOST_CHANGES;
-use record::{Countries, Eu4Date, Provinces, Record, Refusal};
+use format::MOST_COUNTRIES;
+use record::{Eu4Date, Provinces, Record, Refusal};
+use search::SortedKeys;
 
 // How many countries there are, and keys that changes settle by: of each switch and of each country.
 #[derive(Clone, Copy)]
@@ -18,19 +21,18 @@ pub(crate) struct Sizes {
 }
 
 // Writes the words of tags, and the keys of initials and those that changes settle by, each in order.
-pub(crate) fn fill_tables(
-    all: Countries,
+fn fill_tables(
+    all: KeyedCountries<'_>,
     tag_words: &mut [u32],
     initial_keys: &mut [u64],
     settling_keys: &mut [u64],
     scratch: &mut [u64],
 ) -> Sizes
-    requires keyed { Keyed (map with_own (countries_left all)) }
-    requires tables_room { TablesRoom (countries_left all) tag_words.old initial_keys.old settling_keys.old }
-    ensures { TablesFilled (countries_left all.entry) result tag_words.new initial_keys.new settling_keys.new }
+    requires { TablesRoom (countries_left all.countries) tag_words.old initial_keys.old settling_keys.old }
+    ensures { TablesFilled (countries_left all.entry.countries) result tag_words.new initial_keys.new settling_keys.new }
 {
     let mut initial_words = [0u32; MOST_COUNTRIES];
-    let c = countries::country_words(all, tag_words, &mut initial_words);
+    let c = countries::country_words(all.countries, tag_words, &mut initial_words);
     countries::row_keys(&initial_words[..c], initial_keys, scratch);
     let m = switches::settling_keys(all, settling_keys, scratch);
     Sizes {
@@ -39,23 +41,25 @@ pub(crate) fn fill_tables(
     }
 }
 
-// Turns the rows of holders into chains of changes, with the first ones for each row, and writes the keys of switches by country and
+// Turns the rows of holders of n changes into chains, with the first ones for each row, and writes the keys of switches by country and
 // the targets. Until the targets stand in their cells, these serve the sort as scratch.
-pub(crate) fn arrange(
-    all: Countries,
-    turns: &mut [u32],
-    firsts: &mut [u32],
+fn arrange(
+    all: KeyedCountries<'_>,
+    n: usize,
+    turns: &mut [Turn],
+    firsts: &mut [Turn],
     runs: &mut [u64],
     targets: &mut [u64],
 )
-    requires keyed { Keyed (countries_left all) × FewSwitches (countries_left all) runs.old targets.old }
-    requires turns_len_bound { length turns.old ≤ no_change }
-    ensures { Arranged (countries_left all.entry) turns.old turns.new firsts.new runs.new targets.new }
+    requires switches_room { SwitchesRoom (countries_left all.countries) runs.old targets.old }
+    requires turns_inside { n ≤ length turns.old }
+    requires turns_len_bound { n ≤ no_change }
+    ensures { Arranged (countries_left all.entry.countries) (take n turns.old) (take n turns.new) firsts.new runs.new targets.new }
 {
-    firsts.fill(NO_FIRSTS);
-    chains::link(turns, firsts);
+    firsts.fill(Turn::NONE);
+    chains::link(&mut turns[..n], firsts);
     switches::run_keys(all, runs, targets);
-    switches::fill_targets(all, targets);
+    switches::fill_targets(all.countries, targets);
 }
 
 // How many countries, switches, slots and changes the tables have, and the start date of the record.
@@ -68,74 +72,113 @@ pub struct TableSizes {
     pub changes: usize,
 }
 
-// The sizes of the tables, which are filled, and the first province.
+// The sizes of the tables, which are filled, and the provinces.
 #[derive(Clone, Copy)]
 pub struct TablesGathered<'a> {
     pub sizes: TableSizes,
     pub provinces: Provinces<'a>,
 }
 
-// Whether cells of these lengths suffice for any record of so many bytes. By length, as the slices are lent on one by one.
-fn has_cells(
-    bytes: usize,
-    words: usize,
-    initials: usize,
-    switches: usize,
-    keys: usize,
-    cells: usize,
-    slots: usize,
-    started: usize,
-    turns: usize,
-    firsts: usize,
-) -> bool
-    ensures { result ≡ room_of bytes words initials switches keys cells slots started turns firsts }
-{
-    let changes = rows_within(MOST_CHANGES, bytes);
-    (MOST_COUNTRIES <= words)
-        & (MOST_COUNTRIES <= initials)
-        & (rows_within(MOST_SETTLING, bytes) <= switches)
-        & (changes <= keys)
-        & (changes <= cells)
-        & (MOST_SLOTS <= slots)
-        & (MOST_COUNTRIES <= started)
-        & (changes <= turns)
-        & (MOST_COUNTRIES <= firsts)
+// The tables that nations are read from: room for any record with at most KEYS keys that changes settle by and at most CHANGES changes. Arrays, for
+// of slices in a struct a caller knows nothing after a call. Made where it stays and lent: by value some 1.5 MB would be copied.
+#[derive(Drop)]
+pub struct TableCells<const KEYS: usize, const CHANGES: usize> {
+    pub tag_words: [u32; MOST_COUNTRIES],
+    pub initial_keys: [u64; MOST_COUNTRIES],
+    // The keys that changes settle by; in the end those of switches by country.
+    pub runs: [u64; KEYS],
+    pub keys: [u64; CHANGES],
+    // Scratch and cells of changes; in the end the targets of switches.
+    pub cells: [u64; CHANGES],
+    pub slots: [u64; MOST_SLOTS],
+    pub started: [u32; MOST_COUNTRIES],
+    pub turns: [Turn; CHANGES],
+    pub firsts: [Turn; MOST_COUNTRIES],
 }
 
-// Fills all tables of an accepted record, each step lent only the slices that it reads or writes. Where the keys stood that changes settle by,
-// those of switches by country stand in the end.
-fn fill_all(
-    opened: Record,
-    tag_words: &mut [u32],
-    initial_keys: &mut [u64],
-    switch_keys: &mut [u64],
+// Whether so many keys and changes suffice for any record of so many bytes.
+fn has_cells(bytes: usize, keys: usize, changes: usize) -> bool
+    ensures { result ≡ room_of bytes keys changes }
+{
+    (rows_within(MOST_SETTLING, bytes) <= keys) & (rows_within(MOST_CHANGES, bytes) <= changes)
+}
+
+// Settles all changes, with the slots and what each country starts with at the front of their cells. Apart from `fill_all`, which cannot lend the fronts:
+// the borrow checker covers no `&mut` part of a field that is an array.
+fn hold_fronts(
+    provinces: Provinces,
+    tag_words: &[u32],
+    initials: SortedKeys<'_>,
+    settling: SortedKeys<'_>,
     keys: &mut [u64],
     cells: &mut [u64],
     slots: &mut [u64],
     started: &mut [u32],
-    turns: &mut [u32],
-    firsts: &mut [u32],
-) -> TableSizes
-    requires { (xs : List ℕ) × FillAsked xs opened tag_words.old initial_keys.old switch_keys.old keys.old cells.old slots.old started.old turns.old firsts.old }
-    ensures { (xs : List ℕ) → FillAsked xs opened.entry tag_words.old initial_keys.old switch_keys.old keys.old cells.old slots.old started.old turns.old firsts.old → Gathered xs result opened.entry.provinces tag_words.new initial_keys.new switch_keys.new keys.new cells.new slots.new started.new turns.new firsts.new }
+    turns: &mut [Turn],
+) -> usize
+    requires { (xs : List ℕ) × HoldingAsked xs provinces tag_words.now initials.keys.now settling.keys.now keys.old cells.old (take (length (provinces_left provinces) + 1) slots.old) (take (length tag_words.now) started.old) turns.old }
+    ensures { (xs : List ℕ) → HoldingAsked xs provinces.entry tag_words.now initials.entry.keys.now settling.entry.keys.now keys.old cells.old (take (length (provinces_left provinces.entry) + 1) slots.old) (take (length tag_words.now) started.old) turns.old → Held xs result keys.new (take (length (provinces_left provinces.entry) + 1) slots.new) (take (length tag_words.now) started.new) turns.new }
 {
-    let all = opened.countries;
-    let p = opened.provinces.len() + 1;
-    let sizes = fill_tables(all, tag_words, initial_keys, switch_keys, cells);
-    let c = sizes.countries;
-    let m = sizes.settling;
-    let n = holders::hold_slots(
-        opened.provinces,
-        &tag_words[0..c],
-        &initial_keys[0..c],
-        &switch_keys[0..m],
+    let p = provinces.len() + 1;
+    let c = tag_words.len();
+    holders::hold_slots(
+        provinces,
+        tag_words,
+        initials,
+        settling,
         keys,
         cells,
-        &mut slots[0..p],
-        &mut started[0..c],
+        &mut slots[..p],
+        &mut started[..c],
         turns,
+    )
+}
+
+// Fills all tables of an accepted record, each step lent only those that it reads or writes. The first changes of rows are lent by a whole slice: from
+// that a proof knows how many cells they have.
+fn fill_all<const KEYS: usize, const CHANGES: usize>(
+    opened: Record,
+    tables: &mut TableCells<KEYS, CHANGES>,
+) -> TableSizes
+    requires { (xs : List ℕ) × FillAsked xs opened KEYS CHANGES }
+    ensures { (xs : List ℕ) → FillAsked xs opened.entry KEYS CHANGES → Gathered xs result opened.entry.provinces tables.new.tag_words tables.new.initial_keys tables.new.runs tables.new.keys tables.new.cells tables.new.slots tables.new.started tables.new.turns tables.new.firsts }
+{
+    let all = KeyedCountries {
+        countries: opened.countries,
+    };
+    let p = opened.provinces.len() + 1;
+    let sizes = fill_tables(
+        all,
+        &mut tables.tag_words,
+        &mut tables.initial_keys,
+        &mut tables.runs,
+        &mut tables.cells,
     );
-    arrange(all, &mut turns[0..n], firsts, switch_keys, cells);
+    let c = sizes.countries;
+    let m = sizes.settling;
+    let n = hold_fronts(
+        opened.provinces,
+        &tables.tag_words[..c],
+        SortedKeys {
+            keys: &tables.initial_keys[..c],
+        },
+        SortedKeys {
+            keys: &tables.runs[..m],
+        },
+        &mut tables.keys,
+        &mut tables.cells,
+        &mut tables.slots,
+        &mut tables.started,
+        &mut tables.turns,
+    );
+    arrange(
+        all,
+        n,
+        &mut tables.turns,
+        &mut tables.firsts[..],
+        &mut tables.runs,
+        &mut tables.cells,
+    );
     TableSizes {
         start: opened.start,
         countries: c,
@@ -145,50 +188,19 @@ fn fill_all(
     }
 }
 
-// Fills the tables of a record, each at the front of its slice, whatever stood there. A bad record is refused by its refusal.
-// Promised of slices that are long enough for any record of as many bytes. They are lent one by one: what is generated
-// for a function grows with what it is lent, so each step below is lent only what it reads or writes.
-pub fn gather_tables<'a>(
+// Fills the tables of a record, each at the front of its array, whatever stood there. A bad record is refused by its refusal.
+// Promised where there are enough keys and changes for any record of as many bytes.
+pub fn gather_tables<'a, const KEYS: usize, const CHANGES: usize>(
     s: &'a [u8],
-    tag_words: &mut [u32],
-    initial_keys: &mut [u64],
-    switch_keys: &mut [u64],
-    keys: &mut [u64],
-    cells: &mut [u64],
-    slots: &mut [u64],
-    started: &mut [u32],
-    turns: &mut [u32],
-    firsts: &mut [u32],
+    tables: &mut TableCells<KEYS, CHANGES>,
 ) -> Result<TablesGathered<'a>, Refusal>
-    ensures { TableRoom (length s.now) tag_words.old initial_keys.old switch_keys.old keys.old cells.old slots.old started.old turns.old firsts.old → RightlyGathered s.now result tag_words.new initial_keys.new switch_keys.new keys.new cells.new slots.new started.new turns.new firsts.new }
+    ensures { TableRoom (length s.now) KEYS CHANGES → RightlyGathered s.now result tables.new.tag_words tables.new.initial_keys tables.new.runs tables.new.keys tables.new.cells tables.new.slots tables.new.started tables.new.turns tables.new.firsts }
 {
-    if !has_cells(
-        s.len(),
-        tag_words.len(),
-        initial_keys.len(),
-        switch_keys.len(),
-        keys.len(),
-        cells.len(),
-        slots.len(),
-        started.len(),
-        turns.len(),
-        firsts.len(),
-    ) {
+    if !has_cells(s.len(), KEYS, CHANGES) {
         return Err(Refusal::NoRoom);
     }
     let opened = record::open_record(s)?;
-    let sizes = fill_all(
-        opened,
-        tag_words,
-        initial_keys,
-        switch_keys,
-        keys,
-        cells,
-        slots,
-        started,
-        turns,
-        firsts,
-    );
+    let sizes = fill_all(opened, tables);
     Ok(TablesGathered {
         sizes,
         provinces: opened.provinces,

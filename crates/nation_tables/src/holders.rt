@@ -1,20 +1,19 @@
 // Who holds each slot, change by change, by the rows of countries.
-ghost use Rattle.std.specs.Prelude.{◌≡◌, List, ℕ, map, ◌+◌, ◌*◌, ◌≤◌, leb, length, get_or, unwrap_or};
+ghost use Rattle.std.specs.Prelude.{◌≡◌, List, ℕ, map, ◌+◌, ◌*◌, ◌≤◌, length, get_or, unwrap_or};
 ghost use Rattle.lists.specs.Lists.{All};
-ghost use Rattle.sorting.specs.Sort.{sort_by};
 ghost use Rattle.format.specs.Campaign.{Country, campaign_of};
 ghost use Rattle.change_keys.specs.ChangeSteps.{changes_left};
-ghost use Rattle.nation_tables.specs.Layout.{half, cell_rows, nobody_cell};
-ghost use Rattle.nation_tables.specs.Turning.{low_halves};
-ghost use Rattle.nation_tables.specs.Holders.{Settler, Small, StartAsked, StepsAsked, HoldingAsked, row_cell, slot_counts, holder_cell};
+ghost use Rattle.nation_tables.specs.Layout.{short_span, cell_rows, nobody_cell};
+ghost use Rattle.nation_tables.specs.Holders.{Settler, Small, StartAsked, StepsAsked, HoldingAsked, rows_in, row_cell, slot_counts, holder_cell};
 ghost use Rattle.nation_tables.specs.Holders.{Replaced, Passed, Began, Stepped, Held, cell_word, SlotsRoom, SlotsPut};
 ghost use Rattle.rules.specs.Lent.{written};
 
-use crate::layout::{CELL_ROWS, MOST_SLOTS, NO_ROW, NOBODY, WORD_SPAN};
+use crate::layout::{CELL_ROWS, MOST_SLOTS, NO_ROW, NOBODY, Turn, WORD_SPAN};
 use crate::settling::STARTS;
 use crate::{lookup, settling, starting};
 use change_keys::{Changes, PER_ID};
 use record::{CountryTag, ProvinceId, Provinces};
+use search::SortedKeys;
 use spreading::spread_sort;
 use std::mem;
 
@@ -34,9 +33,9 @@ fn cell_of(tags: &[u32], row: u16, other: CountryTag) -> u64
     u64::from(word_of(tags, row, other)) * CELL_ROWS + u64::from(row)
 }
 
-// Turns the row of each slot's holder into the holder's cell. Where there is no row, there is no tag, which `kept` takes untested.
+// Turns the row of each slot's holder into the holder's cell. Where there is no row the word is 0, which `kept` does not test.
 fn start_cells(tags: &[u32], slots: &mut [u64])
-    ensures { slots.new ≡ map (row_cell tags.now) (low_halves slots.old) }
+    ensures { slots.new ≡ map (row_cell tags.now) (rows_in slots.old) }
 {
     for slot in slots.iter_mut() {
         *slot = cell_of(tags, (*slot % CELL_ROWS) as u16, CountryTag::kept(0));
@@ -46,8 +45,8 @@ fn start_cells(tags: &[u32], slots: &mut [u64])
 // Writes how many slots each country row has, by the cells of the slots. A number that is no row's counts nowhere. Of `get_mut` a proof knows
 // no cell afterwards: so the row is tested, and below the slot.
 fn count_slots(slots: &[u64], counts: &mut [u32])
-    requires { length slots.now ≤ half }
-    ensures { counts.new ≡ slot_counts (low_halves slots.now) (length counts.old) }
+    requires { length slots.now ≤ short_span }
+    ensures { counts.new ≡ slot_counts (rows_in slots.now) (length counts.old) }
 {
     counts.fill(0);
     for slot in slots {
@@ -58,38 +57,34 @@ fn count_slots(slots: &[u64], counts: &mut [u32])
     }
 }
 
-// Writes a cell for each change in entry order: the word of the tag that it settles to, and below it the row of that country. By index, as the
-// changes are walked.
+// Writes a cell for each change in entry order: the word of the tag that it settles to, and below it the row of that country. By index: a
+// proof knows no cell that is written through a `zip` with `iter_mut`.
 fn fill_holders(
     changes: Changes,
     tag_words: &[u32],
-    settling_keys: &[u64],
+    settling: SortedKeys<'_>,
     starts: &[u16],
     cells: &mut [u64],
 )
     requires small { All Small (changes_left changes) }
     requires changes_len { length (changes_left changes) ≡ length cells.old }
-    requires sorted { sort_by leb settling_keys.now ≡ settling_keys.now }
-    ensures { (ks : List Country) → Settler ks tag_words.now settling_keys.now → cells.new ≡ map (holder_cell ks) (changes_left changes.entry) }
+    ensures { (ks : List Country) → Settler ks tag_words.now settling.entry.keys.now → cells.new ≡ map (holder_cell ks) (changes_left changes.entry) }
 {
-    let mut n = 0;
-    for x in changes {
-        let row = settling::holder_row(settling_keys, starts, x.to, x.date);
+    for (n, x) in changes.enumerate() {
+        let row = settling::holder_row(settling, starts, x.to, x.date);
         cells[n] = cell_of(tag_words, row.unwrap_or(NO_ROW), x.to);
-        n += 1;
     }
 }
 
 // Writes the cell of each change, as many as there are cells.
-fn settle_changes(changes: Changes, tag_words: &[u32], settling_keys: &[u64], cells: &mut [u64])
+fn settle_changes(changes: Changes, tag_words: &[u32], settling: SortedKeys<'_>, cells: &mut [u64])
     requires small { All Small (changes_left changes) }
     requires changes_len { length (changes_left changes) ≡ length cells.old }
-    requires sorted { sort_by leb settling_keys.now ≡ settling_keys.now }
-    ensures { (ks : List Country) → Settler ks tag_words.now settling_keys.now → cells.new ≡ map (holder_cell ks) (changes_left changes.entry) }
+    ensures { (ks : List Country) → Settler ks tag_words.now settling.entry.keys.now → cells.new ≡ map (holder_cell ks) (changes_left changes.entry) }
 {
     let mut starts = [0u16; STARTS];
-    settling::note_starts(settling_keys, cells.len(), &mut starts);
-    fill_holders(changes, tag_words, settling_keys, &starts, cells);
+    settling::note_starts(settling.keys, cells.len(), &mut starts);
+    fill_holders(changes, tag_words, settling, &starts, cells);
 }
 
 // Puts a cell into a slot, and returns the one that was there, if there is such a slot.
@@ -104,8 +99,8 @@ fn replace(slots: &mut [u64], id: ProvinceId, cell: u64) -> Option<u64>
 }
 
 // Goes through the sorted changes: notes the row of the slot's holder before each change and after it, and keeps the cell of each slot.
-// Of keys and turns one is reached by index whichever is walked. An id out of a key is not tested again.
-fn pass(keys: &[u64], cells: &[u64], slots: &mut [u64], turns: &mut [u32])
+// By index: a proof knows no cell that is written through a `zip` with `iter_mut`. An id out of a key is not tested again.
+fn pass(keys: &[u64], cells: &[u64], slots: &mut [u64], turns: &mut [Turn])
     requires { length turns.old ≡ length keys.now }
     ensures { Passed keys.now cells.now slots.old slots.new turns.new }
 {
@@ -114,7 +109,10 @@ fn pass(keys: &[u64], cells: &[u64], slots: &mut [u64], turns: &mut [u32])
         let id = ProvinceId::kept((key / PER_ID % PER_ID) as u32);
         let cell = lookup::cell_at(cells, (key % PER_ID) as usize);
         let old = replace(slots, id, cell).unwrap_or(NOBODY);
-        turns[k] = (old % CELL_ROWS * CELL_ROWS + cell % CELL_ROWS) as u32;
+        turns[k] = Turn {
+            loss: (old % CELL_ROWS) as u16,
+            gain: (cell % CELL_ROWS) as u16,
+        };
     }
 }
 
@@ -122,14 +120,14 @@ fn pass(keys: &[u64], cells: &[u64], slots: &mut [u64], turns: &mut [u32])
 fn start_slots(
     provinces: Provinces,
     tag_words: &[u32],
-    initial_keys: &[u64],
+    initials: SortedKeys<'_>,
     slots: &mut [u64],
     started: &mut [u32],
 )
-    requires { (xs : List ℕ) × StartAsked xs provinces tag_words.now initial_keys.now slots.old started.old }
-    ensures { (xs : List ℕ) → StartAsked xs provinces.entry tag_words.now initial_keys.now slots.old started.old → Began (campaign_of xs) slots.new started.new }
+    requires { (xs : List ℕ) × StartAsked xs provinces tag_words.now initials.keys.now slots.old started.old }
+    ensures { (xs : List ℕ) → StartAsked xs provinces.entry tag_words.now initials.entry.keys.now slots.old started.old → Began (campaign_of xs) slots.new started.new }
 {
-    starting::start_rows(provinces, initial_keys, slots);
+    starting::start_rows(provinces, initials, slots);
     start_cells(tag_words, slots);
     count_slots(slots, started);
 }
@@ -139,17 +137,17 @@ fn start_slots(
 fn sort_steps(
     provinces: Provinces,
     tag_words: &[u32],
-    settling_keys: &[u64],
+    settling: SortedKeys<'_>,
     keys: &mut [u64],
     cells: &mut [u64],
 ) -> usize
-    requires { (xs : List ℕ) × StepsAsked xs provinces tag_words.now settling_keys.now keys.old cells.old }
-    ensures { (xs : List ℕ) → StepsAsked xs provinces.entry tag_words.now settling_keys.now keys.old cells.old → Stepped xs result keys.new cells.new }
+    requires { (xs : List ℕ) × StepsAsked xs provinces tag_words.now settling.keys.now keys.old cells.old }
+    ensures { (xs : List ℕ) → StepsAsked xs provinces.entry tag_words.now settling.entry.keys.now keys.old cells.old → Stepped xs result keys.new cells.new }
 {
     let changes = Changes::of(provinces);
     let n = change_keys::fill_keys(changes, keys);
-    spread_sort(&mut keys[0..n], cells);
-    settle_changes(changes, tag_words, settling_keys, &mut cells[0..n]);
+    spread_sort(&mut keys[..n], cells);
+    settle_changes(changes, tag_words, settling, &mut cells[..n]);
     n
 }
 
@@ -159,24 +157,25 @@ fn sort_steps(
 pub(crate) fn hold_slots(
     provinces: Provinces,
     tag_words: &[u32],
-    initial_keys: &[u64],
-    settling_keys: &[u64],
+    initials: SortedKeys<'_>,
+    settling: SortedKeys<'_>,
     keys: &mut [u64],
     cells: &mut [u64],
     slots: &mut [u64],
     started: &mut [u32],
-    turns: &mut [u32],
+    turns: &mut [Turn],
 ) -> usize
-    requires { (xs : List ℕ) × HoldingAsked xs provinces tag_words.now initial_keys.now settling_keys.now keys.old cells.old slots.old started.old turns.old }
-    ensures { (xs : List ℕ) → HoldingAsked xs provinces.entry tag_words.now initial_keys.now settling_keys.now keys.old cells.old slots.old started.old turns.old → Held xs result keys.new slots.new started.new turns.new }
+    requires { (xs : List ℕ) × HoldingAsked xs provinces tag_words.now initials.keys.now settling.keys.now keys.old cells.old slots.old started.old turns.old }
+    ensures { (xs : List ℕ) → HoldingAsked xs provinces.entry tag_words.now initials.entry.keys.now settling.entry.keys.now keys.old cells.old slots.old started.old turns.old → Held xs result keys.new slots.new started.new turns.new }
 {
-    start_slots(provinces, tag_words, initial_keys, slots, started);
-    let n = sort_steps(provinces, tag_words, settling_keys, keys, cells);
-    pass(&keys[0..n], &cells[0..n], slots, &mut turns[0..n]);
+    start_slots(provinces, tag_words, initials, slots, started);
+    let n = sort_steps(provinces, tag_words, settling, keys, cells);
+    pass(&keys[..n], &cells[..n], slots, &mut turns[..n]);
     n
 }
 
-// Writes the word of each slot's holder, 0 for nobody, into the front of a slice: by index, since a proof knows no cell that is written through a `zip` with `iter_mut`.
+// Writes the word of each slot's holder, 0 for nobody, into the front of a slice. By index: a proof knows no cell that is written through a `zip` with
+// `iter_mut`.
 fn put_holders(slots: &[u64], out: &mut [u32])
     requires { length slots.now ≤ length out.old }
     ensures { out.new ≡ written (map cell_word slots.now) out.old }
@@ -187,7 +186,7 @@ fn put_holders(slots: &[u64], out: &mut [u32])
 }
 
 // Writes the holder of each slot, and how many slots each of c countries holds, into the fronts of two slices. Promised where both
-// have room, and of no more slots than a record has.
+// have room, and of no more slots than a record has. The number stands beside `held`, which is the caller's whole slice: its other cells stay.
 pub fn write_slots(slots: &[u64], c: usize, holders: &mut [u32], held: &mut [u32])
     ensures { SlotsRoom slots.now c holders.old held.old → SlotsPut slots.now c holders.old holders.new held.old held.new }
 {
@@ -195,5 +194,5 @@ pub fn write_slots(slots: &[u64], c: usize, holders: &mut [u32], held: &mut [u32
         return;
     }
     put_holders(slots, holders);
-    count_slots(slots, &mut held[0..c]);
+    count_slots(slots, &mut held[..c]);
 }

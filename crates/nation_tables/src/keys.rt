@@ -1,4 +1,4 @@
-// Sort keys, made of parts from high to low.
+// Sort keys, made of parts from high to low. A row is a number with a condition and no type of its own: loops count it and put it into a key at once.
 ghost use Rattle.std.specs.Prelude.{◌<◌, ◌≡◌};
 ghost use Rattle.nation_tables.specs.Layout.{key_rows, key_numbers, key_tags};
 ghost use Rattle.nation_tables.specs.Keys.{row_key, row_in, settling_key, run_key};

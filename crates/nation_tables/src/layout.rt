@@ -3,20 +3,16 @@
 ghost use Rattle.std.specs.Prelude.{◌≡◌};
 ghost use Rattle.nation_tables.specs.Layout.{rows_within};
 
-// How many countries a record has at most.
-pub const MOST_COUNTRIES: usize = 2000;
-
-// How many switches.
-const MOST_SWITCHES: usize = 20000;
+use format::{MOST_COUNTRIES, MOST_PROVINCES, MOST_SWITCHES};
 
 // How many slots: one more than provinces.
-pub const MOST_SLOTS: usize = 8001;
+pub const MOST_SLOTS: usize = MOST_PROVINCES + 1;
 
 // Changes settle by a key of each switch and one of each country.
 pub const MOST_SETTLING: usize = MOST_SWITCHES + MOST_COUNTRIES;
 
 // A row of an owner event or of a switch takes so many bytes of a record, and one of a country more.
-const ROW_BYTES: usize = 7;
+pub const ROW_BYTES: usize = 7;
 
 // So many of them a record of so many bytes has at most, where no record has more than `most`.
 pub(crate) fn rows_within(most: usize, bytes: usize) -> usize
@@ -26,19 +22,19 @@ pub(crate) fn rows_within(most: usize, bytes: usize) -> usize
 }
 
 // Rows of countries are below this.
-pub const KEY_ROWS: u64 = 2048;
+pub const KEY_ROWS: u64 = 1 << 11;
 
 // Words of dates are below this.
-pub const KEY_DATES: u64 = 134217728;
+pub const KEY_DATES: u64 = 1 << 27;
 
 // Numbers of switches are below this.
-pub const KEY_NUMBERS: u64 = 32768;
+pub const KEY_NUMBERS: u64 = 1 << 15;
 
 // Behind every date: no date that is good is as large, and it has room in a key. A number, for a part of a key is one.
-pub(crate) const LAST_DATE: u32 = 134217727;
+pub(crate) const LAST_DATE: u32 = KEY_DATES as u32 - 1;
 
 // What a word of 32 bits has room in.
-pub const WORD_SPAN: u64 = 4294967296;
+pub const WORD_SPAN: u64 = 1 << 32;
 
 // The key of any word with a row is below this.
 pub const ROW_KEY_SPAN: u64 = WORD_SPAN * KEY_ROWS;
@@ -49,20 +45,32 @@ pub(crate) const TAG_SPAN: u64 = KEY_DATES * KEY_ROWS;
 // So many lie between the run keys of one row and those of the next.
 pub const ROW_SPAN: u64 = KEY_DATES * KEY_NUMBERS;
 
-// A cell holds the number of the change of a loss times this, and below it that of a gain.
-pub const HALF: u32 = 65536;
+// Ends a chain of changes. A number and no Option, which would take another 16 bits for each link.
+pub const NO_CHANGE: u16 = u16::MAX;
 
-// Ends a chain of changes. A number and no Option: two links share a cell of 32 bits.
-pub const NO_CHANGE: u32 = 65535;
+// Of a change the rows of the country that loses the slot and of the one that gains it, and later the numbers of the next changes at which
+// they lose and gain one. Of a row the numbers of its first loss and of its first gain. One type for all: links come to stand in the cells of rows, as
+// there is no heap for more.
+#[derive(Clone, Copy, Debug, PartialEq, Eq)]
+pub struct Turn {
+    pub loss: u16,
+    pub gain: u16,
+}
 
-// The cell of a row with no first loss and no first gain.
-pub(crate) const NO_FIRSTS: u32 = NO_CHANGE * HALF + NO_CHANGE;
+impl Turn {
+    // Neither a loss nor a gain.
+    pub const NONE: Turn = Turn {
+        loss: NO_CHANGE,
+        gain: NO_CHANGE,
+    };
+}
 
 // No row: there is no country. For cells alone, whose lower half is a number; functions answer an Option.
-pub(crate) const NO_ROW: u16 = 65535;
+pub(crate) const NO_ROW: u16 = u16::MAX;
 
 // The cell of a slot or of a change: the word of the holder times this, and below it the row of its country, or NO_ROW.
-pub(crate) const CELL_ROWS: u64 = 65536;
+pub(crate) const CELL_ROWS: u64 = 1 << 16;
 
-// The cell of a slot that nobody holds: no word, and no row. A number: cells are 64 bits, since those of changes serve the sort as scratch, and the cell of a change is put into its slot as it stands.
-pub(crate) const NOBODY: u64 = 65535;
+// The cell of a slot that nobody holds: no word, and no row. A number: cells are 64 bits, since those of changes serve the sort as scratch, and the cell
+// of a change is put into its slot as it stands.
+pub(crate) const NOBODY: u64 = NO_ROW as u64;

@@ -1,4 +1,5 @@
-// The tables that nations are read from: of countries, switches, changes and slots.
+// The tables that nations are read from: of countries, switches, changes and slots. Each is an array of its own: keys are sorted as words, and a step is
+// lent only the tables that it reads or writes.
 #![tactic(auto)]
 
 mod chains;
@@ -12,10 +13,10 @@ mod settling;
 mod starting;
 mod switches;
 
-pub use gathering::{TableSizes, TablesGathered, gather_tables};
+pub use gathering::{TableCells, TableSizes, TablesGathered, gather_tables};
 pub use holders::write_slots;
 pub use layout::{
-    HALF, KEY_DATES, KEY_NUMBERS, KEY_ROWS, MOST_COUNTRIES, MOST_SETTLING, MOST_SLOTS, NO_CHANGE,
-    ROW_KEY_SPAN, ROW_SPAN, WORD_SPAN,
+    KEY_DATES, KEY_NUMBERS, KEY_ROWS, MOST_SETTLING, MOST_SLOTS, NO_CHANGE, ROW_BYTES,
+    ROW_KEY_SPAN, ROW_SPAN, Turn, WORD_SPAN,
 };
 pub use lookup::{cell_at, last_within};

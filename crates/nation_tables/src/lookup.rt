@@ -1,28 +1,33 @@
 // Keys in order, looked up by crate search. A key ends with the row of a country.
-ghost use Rattle.std.specs.Prelude.{◌≡◌, ◌*◌, ◌/◌, leb, unwrap_or, get_or};
-ghost use Rattle.sorting.specs.Sort.{sort_by};
-ghost use Rattle.nation_tables.specs.Lookup.{no_row, first_within, last_within};
+ghost use Rattle.std.specs.Prelude.{◌≡◌, ◌*◌, ◌/◌, get_or};
+ghost use Rattle.lists.specs.Options.{option_of};
+ghost use Rattle.nation_tables.specs.Lookup.{first_within, last_within};
 
 use crate::keys::row_in;
+use search::SortedKeys;
 use std::ops::Range;
 
 // The row in the first of the keys that is not below `low`, an even number, if that key is below `high`. The place of that key likely lies
 // between the hints.
-pub(crate) fn first_within(keys: &[u64], low: u64, high: u64, hints: Range<usize>) -> Option<u16>
-    requires { sort_by leb keys.now ≡ keys.now }
-    ensures { unwrap_or result no_row ≡ first_within (low / 2 * 2) high keys.now }
+pub(crate) fn first_within(
+    sorted: SortedKeys<'_>,
+    low: u64,
+    high: u64,
+    hints: Range<usize>,
+) -> Option<u16>
+    ensures { option_of result ≡ first_within (low / 2 * 2) high sorted.entry.keys.now }
 {
-    match keys.get(search::count_between(keys, low, hints)) {
+    match sorted.keys.get(sorted.count_between(low, hints)) {
         Some(key) if *key < high => Some(row_in(*key)),
         _ => None,
     }
 }
 
-// The row in the last of the keys that is below `high`, an even number, if that key is not below `low`: of keys that are in order.
-pub fn last_within(keys: &[u64], low: u64, high: u64) -> Option<u16>
-    ensures { sort_by leb keys.now ≡ keys.now → unwrap_or result no_row ≡ last_within low (high / 2 * 2) keys.now }
+// The row in the last of the keys that is below `high`, an even number, if that key is not below `low`.
+pub fn last_within(sorted: SortedKeys<'_>, low: u64, high: u64) -> Option<u16>
+    ensures { option_of result ≡ last_within low (high / 2 * 2) sorted.entry.keys.now }
 {
-    match keys[..search::count_below(keys, high)].last() {
+    match sorted.keys[..sorted.count_below(high)].last() {
         Some(key) if low <= *key => Some(row_in(*key)),
         _ => None,
     }

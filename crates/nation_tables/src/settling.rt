@@ -1,18 +1,19 @@
 // Whom a change settles to, by the rows of countries.
-ghost use Rattle.std.specs.Prelude.{◌≡◌, ◌<◌, leb, unwrap_or};
-ghost use Rattle.sorting.specs.Sort.{sort_by};
-ghost use Rattle.nation_tables.specs.Layout.{half, key_tags, no_row};
-ghost use Rattle.nation_tables.specs.Settling.{RowHolds};
+ghost use Rattle.std.specs.Prelude.{◌≡◌, ◌<◌};
+ghost use Rattle.lists.specs.Options.{option_of};
+ghost use Rattle.nation_tables.specs.Layout.{short_span, key_tags};
+ghost use Rattle.nation_tables.specs.Settling.{settling_row};
 
 use crate::layout::TAG_SPAN;
 use crate::{keys, lookup};
 use record::{CountryTag, Eu4Date};
+use search::SortedKeys;
 
 // Tags of one cell of the table begin with the same two bytes; the first byte tells one of so many cells.
 const SECOND_BYTES: u64 = 78;
 
 // How many cells of 16 bits such a table has: one for each cell of tags, and two behind the last.
-pub(crate) const STARTS: usize = 6086;
+pub(crate) const STARTS: usize = (SECOND_BYTES * SECOND_BYTES) as usize + 2;
 
 // From so many changes on it takes less time to make the hints than to search without them.
 const HINTS_FROM: usize = 128;
@@ -22,7 +23,7 @@ const FIRST_CELL: u64 = 61981;
 
 // The cell of a tag's word. Tag bytes lie within 78 of each other, so a later cell has later tags.
 fn start_cell(word: u64) -> usize
-    ensures { result < half }
+    ensures { result < short_span }
 {
     ((word / 65536 % 256 * SECOND_BYTES + word / 256 % 256 + FIRST_CELL) % 65536) as usize
 }
@@ -54,22 +55,27 @@ pub(crate) fn note_starts(keys: &[u64], changes: usize, starts: &mut [u16]) {
     raise_starts(starts);
 }
 
-// The hint in a cell, 0 where there is no such cell.
+// The hint in a cell, 0 where there is no such cell: a hint is tested before use, so any number will do.
 fn hint(starts: &[u16], cell: usize) -> usize {
     usize::from(starts.get(cell).copied().unwrap_or(0))
 }
 
 // The row of the country that a change settles to, or none where it settles to a tag that is no country's: by the keys of switches and
 // countries, and hints where those of a cell of tags begin.
-pub(crate) fn holder_row(keys: &[u64], starts: &[u16], to: CountryTag, date: Eu4Date) -> Option<u16>
-    requires { (sort_by leb keys.now ≡ keys.now) × (to.0 < key_tags) }
-    ensures { RowHolds keys.now to date (unwrap_or result no_row) }
+pub(crate) fn holder_row(
+    sorted: SortedKeys<'_>,
+    starts: &[u16],
+    to: CountryTag,
+    date: Eu4Date,
+) -> Option<u16>
+    requires { to.0 < key_tags }
+    ensures { option_of result ≡ settling_row sorted.entry.keys.now to date }
 {
     let low = keys::settling_key(to, date, 0);
     let word = u64::from(u32::from(to));
     let cell = start_cell(word);
     lookup::first_within(
-        keys,
+        sorted,
         low,
         (word + 1) * TAG_SPAN,
         hint(starts, cell)..hint(starts, cell + 1),

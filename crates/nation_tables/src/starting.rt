@@ -1,40 +1,41 @@
 // The holders of the slots at the start, by the rows of countries.
-ghost use Rattle.std.specs.Prelude.{◌≡◌, true, leb, ltb, length, unwrap_or};
+ghost use Rattle.std.specs.Prelude.{◌≡◌, true, ltb, length};
 ghost use Rattle.lists.specs.Lists.{all_of};
-ghost use Rattle.sorting.specs.Sort.{sort_by};
+ghost use Rattle.lists.specs.Options.{option_of};
 ghost use Rattle.record.specs.Cursors.{provinces_left};
-ghost use Rattle.nation_tables.specs.Layout.{no_row};
-ghost use Rattle.nation_tables.specs.Countries.{initial_row};
+ghost use Rattle.nation_tables.specs.Layout.{row_number};
+ghost use Rattle.nation_tables.specs.Countries.{initial_number};
 ghost use Rattle.nation_tables.specs.Starting.{put_owners, Slotted, Started};
 
 use crate::countries;
 use crate::layout::NO_ROW;
 use record::{CountryTag, Provinces};
+use search::SortedKeys;
 
 // The cell of a row, or of none.
 fn row_cell(row: Option<u16>) -> u64
-    ensures { result ≡ unwrap_or row no_row }
+    ensures { result ≡ row_number (option_of row) }
 {
     u64::from(row.unwrap_or(NO_ROW))
 }
 
 // Gives the slot of each province the row that its owner maps to, by the keys of initials.
-fn put_owners(provinces: Provinces, keys: &[u64], rows: &mut [u64])
-    requires { (sort_by leb keys.now ≡ keys.now) × (all_of (λ p. ltb p.id.0 (length rows.old)) (provinces_left provinces) ≡ true) }
-    ensures { rows.new ≡ put_owners (initial_row keys.now) (provinces_left provinces.entry) rows.old }
+fn put_owners(provinces: Provinces, initials: SortedKeys<'_>, rows: &mut [u64])
+    requires { all_of (λ p. ltb p.id.0 (length rows.old)) (provinces_left provinces) ≡ true }
+    ensures { rows.new ≡ put_owners (initial_number initials.entry.keys.now) (provinces_left provinces.entry) rows.old }
 {
     for province in provinces {
         let at = u32::from(province.id) as usize;
-        rows[at] = row_cell(countries::mapped_row(keys, province.owner));
+        rows[at] = row_cell(countries::mapped_row(initials, province.owner));
     }
 }
 
 // Writes the row of each slot's holder at the start, or NO_ROW: of the country that the slot's tag maps to, by the keys of initials.
 // A slot without a province has the tag `---`.
-pub(crate) fn start_rows(provinces: Provinces, keys: &[u64], rows: &mut [u64])
-    requires { (sort_by leb keys.now ≡ keys.now) × Slotted (length rows.old) (provinces_left provinces) }
-    ensures { Started keys.now (provinces_left provinces.entry) (length rows.old) rows.new }
+pub(crate) fn start_rows(provinces: Provinces, initials: SortedKeys<'_>, rows: &mut [u64])
+    requires { Slotted (length rows.old) (provinces_left provinces) }
+    ensures { Started initials.entry.keys.now (provinces_left provinces.entry) (length rows.old) rows.new }
 {
-    rows.fill(row_cell(countries::mapped_row(keys, CountryTag::NONE)));
-    put_owners(provinces, keys, rows);
+    rows.fill(row_cell(countries::mapped_row(initials, CountryTag::NONE)));
+    put_owners(provinces, initials, rows);
 }

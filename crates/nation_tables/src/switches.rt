@@ -4,11 +4,12 @@ ghost use Rattle.lists.specs.Lists.{All};
 ghost use Rattle.record.specs.Cursors.{countries_left, switches_left, previous_left};
 ghost use Rattle.rules.specs.Lent.{written};
 ghost use Rattle.rules.specs.Nations.{initial_from};
-ghost use Rattle.nation_tables.specs.Layout.{key_rows, key_numbers};
-ghost use Rattle.nation_tables.specs.Countries.{Keyed, with_own, settling_keys_from, settling_keys, Filled, FilledFrom};
+ghost use Rattle.nation_tables.specs.Layout.{key_rows};
+ghost use Rattle.nation_tables.specs.Countries.{settling_keys_from, settling_keys, Filled, FilledFrom};
 ghost use Rattle.nation_tables.specs.Switches.{PlacedSwitch, placed, own_placed, from_key, FromFits, place_key, NumberFits};
 ghost use Rattle.nation_tables.specs.Switches.{runs_from, run_keys, chain_words, target_words};
 
+use crate::countries::KeyedCountries;
 use crate::keys;
 use crate::layout::LAST_DATE;
 use record::{Countries, CountryTag, Eu4Date, PreviousTags, Switch, Switches};
@@ -51,7 +52,8 @@ impl SwitchOrder for ByRow {
     }
 }
 
-// Writes the keys of one country's switches from a place on, which is the number of the first, and returns the place behind them.
+// Writes the keys of one country's switches from a place on, which is the number of the first, and returns the place behind them: so it is
+// counted by hand, here and below.
 fn own_keys<K: SwitchOrder>(switches: Switches, row: u64, cells: &mut [u64], at: usize) -> usize
     requires { (row < key_rows) × (at + length (switches_left switches) ≤ length cells.old) × All K.fits (own_placed row at (switches_left switches)) }
     ensures { FilledFrom (map K.key_of (own_placed row at (switches_left switches.entry))) at result cells.old cells.new }
@@ -66,56 +68,54 @@ fn own_keys<K: SwitchOrder>(switches: Switches, row: u64, cells: &mut [u64], at:
 
 // Writes the keys that changes settle by, in the order of the rows, and returns how many there are: those of a country's switches by the tag
 // that was left, and behind them one from its own tag, dated behind every date.
-fn all_settling_keys(countries: Countries, cells: &mut [u64]) -> usize
-    requires { Keyed (map with_own (countries_left countries)) × (length (settling_keys_from 0 (countries_left countries)) ≤ length cells.old) }
-    ensures { Filled (settling_keys_from 0 (countries_left countries.entry)) result cells.old cells.new }
+fn all_settling_keys(all: KeyedCountries<'_>, cells: &mut [u64]) -> usize
+    requires { length (settling_keys_from 0 (countries_left all.countries)) ≤ length cells.old }
+    ensures { Filled (settling_keys_from 0 (countries_left all.entry.countries)) result cells.old cells.new }
 {
-    let mut row = 0;
     let mut k = 0;
-    for country in countries {
-        k = own_keys::<ByFrom>(country.switches, row, cells, k);
-        cells[k] = keys::settling_key(country.tag, Eu4Date::kept(LAST_DATE), row);
+    for (row, country) in all.countries.enumerate() {
+        k = own_keys::<ByFrom>(country.switches, row as u64, cells, k);
+        cells[k] = keys::settling_key(country.tag, Eu4Date::kept(LAST_DATE), row as u64);
         k += 1;
-        row += 1;
     }
     k
 }
 
 // Writes the keys that changes settle by, in order, and returns how many there are. The scratch is to have room for as many.
-pub(crate) fn settling_keys(countries: Countries, cells: &mut [u64], scratch: &mut [u64]) -> usize
-    requires { Keyed (map with_own (countries_left countries)) × (length (settling_keys_from 0 (countries_left countries)) ≤ length cells.old) }
-    ensures { Filled (settling_keys (countries_left countries.entry)) result cells.old cells.new }
+pub(crate) fn settling_keys(
+    all: KeyedCountries<'_>,
+    cells: &mut [u64],
+    scratch: &mut [u64],
+) -> usize
+    requires { length (settling_keys_from 0 (countries_left all.countries)) ≤ length cells.old }
+    ensures { Filled (settling_keys (countries_left all.entry.countries)) result cells.old cells.new }
 {
-    let n = all_settling_keys(countries, cells);
-    spreading::spread_sort(&mut cells[0..n], scratch);
+    let n = all_settling_keys(all, cells);
+    spreading::spread_sort(&mut cells[..n], scratch);
     n
 }
 
 // Writes the keys of all switches by the rows of their countries, in the order of the rows, and returns how many there are. What it shares with
 // the keys above is the call for one country: there a country's own key comes behind it, which here would have to be none.
-fn all_run_keys(countries: Countries, cells: &mut [u64]) -> usize
-    requires countries_len_bound { (length (countries_left countries) ≤ key_rows) × (length (runs_from 0 0 (countries_left countries)) ≤ key_numbers) }
-    requires countries_in_bounds { length (runs_from 0 0 (countries_left countries)) ≤ length cells.old }
-    ensures { Filled (runs_from 0 0 (countries_left countries.entry)) result cells.old cells.new }
+fn all_run_keys(all: KeyedCountries<'_>, cells: &mut [u64]) -> usize
+    requires { length (runs_from 0 0 (countries_left all.countries)) ≤ length cells.old }
+    ensures { Filled (runs_from 0 0 (countries_left all.entry.countries)) result cells.old cells.new }
 {
-    let mut row = 0;
     let mut k = 0;
-    for country in countries {
-        k = own_keys::<ByRow>(country.switches, row, cells, k);
-        row += 1;
+    for (row, country) in all.countries.enumerate() {
+        k = own_keys::<ByRow>(country.switches, row as u64, cells, k);
     }
     k
 }
 
-// The keys of all switches by the rows of their countries, in order, and how many there are. The scratch is to have room for as many. With the
+// Writes the keys of all switches by the rows of their countries, in order, and returns how many there are. The scratch is to have room for as many. With the
 // settling keys it shares the call that sorts, and no condition or promise.
-pub(crate) fn run_keys(countries: Countries, keys: &mut [u64], scratch: &mut [u64]) -> usize
-    requires countries_len_bound { (length (countries_left countries) ≤ key_rows) × (length (runs_from 0 0 (countries_left countries)) ≤ key_numbers) }
-    requires countries_in_bounds { length (runs_from 0 0 (countries_left countries)) ≤ length keys.old }
-    ensures { Filled (run_keys (countries_left countries.entry)) result keys.old keys.new }
+pub(crate) fn run_keys(all: KeyedCountries<'_>, keys: &mut [u64], scratch: &mut [u64]) -> usize
+    requires { length (runs_from 0 0 (countries_left all.countries)) ≤ length keys.old }
+    ensures { Filled (run_keys (countries_left all.entry.countries)) result keys.old keys.new }
 {
-    let n = all_run_keys(countries, keys);
-    spreading::spread_sort(&mut keys[0..n], scratch);
+    let n = all_run_keys(all, keys);
+    spreading::spread_sort(&mut keys[..n], scratch);
     n
 }
 

@@ -10,27 +10,19 @@ use Rattle.rules.specs.Lent.{written, refused}
 use Rattle.rules.specs.Changes.{change_width, changes_of, change_rows}
 use Rattle.rules.specs.Nations.{nations_of, holders_of}
 use Rattle.rules.specs.Outcomes.{call_nation_events}
-use Rattle.change_keys.specs.ChangeSteps.{AtFirstProvince, entered, most_changes, change_keys_from}
+use Rattle.change_keys.specs.ChangeSteps.{AtFirstProvince, entered, change_keys_from}
 use Rattle.nation_tables.specs.declared.gathering.TableSizes.{TableSizes}
-use Rattle.nation_tables.specs.Layout.{most_settling, rows_within}
+use Rattle.nation_tables.specs.declared.layout.Turn.{Turn}
+use Rattle.nation_tables.specs.Layout.{most_countries, most_slots}
 use Rattle.nation_tables.specs.Holders.{slot_cells, SlotsPut}
 use Rattle.nation_tables.specs.Gathering.{fronts_of}
-use Rattle.nation_listing.specs.declared.listing.Listed.{Listed}
+use Rattle.nation_listing.specs.declared.placing.Listed.{Listed}
 use Rattle.chronicle_rows.specs.declared.counts.NationCounts.{NationCounts}
 use Rattle.nations.specs.declared.telling.NationsTold.{NationsTold}
 use Rattle.nations.specs.Cases.{nation_cells}
 use Rattle.nation_listing.specs.Listing.{nations_at}
 use Rattle.nation_listing.specs.Reading.{is_readable}
 use Rattle.nation_listing.specs.Placing.{PlacedRows, placed_told}
-
--- ## Cells for the tables
-
--- Room for the tables of changes and switches of any record of so many bytes.
-pub record RowsRoom (bytes : ℕ) (runs₀ keys₀ cells₀ turns₀ : List ℕ) : Type 0 where
-  pub runs : rows_within most_settling bytes ≤ length runs₀
-  pub keys : rows_within most_changes bytes ≤ length keys₀
-  pub cells : rows_within most_changes bytes ≤ length cells₀
-  pub turns : rows_within most_changes bytes ≤ length turns₀
 
 -- ## Room
 
@@ -40,36 +32,32 @@ rest_for z holders held changes = leb z.slots holders && leb z.countries held &&
 
 -- ## Nations
 
--- The fronts of the tables that nations are read from lie inside.
-pub record FrontsInside (z : TableSizes) (words₀ initials₀ runs₀ targets₀ started₀ keys₀ turns₀ : List ℕ) : Type 0 where
-  pub words : z.countries ≤ length words₀
-  pub initials : z.countries ≤ length initials₀
-  pub runs : z.switches ≤ length runs₀
-  pub targets : z.switches ≤ length targets₀
-  pub started : z.countries ≤ length started₀
-  pub keys : z.changes ≤ length keys₀
-  pub turns : z.changes ≤ length turns₀
+-- The fronts of the tables that nations are read from lie inside, with cells for m keys that changes settle by and for n changes.
+pub record FrontsInside (z : TableSizes) (m n : ℕ) : Type 0 where
+  pub countries : z.countries ≤ most_countries
+  pub runs : z.switches ≤ m
+  pub targets : z.switches ≤ n
+  pub changes : z.changes ≤ n
 
 -- Whether the fronts can be read.
-abbrev pub fronts_readable : TableSizes → List ℕ → List ℕ → List ℕ → List ℕ → List ℕ → List ℕ → List ℕ → Bool
+abbrev pub fronts_readable : TableSizes → List ℕ → List ℕ → List ℕ → List Turn → List ℕ → List ℕ → List Turn → Bool
 fronts_readable z words initials runs firsts started keys turns =
     is_readable (take z.countries words) (take z.countries initials) (take z.switches runs) firsts (take z.countries started)
     (take z.changes keys) (take z.changes turns)
 
 -- The nations that they tell, placed.
-abbrev pub fronts_placed : TableSizes → List ℕ → List ℕ → List ℕ → List ℕ → List ℕ → List ℕ → List ℕ → List ℕ → code.Result Listed Refusal → List ℕ → List ℕ → List ℕ → List ℕ → Type 0
+abbrev pub fronts_placed : TableSizes → List ℕ → List ℕ → List ℕ → List ℕ → List Turn → List ℕ → List ℕ → List Turn → code.Result Listed Refusal → List ℕ → List ℕ → List ℕ → List ℕ → Type 0
 fronts_placed z words initials runs targets firsts started keys turns r rows₀ rows₁ entries₀ entries₁ =
     placed_told (fronts_readable z words initials runs firsts started keys turns)
     (nations_at (fronts_of z words initials runs targets firsts started keys turns) (take z.countries initials)) r rows₀ rows₁ entries₀ entries₁
 
 -- ## Slots and changes
 
--- The fronts of the slots and of the sorted keys of an accepted record, and a cell for each change.
-pub record RestReady (xs : List ℕ) (provinces₀ : Provinces) (z : TableSizes) (slots₀ keys₀ cells₀ : List ℕ) : Type 0 where
+-- The fronts of the slots and of the sorted keys of an accepted record, which lie inside, with cells for n changes.
+pub record RestReady (xs : List ℕ) (provinces₀ : Provinces) (z : TableSizes) (slots₀ keys₀ : List ℕ) (n : ℕ) : Type 0 where
   pub ready : AtFirstProvince xs provinces₀
-  pub slots : z.slots ≤ length slots₀
-  pub keys : z.changes ≤ length keys₀
-  pub cells : z.changes ≤ length cells₀
+  pub slots : z.slots ≤ most_slots
+  pub changes : z.changes ≤ n
   pub sorted : take z.changes keys₀ ≡ sort_by leb (change_keys_from 0 (entered xs))
 
 -- The holders, the slots held and the changes are written.
@@ -84,12 +72,12 @@ counts_from z r = record { nations = r.nations; entries = r.entries; slots = z.s
 -- ## All but the rest
 
 -- The nations of an accepted record are written, slices of three lengths have room for the rest, and the tables for it are there.
-pub record NationsPlaced (xs : List ℕ) (holders held changes : ℕ) (z : TableSizes) (provinces₀ : Provinces) (r : Listed) (slots₁ keys₁ cells₁ rows₀ rows₁ entries₀ entries₁ : List ℕ) : Type 0 where
+pub record NationsPlaced (xs : List ℕ) (holders held changes : ℕ) (z : TableSizes) (provinces₀ : Provinces) (r : Listed) (slots₁ keys₁ : List ℕ) (n : ℕ) (rows₀ rows₁ entries₀ entries₁ : List ℕ) : Type 0 where
   pub countries : z.countries ≡ length (campaign_of xs).countries
   pub counted : z.changes ≡ length (changes_of (campaign_of xs))
   pub slotted : z.slots ≡ suc (length (campaign_of xs).provinces)
   pub slots : take z.slots slots₁ ≡ slot_cells (campaign_of xs) (holders_of (campaign_of xs))
-  pub ready : RestReady xs provinces₀ z slots₁ keys₁ cells₁
+  pub ready : RestReady xs provinces₀ z slots₁ keys₁ n
   pub rest : rest_for z holders held changes ≡ true
   pub placed : PlacedRows (nations_of (campaign_of xs)) r rows₀ rows₁ entries₀ entries₁
 
@@ -100,8 +88,8 @@ pub record RefusedBy (xs : List ℕ) (holders held changes n : ℕ) (rows₀ row
       ≡ call_nation_events xs (nation_cells rows₀ entries₀ holders₀ held₀ changes₀)
 
 -- What is told: the nations placed, or by what number the call refuses.
-abbrev pub nations_told : List ℕ → ℕ → ℕ → ℕ → code.Result NationsTold Refusal → List ℕ → List ℕ → List ℕ → List ℕ → List ℕ → List ℕ → List ℕ → Type 0
-nations_told xs holders held changes (Ok t) slots keys cells rows₀ rows₁ entries₀ entries₁ =
-    NationsPlaced xs holders held changes t.sizes t.provinces t.listed slots keys cells rows₀ rows₁ entries₀ entries₁
-nations_told xs holders held changes (Err e) slots keys cells rows₀ rows₁ entries₀ entries₁ =
+abbrev pub nations_told : List ℕ → ℕ → ℕ → ℕ → code.Result NationsTold Refusal → List ℕ → List ℕ → ℕ → List ℕ → List ℕ → List ℕ → List ℕ → Type 0
+nations_told xs holders held changes (Ok t) slots keys n rows₀ rows₁ entries₀ entries₁ =
+    NationsPlaced xs holders held changes t.sizes t.provinces t.listed slots keys n rows₀ rows₁ entries₀ entries₁
+nations_told xs holders held changes (Err e) slots keys n rows₀ rows₁ entries₀ entries₁ =
     RefusedBy xs holders held changes (refusal_number e) rows₀ rows₁ entries₀ entries₁

@@ -1,40 +1,39 @@
 // The rest of the answer, written once there is room for all: who holds each slot, how many slots each country holds, and the changes.
-ghost use Rattle.std.specs.Prelude.{◌≡◌, List, ℕ, ◌*◌, ◌≤◌, ◌<◌, length, take};
+ghost use Rattle.std.specs.Prelude.{◌≡◌, List, ℕ, ◌*◌, ◌≤◌, length, take};
 ghost use Rattle.rules.specs.Changes.{change_width};
-ghost use Rattle.nation_tables.specs.Layout.{word_span};
 ghost use Rattle.nation_tables.specs.Holders.{SlotsRoom};
 ghost use Rattle.nations.specs.NationSteps.{rest_for, RestReady, RestWritten};
 
 use change_keys::CHANGE_WIDTH;
-use nation_tables::TableSizes;
+use nation_tables::{TableCells, TableSizes};
 use record::Provinces;
 
-// Whether slices of these lengths have room for the slots, the countries and the changes.
+// Whether slices of these lengths have room for the slots, the countries and the changes. By division: of any number of changes the product may
+// not fit.
 pub(crate) fn rest_fits(sizes: TableSizes, holders: usize, held: usize, changes: usize) -> bool
-    requires { sizes.changes < word_span }
     ensures { result ≡ rest_for sizes holders held changes }
 {
-    (sizes.slots <= holders) & (sizes.countries <= held) & (CHANGE_WIDTH * sizes.changes <= changes)
+    (sizes.slots <= holders) & (sizes.countries <= held) & (sizes.changes <= changes / CHANGE_WIDTH)
 }
 
-// Writes the holder of each slot, the slots held by each country, and the changes. The cells serve for the tags of the changes. The
-// three slices of the caller and the three tables are lent one by one: two calls share them out.
-pub(crate) fn write_rest(
+// Writes the holder of each slot, the slots held by each country, and the changes. The cells serve for the tags of the changes.
+pub(crate) fn write_rest<const KEYS: usize, const CHANGES: usize>(
     provinces: Provinces,
     sizes: TableSizes,
-    slots: &[u64],
-    keys: &[u64],
-    cells: &mut [u64],
+    tables: &mut TableCells<KEYS, CHANGES>,
     holders: &mut [u32],
     held: &mut [u32],
     changes: &mut [u32],
 )
-    requires rest_ready { (xs : List ℕ) × RestReady xs provinces sizes slots.now keys.now cells.old }
-    requires slots_room { SlotsRoom (take sizes.slots slots.now) sizes.countries holders.old held.old × (change_width * sizes.changes ≤ length changes.old) }
-    ensures { (xs : List ℕ) → RestReady xs provinces.entry sizes slots.now keys.now cells.old → RestWritten xs sizes slots.now holders.old holders.new held.old held.new changes.old changes.new }
+    requires rest_ready { (xs : List ℕ) × RestReady xs provinces sizes tables.old.slots tables.old.keys CHANGES }
+    requires slots_room { SlotsRoom (take sizes.slots tables.old.slots) sizes.countries holders.old held.old × (change_width * sizes.changes ≤ length changes.old) }
+    ensures { (xs : List ℕ) → RestReady xs provinces.entry sizes tables.old.slots tables.old.keys CHANGES → RestWritten xs sizes tables.old.slots holders.old holders.new held.old held.new changes.old changes.new }
 {
     let p = sizes.slots;
     let n = sizes.changes;
-    nation_tables::write_slots(&slots[0..p], sizes.countries, holders, held);
-    change_rows::write_sorted(provinces, &keys[0..n], &mut cells[0..n], changes);
+    nation_tables::write_slots(&tables.slots[..p], sizes.countries, holders, held);
+    // Whole slices first: from these a proof knows how many cells there are, and the borrow checker covers no `&mut` part of an array's field.
+    let keys = &tables.keys[..];
+    let cells = &mut tables.cells[..];
+    change_rows::write_sorted(provinces, &keys[..n], &mut cells[..n], changes);
 }

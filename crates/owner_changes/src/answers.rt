@@ -25,7 +25,7 @@ pub struct DateRun {
     pub count: usize,
 }
 
-// How many changes are before the day, and how many are on it: their order does not matter.
+// How many changes are before the day, and how many are on it: their order does not matter. By one loop: two filters would find each change twice.
 fn count_on(provinces: Provinces, day: Eu4Date) -> DateRun
     requires { length (changes_ahead provinces) ≤ most_changes }
     ensures { run_of result ≡ events_on (changes_ahead provinces.entry) day }

@@ -4,4 +4,3 @@
 mod answers;
 
 pub use answers::{DateRun, events_on, province_owners};
-pub use change_rows::write_sorted;

@@ -1,4 +1,4 @@
-// What the Rust host calls, over slices, with numbers for answers. Crate page_c exports these functions for C.
+// What crate page_c exports for C, and the Rust host calls so: over slices, with numbers for answers.
 #![tactic(auto)]
 
 mod booking;

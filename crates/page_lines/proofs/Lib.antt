@@ -1,3 +1,3 @@
 pub mod DecimalLaws
-pub mod StatusLaws
+pub mod LengthLaws
 pub mod SelectionLaws

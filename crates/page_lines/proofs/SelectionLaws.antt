@@ -1,14 +1,16 @@
 -- A selection read line by line, four bytes each.
-use Rattle.std.proofs.Common.{◌≡◌, refl, sym, ap, ◌∙◌, ℕ, zero, suc, ◌+◌, ◌*◌, ◌%◌, ◌/◌, ◌≤◌, ◌<◌, List, [], ◌∷◌, map, length, take, drop, get_or, Bool, true, false, cond, ◌&&◌, eqb, arith}
+use Rattle.std.proofs.Common.{◌≡◌, refl, sym, ap, ◌∙◌, ℕ, zero, suc, ◌+◌, ◌*◌, ◌%◌, ◌/◌, ◌<◌, List, [], ◌∷◌, map, length, Bool, true, false, cond, ◌&&◌, eqb, arith}
 use Rattle.std.proofs.Math.Option.{Option, none, some}
+use borrow.Author.Tests.{eqb-true, eqb-false}
 use Rattle.std.specs.Simd.{first_chunks}
+use Rattle.std.specs.Bool.{then_some}
 use Rattle.std.specs.List.{list_all}
-use Rattle.lists.proofs.BoolLaws.{cases}
 use Rattle.format.specs.declared.tag.CountryTag.{CountryTag}
 use Rattle.format.specs.Tags.{is_tag, tag_of, created}
 use Rattle.format.specs.Bytes.{tag_at}
 use Rattle.rules.specs.Page.{one_more, selection_of}
-use Rattle.page_lines.specs.Selecting.{is_line}
+use Rattle.page_lines.specs.declared.selection.SelectedTags.{SelectedTags}
+use Rattle.page_lines.specs.Selecting.{is_line, tags_left, IsTags}
 
 -- One line more, by what it is.
 one-line : (good feed : Bool) (t : CountryTag) (rest : Option (List CountryTag)) (all : Bool) (tags : List CountryTag)
@@ -21,7 +23,7 @@ one-line false true t rest all tags e = refl
 one-line false false t rest all tags e = refl
 
 -- Whole lines: the tags of all of them, if each is a tag's.
-pub lines_read : (n : ℕ) (xs : List ℕ) → length xs ≡ n * 4
+lines_read : (n : ℕ) (xs : List ℕ) → length xs ≡ n * 4
     → selection_of xs ≡ cond (list_all is_line (first_chunks 4 n xs)) (some (map (λ line. tag_at line 0) (first_chunks 4 n xs))) none
 unfolding selection_of created tag_at is_line
 lines_read zero [] e = refl
@@ -35,7 +37,7 @@ lines_read (suc n) (a ∷ b ∷ c ∷ d ∷ xs) e =
     (lines_read n xs (omega (arith, e)))
 
 -- With bytes behind the last whole line it is no tags.
-pub torn_read : (n : ℕ) (xs : List ℕ) → n * 4 < length xs → length xs < n * 4 + 4 → selection_of xs ≡ none
+torn_read : (n : ℕ) (xs : List ℕ) → n * 4 < length xs → length xs < n * 4 + 4 → selection_of xs ≡ none
 unfolding selection_of
 torn_read n [] p q = absurd (omega (arith, p))
 torn_read n (a ∷ []) p q = refl
@@ -50,3 +52,20 @@ torn_read (suc n) (a ∷ b ∷ c ∷ d ∷ xs) p q =
     unread none feed = refl
     unread (some t) false = refl
     unread (some t) true = refl
+
+-- All bytes: tags, if there is nothing behind the whole lines, and each of these is a tag's.
+tags-told : (xs : List ℕ) (whole : Bool) → whole ≡ eqb (length xs % 4) 0
+    → selection_of xs
+    ≡ cond (whole && list_all is_line (first_chunks 4 (length xs / 4) xs)) (some (map (λ line. tag_at line 0) (first_chunks 4 (length xs / 4) xs))) none
+tags-told xs true e = let none-over = eqb-true (length xs % 4) 0 (sym e) in lines_read (length xs / 4) xs (omega (arith, none-over))
+tags-told xs false e = let over = eqb-false (length xs % 4) 0 (sym e) in torn_read (length xs / 4) xs (omega (arith, over)) (omega arith)
+
+-- The answer of a test, by what the bytes are.
+answered : (xs : List ℕ) (tested : Bool) (tags : SelectedTags) → selection_of xs ≡ cond tested (some (tags_left tags)) none → IsTags xs (then_some tested tags)
+answered xs true tags e = e
+answered xs false tags e = e
+
+pub is-read : (xs : List ℕ) (whole good : Bool) (tags : SelectedTags) → whole ≡ eqb (length xs % 4) 0 → tags.lines.now ≡ first_chunks 4 (length xs / 4) xs
+    → good ≡ list_all is_line tags.lines.now → IsTags xs (then_some (whole && good) tags)
+is-read xs whole good tags e lines each =
+    answered xs (whole && good) tags (rw (each, lines) (tags-told xs whole e))

@@ -25,10 +25,14 @@ row_line r living = tag_field r.stored ++ (tag_field r.initial ++ (tag_field r.l
 abbrev pub absent_line : CountryTag → List ℕ
 absent_line t = tag_field t ++ ascii "absent\n"
 
+-- A line of a word and a number.
+abbrev pub counted_line : List ℕ → ℕ → List ℕ
+counted_line word number = word ++ (decimal number ++ (10 ∷ []))
+
 -- The first line, of so many tags.
 abbrev pub heading : ℕ → List ℕ
-heading count = ascii "selected " ++ (decimal count ++ (10 ∷ []))
+heading = counted_line (ascii "selected ")
 
 -- The line of a refusal.
 abbrev pub refused_line : ℕ → List ℕ
-refused_line n = ascii "refused " ++ (decimal n ++ (10 ∷ []))
+refused_line = counted_line (ascii "refused ")

@@ -4,5 +4,7 @@
 mod lines;
 mod selection;
 
-pub use lines::{LONGEST_LINE, Line, absent_line, heading, refused_line, row_line};
+pub use lines::{
+    FEW_ENTRIES, LONGEST_LINE, Line, SHORT_LINE, absent_line, heading, refused_line, row_line,
+};
 pub use selection::{SelectedTags, read_selection};

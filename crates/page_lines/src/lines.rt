@@ -3,7 +3,7 @@ ghost use Rattle.std.specs.Prelude.{◌≡◌, ◌++◌, ◌+◌, ◌≤◌, ◌
 ghost use Rattle.arrayvec.specs.ArrayVec.{array_vec_len};
 ghost use Rattle.rules.specs.Page.{decimal};
 ghost use Rattle.chronicle_rows.specs.Cases.{nation_told};
-ghost use Rattle.page_lines.specs.Lines.{tag_field, status_field, row_line, absent_line, heading, refused_line};
+ghost use Rattle.page_lines.specs.Lines.{tag_field, status_field, row_line, absent_line, counted_line, heading, refused_line};
 
 use arrayvec::ArrayVec;
 use chronicle_rows::Nation;
@@ -12,6 +12,12 @@ use itoa::Buffer;
 
 // No line has more bytes than a nation's: three tags with a space behind each, a count of ten digits, and its status.
 pub const LONGEST_LINE: usize = 31;
+
+// The count of fewer entries has at most four digits.
+pub const FEW_ENTRIES: u32 = 10_000;
+
+// Of a nation with so few entries no line has more bytes.
+pub const SHORT_LINE: usize = 25;
 
 // The bytes of a line, in an array of their own.
 pub type Line = ArrayVec<u8, LONGEST_LINE>;
@@ -40,16 +46,24 @@ fn status(living: bool) -> &'static [u8]
     if living { b" living\n" } else { b" annexed\n" }
 }
 
+// A line of a word and a number.
+#[tactic(auto, using(crate::proofs::DecimalLaws::decimal_same, std::proofs::Common::append_assoc))]
+fn counted_line(word: &[u8], number: u64) -> Line
+    requires { length word.now ≤ 10 }
+    ensures { result.items ≡ counted_line word.now number }
+{
+    let mut line = Line::new();
+    put(&mut line, word);
+    put(&mut line, Buffer::new().format(number).as_bytes());
+    put(&mut line, b"\n");
+    line
+}
+
 // The first line of the page: how many tags were selected.
-#[tactic(auto, using(crate::proofs::DecimalLaws::decimal_same))]
 pub fn heading(count: usize) -> Line
     ensures { result.items ≡ heading count }
 {
-    let mut line = Line::new();
-    put(&mut line, b"selected ");
-    put(&mut line, Buffer::new().format(count).as_bytes());
-    put(&mut line, b"\n");
-    line
+    counted_line(b"selected ", count as u64)
 }
 
 // The line of a nation: its tags, its entries counted, and whether it lives.
@@ -77,13 +91,8 @@ pub fn absent_line(tag: CountryTag) -> Line
 }
 
 // The line of a refusal, by its number.
-#[tactic(auto, using(crate::proofs::DecimalLaws::decimal_same))]
 pub fn refused_line(number: u32) -> Line
     ensures { result.items ≡ refused_line number }
 {
-    let mut line = Line::new();
-    put(&mut line, b"refused ");
-    put(&mut line, Buffer::new().format(number).as_bytes());
-    put(&mut line, b"\n");
-    line
+    counted_line(b"refused ", u64::from(number))
 }

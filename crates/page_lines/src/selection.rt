@@ -10,7 +10,8 @@ use format::CountryTag;
 // How many bytes a tag takes with its line feed.
 const TAG_LINE: usize = 4;
 
-// The tags of a selection, one by one, each on a line of its own.
+// The tags of a selection, one by one, each on a line of its own. `as_chunks` with `map` is no plainer: the type of the closure has no name, so each
+// function that is passed the tags would be generic. `record::Packed` reads rows of bytes too, but is not below this crate.
 #[derive(Clone, Copy)]
 pub struct SelectedTags<'a> {
     lines: &'a [[u8; TAG_LINE]],
@@ -44,14 +45,7 @@ pub fn read_selection(selection: &[u8]) -> Option<SelectedTags<'_>>
     ensures { IsTags selection.now result }
 {
     let (lines, rest) = selection.as_chunks();
-    if 0 < rest.len() {
-        return None;
-    }
-    if are_tag_lines(lines) {
-        Some(SelectedTags { lines })
-    } else {
-        None
-    }
+    (rest.is_empty() & are_tag_lines(lines)).then_some(SelectedTags { lines })
 }
 
 impl SelectedTags<'_> {

@@ -1,5 +1,5 @@
 -- A text put behind what stands at the front.
-use Rattle.std.proofs.Common.{◌≡◌, sym, ap, ap₂, ◌∙◌, ℕ, ◌+◌, ◌≤◌, List, ◌++◌, length, take, drop, length-append, length-take, arith, append_assoc}
+use Rattle.std.proofs.Common.{◌≡◌, sym, ap, ◌∙◌, ℕ, ◌+◌, ◌≤◌, List, ◌++◌, length, take, drop, length-append, arith, append_assoc}
 use lib.Seq.{take_at, drop_at, length-take-le, drop-drop}
 
 module _ (k : ℕ) (out line rest all before : List ℕ) (room : k + length line ≤ length out) where

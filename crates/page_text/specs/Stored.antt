@@ -1,18 +1,20 @@
 -- Tables of nations, and the line of a tag by them: inner steps, which no promise of a call of 01 cites.
-use Rattle.std.specs.Prelude.{◌≡◌, Bool, false, List, ℕ, ◌≤◌, leb, length, take, get_or}
+use Rattle.std.specs.Prelude.{◌≡◌, Bool, false, List, map, ℕ, ◌≤◌, leb, length, get_or}
 use Rattle.std.proofs.Math.Option.{Option, none, some}
 use Rattle.lists.specs.Lists.{join_of}
 use Rattle.sorting.specs.Sort.{sort_by}
 use Rattle.format.specs.declared.tag.CountryTag.{CountryTag}
 use Rattle.rules.specs.NationRows.{nation_rows_in}
+use Rattle.chronicle_rows.specs.declared.rows.LentRows.{LentRows}
+use Rattle.chronicle_rows.specs.declared.rows.Nation.{Nation}
+use Rattle.chronicle_rows.specs.Cases.{nation_of}
 use Rattle.chronicle_rows.specs.RowAt.{nation_row_at, tags_stored}
 use Rattle.search.specs.Places.{tag_keys_from, place_from}
 use Rattle.page_lines.specs.Lines.{row_line, absent_line}
 
--- The first of the keys are those of the stored tags, in order.
-pub record KeysSorted (ws keys : List ℕ) : Type 0 where
-  pub long : length keys ≡ 2000
-  pub cells : take (length (nation_rows_in ws)) keys ≡ sort_by leb (tag_keys_from 0 (tags_stored ws))
+-- The tags that the nations which an iterator has left are stored under.
+abbrev pub stored_left : LentRows Nation 5 → List CountryTag
+stored_left rows = map (λ n. n.stored) (map nation_of rows.rows.now)
 
 -- What the line of a tag is found by: the sorted keys of all nations, and a status cell for each.
 pub record LineTables (ws keys : List ℕ) (cells : List Bool) : Type 0 where

@@ -6,5 +6,4 @@ mod stored;
 mod text;
 
 pub use status::is_living;
-pub use stored::MOST_NATIONS;
 pub use text::write_text;

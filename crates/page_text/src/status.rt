@@ -17,7 +17,8 @@ fn lives_on(living: bool, kind: Kind) -> bool
     }
 }
 
-// Whether a nation is living: unless Annexed came last of what is no switch.
+// Whether a nation is living: unless Annexed came last of what is no switch. By number, since rows past the last one read as zeros whatever the words
+// are, and no slice has these.
 pub fn is_living(entries: &[u32], nation: Nation) -> bool
     ensures { result ≡ is_living (nation_with entries.now (nation_told nation)) }
 {

@@ -1,53 +1,65 @@
 // A table of a chronicle's nations: the sorted keys of the tags that they are stored under.
-ghost use Rattle.std.specs.Prelude.{◌≡◌, ◌≤◌, length};
+ghost use Rattle.std.specs.Prelude.{◌≡◌, ◌≤◌, leb, ltb, length};
+ghost use Rattle.std.specs.List.{list_all};
+ghost use Rattle.sorting.specs.Sort.{sort_by};
 ghost use Rattle.rules.specs.Lent.{written};
 ghost use Rattle.rules.specs.NationRows.{nation_rows_in};
 ghost use Rattle.search.specs.Places.{tag_keys_from};
-ghost use Rattle.chronicle_rows.specs.RowAt.{stored_tags};
-ghost use Rattle.page_text.specs.Stored.{LineTables, line_of, KeysSorted};
+ghost use Rattle.chronicle_rows.specs.RowAt.{tags_stored};
+ghost use Rattle.page_text.specs.Stored.{LineTables, line_of, stored_left};
 
-use chronicle_rows::{nation_at, nation_count};
-use format::CountryTag;
-use page_lines::{Line, absent_line, row_line};
-use search::{first_place, tag_key};
+use chronicle_rows::{Nations, nation_at};
+use format::{CountryTag, MOST_COUNTRIES};
+use page_lines::{FEW_ENTRIES, Line, absent_line, row_line};
+use search::{SortedKeys, first_place, tag_key};
 use sorting::sort_keys;
 
-// More nations are not listed.
-pub const MOST_NATIONS: usize = 2000;
-
 // Writes the key of each nation's stored tag, in row order: by index, since a proof knows no cell that is written through a `zip` with `iter_mut`.
-fn fill_stored(nations: &[u32], keys: &mut [u64])
-    requires { (length (nation_rows_in nations.now) ≤ length keys.old) × (length keys.old ≡ 2000) }
-    ensures { keys.new ≡ written (tag_keys_from 0 (stored_tags nations.now 0 (length (nation_rows_in nations.now)))) keys.old }
+// One more such loop stands in histories, over countries: a shared one would be public, and would have to require that its iterator goes on.
+#[tactic(auto, unfolding(search::specs::Places::tag_keys_from))]
+fn fill_stored(nations: Nations<'_>, keys: &mut [u64; MOST_COUNTRIES])
+    requires { length (stored_left nations) ≤ 2000 }
+    ensures { keys.new ≡ written (tag_keys_from 0 (stored_left nations.entry)) keys.old }
 {
-    let n = nation_count(nations);
-    for i in 0..n {
-        keys[i] = tag_key(nation_at(nations, i).stored, i);
+    for (i, nation) in nations.enumerate() {
+        keys[i] = tag_key(nation.stored, i);
     }
 }
 
-// The same in order of the keys.
-pub(crate) fn sort_stored(nations: &[u32], keys: &mut [u64])
-    requires { (length (nation_rows_in nations.now) ≤ length keys.old) × (length keys.old ≡ 2000) }
-    ensures { KeysSorted nations.now keys.new }
+// The keys of the tags that the nations are stored under, in order, in cells for the most nations.
+pub(crate) fn sort_stored<'a>(
+    nations: &[u32],
+    keys: &'a mut [u64; MOST_COUNTRIES],
+) -> SortedKeys<'a>
+    requires { length (nation_rows_in nations.now) ≤ 2000 }
+    ensures { result.keys.now ≡ sort_by leb (tag_keys_from 0 (tags_stored nations.now)) }
 {
+    let nations = Nations::of(nations);
     fill_stored(nations, keys);
-    let n = nation_count(nations);
     // No heap: a scratch for the most nations.
-    let mut scratch = [0u64; MOST_NATIONS];
-    sort_keys(&mut keys[0..n], &mut scratch);
+    let mut scratch = [0u64; MOST_COUNTRIES];
+    let keys = &mut keys[..nations.len()];
+    sort_keys(keys, &mut scratch);
+    SortedKeys { keys }
+}
+
+// Whether every nation's count has at most four digits.
+pub(crate) fn are_short(nations: &[u32]) -> bool
+    ensures { result ≡ list_all (λ r. ltb r.count 10000) (nation_rows_in nations.now) }
+{
+    Nations::of(nations).all(|nation| nation.count < FEW_ENTRIES)
 }
 
 // What the line of a tag is found by: the rows of nations with a status cell each, and the sorted keys of the tags that they are stored under.
 #[derive(Clone, Copy)]
-pub(crate) struct StoredNations<'a> {
+pub(crate) struct StoredNations<'a, 'k> {
     pub(crate) nations: &'a [u32],
     pub(crate) living: &'a [bool],
-    pub(crate) keys: &'a [u64],
-    ghost tables: { LineTables nations.now keys.now living.now },
+    pub(crate) keys: SortedKeys<'k>,
+    ghost tables: { LineTables nations.now keys.keys.now living.now },
 }
 
-impl StoredNations<'_> {
+impl StoredNations<'_, '_> {
     // The line of a tag: of the nation stored under it, if there is one.
     pub(crate) fn line(&self, tag: CountryTag) -> Line
         ensures { result.items ≡ line_of self.now.nations.now self.now.living.now tag }

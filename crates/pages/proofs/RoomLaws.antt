@@ -2,8 +2,7 @@
 use mathlib.Core.Path.{◌≡◌, refl, sym, ap, ◌∙◌}
 use mathlib.Core.Bool.{Bool, true, false, cond, ◌&&◌}
 use mathlib.Core.List.{List, map}
-use Prim.Native.Nat.{ℕ, ◌-◌, ◌*◌, ◌≤◌}
-use native.Mathlib.Nat.{sub-zero}
+use Prim.Native.Nat.{ℕ, ◌*◌, ◌≤◌}
 use native.Mathlib.Omega.{arith}
 use borrow.Author.Tests.{leb-true, leb-false, le-leb, lt-leb}
 use lib.Dec.{leb}
@@ -38,8 +37,8 @@ turned false false = refl
 
 -- What is written stands at the front.
 module _ (text before cells : List ℕ) (e : cells ≡ written text before) {n : ℕ} (count : n ≡ length text) where
-  front : take (n - 0) cells ≡ text
-  front = rw (sub-zero n, e) (take_at text (drop (length text) before) n (sym count))
+  front : take n cells ≡ text
+  front = rw e (take_at text (drop (length text) before) n (sym count))
 
   front-inside : n ≤ length cells
   front-inside = omega (arith, count, ap length e ∙ length-append text (drop (length text) before))
@@ -137,10 +136,10 @@ module _ (lent : NationCells) (l : LentFor lent) (xs : List ℕ) (z : refusal xs
       pub limits-kept : limits_number c ≡ 0
       limits-kept = (listed given).0
 
-      pub nation-front : take (nation_width * r.nations - 0) m.nations ≡ nation_words (nations_of c)
+      pub nation-front : take (nation_width * r.nations) m.nations ≡ nation_words (nations_of c)
       nation-front = front (nation_words ns) lent.nations m.nations nation-cells nation-count
 
-      pub entry-front : take (entry_width * r.entries - 0) m.entries ≡ entry_words (nations_of c)
+      pub entry-front : take (entry_width * r.entries) m.entries ≡ entry_words (nations_of c)
       entry-front = front (entry_words ns) lent.entries m.entries entry-cells entry-count
 
       pub counts-short : (nation_width * r.nations ≤ 10000) × (entry_width * r.entries ≤ 840000000)

@@ -1,13 +1,12 @@
 -- The text of the nations that were listed is the page.
-use mathlib.Core.Path.{◌≡◌, refl, sym, ap, ap₂, subst, ◌∙◌}
+use mathlib.Core.Path.{◌≡◌, refl, sym, ap, ap₂, ◌∙◌}
 use mathlib.Core.Bool.{Bool, true, ◌&&◌}
 use mathlib.Core.List.{List, ◌++◌, map}
 use mathlib.Core.Option.{Option, none, some}
-use Prim.Native.Nat.{ℕ, ◌-◌, ◌≤◌}
-use native.Mathlib.Nat.{sub-zero}
+use Prim.Native.Nat.{ℕ, ◌≤◌}
 use native.Mathlib.Omega.{arith}
 use borrow.Author.Tests.{le-leb}
-use lib.ListN.{length, take, drop}
+use lib.ListN.{length, drop}
 use Rattle.format.specs.declared.tag.CountryTag.{CountryTag}
 use Rattle.format.specs.Campaign.{Campaign, campaign_of}
 use Rattle.format.specs.Refusal.{refusal}
@@ -51,7 +50,7 @@ module _ (xs : List ℕ) (z : refusal xs ≡ 0) {ws : List ℕ} (nations : ws �
 
     -- With the cells filled from the entries, all is listed.
     pub cells-listed : limits_number (campaign_of xs) ≡ 0 → (cells₀ cells : List Bool)
-        → cells ≡ living_cells ws es 0 (length (nation_rows_in ws)) ++ drop (length (nation_rows_in ws)) cells₀ → NationsListed xs ws cells
+        → cells ≡ living_cells ws es ++ drop (length (living_cells ws es)) cells₀ → NationsListed xs ws cells
     cells-listed w cells₀ cells e =
         record {
           limits = w;
@@ -59,11 +58,6 @@ module _ (xs : List ℕ) (z : refusal xs ≡ 0) {ws : List ℕ} (nations : ws �
           long = living-inside ws es cells₀ cells e;
           living = living-all ws es cells₀ cells e shaped ∙ ap (map is_living) told;
         }
-
--- A part from 0 on.
-module _ {xs : List ℕ} {cells : List Bool} (n : ℕ) (ws : List ℕ) where
-  pub listed-front : NationsListed xs (take (n - 0) ws) cells → NationsListed xs (take n ws) cells
-  listed-front l = subst (λ (k : ℕ). NationsListed xs (take k ws) cells) (sub-zero n) l
 
 module _ (xs selection before : List ℕ) (begun : PageBegun xs selection) {ws : List ℕ} {cells : List Bool} (l : NationsListed xs ws cells) where
   abbrev ns : List Nation

@@ -4,28 +4,29 @@ ghost use Rattle.format.specs.Refusal.{refusal};
 ghost use Rattle.pages.specs.Listing.{PageNationsTold};
 
 use crate::status::fill_living;
+use change_keys::CHANGE_WIDTH;
 use chronicle_rows::{ENTRY_WIDTH, NATION_WIDTH};
-use nation_tables::{MOST_COUNTRIES, MOST_SLOTS};
+use format::MOST_COUNTRIES;
+use nation_tables::MOST_SLOTS;
 use nations::nation_events;
 
-// Words of the most entries of a page.
-const ENTRY_WORDS: usize = 15000;
+// The most entries of a page.
+const MOST_ENTRIES: usize = 5000;
 
-// Words of the most changes of a page.
-const CHANGE_WORDS: usize = 16000;
+// The most changes of a page.
+const MOST_CHANGES: usize = 4000;
 
-// Lists the nations of an accepted record, marks those that are living, and gives how many words the rows have; nothing where the record is past the
-// page's limits. Nations are given room for just as many entries and changes as a page
-// may have: so they are refused if there are more.
+// Lists the nations of an accepted record, marks those that are living, and gives how many words the rows have; nothing where the record is past
+// the page's limits. Nations are given room for just as many entries and changes as a page may have: so they are refused if there are more.
 pub(crate) fn list_nations(s: &[u8], nations: &mut [u32], living: &mut [bool]) -> Option<usize>
     requires { (refusal s.now ≡ 0) × (length nations.old ≡ 10000) × (length living.old ≡ 2000) }
     ensures { PageNationsTold s.now result nations.new living.new }
 {
     // No heap: arrays as long as a page's limits, of which the fronts are used.
-    let mut entries = [0u32; ENTRY_WORDS];
+    let mut entries = [0u32; ENTRY_WIDTH * MOST_ENTRIES];
     let mut holders = [0u32; MOST_SLOTS];
     let mut held = [0u32; MOST_COUNTRIES];
-    let mut changes = [0u32; CHANGE_WORDS];
+    let mut changes = [0u32; CHANGE_WIDTH * MOST_CHANGES];
     let listed = nation_events(
         s,
         nations,
@@ -37,6 +38,6 @@ pub(crate) fn list_nations(s: &[u8], nations: &mut [u32], living: &mut [bool]) -
     let Ok(counts) = listed else { return None };
     let n = NATION_WIDTH * counts.nations;
     let m = ENTRY_WIDTH * counts.entries;
-    fill_living(&nations[0..n], &entries[0..m], living);
+    fill_living(&nations[..n], &entries[..m], living);
     Some(n)
 }

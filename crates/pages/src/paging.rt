@@ -5,15 +5,14 @@ ghost use Rattle.pages.specs.Cases.{paged_outcome};
 ghost use Rattle.pages.specs.Steps.{PageBegun, NationsListed};
 
 use crate::listing::list_nations;
+use chronicle_rows::NATION_WIDTH;
+use format::MOST_COUNTRIES;
 use page_lines::read_selection;
-use page_text::{MOST_NATIONS, write_text};
+use page_text::write_text;
 use record::Refusal;
 
 // The most bytes of a record, and of a selection.
-const MOST_BYTES: usize = 65536;
-
-// Words for the rows of 2,000 nations, the most that a record can have.
-const NATION_WORDS: usize = 10000;
+pub(crate) const MOST_BYTES: usize = 65536;
 
 // The page of the listed nations, if there is room for it.
 fn listed_page(
@@ -34,11 +33,11 @@ fn chronicle_page(s: &[u8], selection: &[u8], out: &mut [u8]) -> Result<usize, R
     requires { PageBegun s.now selection.now }
     ensures { paged_outcome result out.new ≡ call_page s.now selection.now out.old }
 {
-    // No heap: arrays for the most nations, of which the fronts are used.
-    let mut nations = [0u32; NATION_WORDS];
-    let mut living = [false; MOST_NATIONS];
+    // No heap: arrays for the most nations, of which the fronts are used. Each country has one at most.
+    let mut nations = [0u32; NATION_WIDTH * MOST_COUNTRIES];
+    let mut living = [false; MOST_COUNTRIES];
     match list_nations(s, &mut nations, &mut living) {
-        Some(n) => listed_page(s, &nations[0..n], &living, selection, out),
+        Some(n) => listed_page(s, &nations[..n], &living, selection, out),
         None => Err(Refusal::NoRoom),
     }
 }
@@ -52,6 +51,7 @@ pub fn write_page(s: &[u8], selection: &[u8], out: &mut [u8]) -> Result<usize, R
     if (MOST_BYTES < s.len()) | (MOST_BYTES < selection.len()) {
         return Err(Refusal::NoRoom);
     }
+    // With a name, by which the proof knows which check refused.
     let checked = record::check(s);
     checked?;
     let Some(_) = read_selection(selection) else {

@@ -7,12 +7,18 @@ ghost use Rattle.rules.specs.PageOutcomes.{call_program};
 ghost use Rattle.page_lines.specs.Lines.{refused_line};
 ghost use Rattle.pages.specs.Printing.{file_read, most_printed, call_print, printed_outcome};
 
-use crate::paging::write_page;
-use page_lines::refused_line;
+use crate::paging::{MOST_BYTES, write_page};
+use page_lines::{SHORT_LINE, refused_line};
 use record::Refusal;
 
-// Room for every page: the first line has at most 15 bytes, each of at most 16,384 tags has 25.
-pub const PRINTED_BYTES: usize = 409615;
+// The first line of the most tags.
+const FIRST_LINE: usize = 15;
+
+// The most tags, each with a line feed behind it.
+const MOST_TAGS: usize = MOST_BYTES / 4;
+
+// Room for every page: no nation of a page has so many entries that its line is not short.
+pub const PRINTED_BYTES: usize = FIRST_LINE + SHORT_LINE * MOST_TAGS;
 
 // Writes the line of a refusal, and gives how many bytes it has.
 fn put_refusal(refusal: Refusal, out: &mut [u8]) -> usize
@@ -36,8 +42,8 @@ fn print_record(s: &[u8], selection: &[u8], out: &mut [u8]) -> usize
     }
 }
 
-// What the program prints of campaign.atl, its bytes as far as they were read, nothing if it could not be read, and of the selection: the page, or the line of its
-// refusal. Refused if the slice has no room for every page.
+// What the program prints of campaign.atl, its bytes as far as they were read, nothing if it could not be read, and of the selection: the page, or the line of
+// its refusal. Refused if the slice has no room for every page.
 pub fn print_page(
     campaign: Option<&[u8]>,
     selection: &[u8],

@@ -3,16 +3,15 @@ ghost use Rattle.std.specs.Prelude.{◌≡◌, ◌++◌, ◌≤◌, length, drop
 ghost use Rattle.rules.specs.NationRows.{nation_rows_in};
 ghost use Rattle.pages.specs.LivingCells.{living_cells};
 
-use chronicle_rows::{nation_at, nation_count};
+use chronicle_rows::Nations;
 use page_text::is_living;
 
 // Marks the nations that are living, a cell for each row: by index, since a proof knows no cell that is written through a `zip` with `iter_mut`.
 pub(crate) fn fill_living(nations: &[u32], entries: &[u32], cells: &mut [bool])
     requires { length (nation_rows_in nations.now) ≤ length cells.old }
-    ensures { cells.new ≡ living_cells nations.now entries.now 0 (length (nation_rows_in nations.now)) ++ drop (length (nation_rows_in nations.now)) cells.old }
+    ensures { cells.new ≡ living_cells nations.now entries.now ++ drop (length (living_cells nations.now entries.now)) cells.old }
 {
-    let n = nation_count(nations);
-    for i in 0..n {
-        cells[i] = is_living(entries, nation_at(nations, i));
+    for (i, nation) in Nations::of(nations).enumerate() {
+        cells[i] = is_living(entries, nation);
     }
 }

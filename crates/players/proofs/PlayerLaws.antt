@@ -3,10 +3,10 @@ use mathlib.Core.Path.{◌≡◌, refl, sym, ap, ◌∙◌}
 use mathlib.Core.Bool.{Bool, true, false}
 use mathlib.Core.List.{List, [], ◌∷◌, ◌++◌}
 use mathlib.Core.Option.{Option, none, some}
-use Prim.Native.Nat.{ℕ, ◌+◌, ◌*◌, ◌<◌, ◌≤◌}
+use Prim.Native.Nat.{ℕ, ◌+◌, ◌-◌, ◌*◌, ◌<◌, ◌≤◌}
 use native.Mathlib.Omega.{arith}
 use borrow.Author.Tests.{le-leb, lt-leb}
-use lib.ListN.{length}
+use lib.ListN.{length, take, drop, length-take, length-drop}
 use Rattle.std.specs.Prelude.{Ok, Err}
 use Rattle.lists.specs.Lists.{join_of}
 use Rattle.lists.proofs.BoolLaws.{cases}
@@ -23,12 +23,13 @@ use Rattle.format.proofs.FirstLaws.{first-stop, first-pass, first_one}
 use Rattle.format.proofs.SoundLaws.{sound}
 use Rattle.record.specs.declared.opened.Record.{Record}
 use Rattle.record.specs.Opened.{RightlyOpened}
-use Rattle.record.proofs.ToldLaws.{refusal_above}
+use Rattle.format.proofs.RefusedLaws.{refuses}
 use Rattle.record.specs.Cursors.{strings_left}
 use Rattle.rules.specs.Lent.{written, fits, room_number}
 use Rattle.rules.specs.Players.{Pair, pairs_from, Player, is_anonymous, tagged_player, player_of, players_of, player_words, player_rows}
 use Rattle.rules.specs.PlayerOutcomes.{call_players}
 use Rattle.rules.proofs.LentLaws.{outcome-refused, outcome-gives}
+use Rattle.chronicle_rows.specs.RowAt.{row_put}
 use Rattle.players.specs.Cases.{players_outcome}
 
 -- ## How many players
@@ -78,6 +79,13 @@ pub rows_none : player_rows [] ≡ []
 unfolding player_rows
 rows_none = refl
 
+-- A row was put into the tail, which has room for it.
+pub put-tail : (row words out now : List ℕ) (at : ℕ) → at + 2 ≤ length out → words ≡ row → now ≡ row_put 2 words (take (length out - at) (drop at out))
+    → now ≡ row ++ drop 2 (take (length out - at) (drop at out))
+put-tail row words out now at room e put =
+    let long : 2 ≤ length (take (length out - at) (drop at out)) = simp (length-take, length-drop) (omega arith) in
+    put ∙ rw (le-leb 2 (length (take (length out - at) (drop at out))) long, e) refl
+
 -- ## `players`
 
 -- The players of an accepted record are left.
@@ -108,7 +116,7 @@ module _ (xs before : List ℕ) where
   pub players_refused : (e : Refusal) → refusal_number e ≡ refusal xs → players_outcome (Err e) before ≡ call_players xs before
   unfolding call_players number rows players
   players_refused e t =
-      let above = refusal_above e in
+      let above = refuses e in
       let first : number ≡ refusal_number e = first-stop (refusal xs) _ (λ z. omega arith) ∙ sym t in
       sym (rw first (outcome-refused (refusal_number e) (length players) (written rows before) before above))
 

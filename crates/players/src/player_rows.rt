@@ -1,5 +1,5 @@
 // The players of a campaign: counted first, then written.
-ghost use Rattle.std.specs.Prelude.{◌≡◌, ◌*◌, ◌≤◌, ◌++◌, length, drop};
+ghost use Rattle.std.specs.Prelude.{◌≡◌, ◌*◌, ◌≤◌, length};
 ghost use Rattle.rules.specs.Lent.{written};
 ghost use Rattle.rules.specs.Players.{player_words, player_rows};
 ghost use Rattle.rules.specs.PlayerOutcomes.{call_players};
@@ -7,33 +7,35 @@ ghost use Rattle.players.specs.Cases.{players_outcome};
 ghost use Rattle.players.specs.PlayerSteps.{player_in, players_left};
 
 use crate::walk::{Player, PlayersOf};
+use chronicle_rows::put;
 use format::Refusal;
 
 // How many words a player row has.
 const PLAYER_WIDTH: usize = 2;
 
-// Writes the row of a player: name, tag.
-fn put_player(player: Player, out: &mut [u32])
-    requires { 2 ≤ length out.old }
-    ensures { out.new ≡ player_words (player_in player) ++ drop 2 out.old }
-{
-    out[0] = player.name;
-    out[1] = u32::from(player.tag);
+// The words of a player's row: name, tag.
+impl From<Player> for [u32; PLAYER_WIDTH] {
+    ghost from_gives = { λ player row. row ≡ player_words (player_in player) };
+
+    fn from(player: Player) -> [u32; PLAYER_WIDTH] {
+        [player.name, u32::from(player.tag)]
+    }
 }
 
-// Writes the rows of all players.
+// Writes the rows of all players. By their offset, counted beside the walk: a proof knows no cell that is written through the parts of `as_chunks_mut`.
 fn write_players(players: PlayersOf, out: &mut [u32])
     requires { 2 * length (players_left players) ≤ length out.old }
     ensures { out.new ≡ written (player_rows (players_left players.entry)) out.old }
 {
     let mut at = 0;
     for player in players {
-        put_player(player, &mut out[at..]);
+        put::<PLAYER_WIDTH>(player.into(), &mut out[at..]);
         at += PLAYER_WIDTH;
     }
 }
 
-// All players in string order, with a row of two words each; returns how many. Refused are a bad record, by its refusal, and by `NoRoom` a slice that is too short.
+// All players in string order, with a row of two words each; returns how many. Refused are a bad record, by its refusal, and by `NoRoom` a slice
+// that is too short.
 pub fn players(s: &[u8], out: &mut [u32]) -> Result<usize, Refusal>
     ensures { players_outcome result out.new ≡ call_players s.now out.old }
 {

@@ -122,16 +122,16 @@ block-told left rest rest' m room count count' keys₀ keys₁ owners₀ owners�
 
 -- What was filled has been sorted in its place, with a scratch.
 pub block-sorted : (left rest : List Claim) (room count : ℕ) (keys₀ keys₁ sorted owners₀ owners₁ scratch₀ scratch₁ : List ℕ) → Fills left rest room count keys₀ keys₁ owners₀ owners₁
-    → count ≤ length keys₁ → Sorts (take (count - 0) keys₁) sorted scratch₀ scratch₁ → (told : ℕ) → told ≡ count
-    → SortsBlock left rest room told keys₀ (sorted ++ drop (count - 0) keys₁) owners₀ owners₁ scratch₀ scratch₁
+    → count ≤ length keys₁ → Sorts (take count keys₁) sorted scratch₀ scratch₁ → (told : ℕ) → told ≡ count
+    → SortsBlock left rest room told keys₀ (sorted ++ drop count keys₁) owners₀ owners₁ scratch₀ scratch₁
 block-sorted left rest room count keys₀ keys₁ sorted owners₀ owners₁ scratch₀ scratch₁ f h s told t =
     rw t
     record {
       counted = f.counted;
       behind = f.behind;
-      keys = sorted_front (keys_from 0 (take room left)) keys₀ keys₁ sorted count f.keys (f.counted ∙ sym (length-keys 0 (take room left))) s.keys;
+      keys = rw sub-zero at (sorted_front (keys_from 0 (take room left)) keys₀ keys₁ sorted count f.keys (f.counted ∙ sym (length-keys 0 (take room left))) (rw sub-zero s.keys));
       owners = f.owners;
-      scratch = rw (sub-zero count, length-take-le count keys₁ h) at s.scratch;
+      scratch = rw (length-take-le count keys₁ h) at s.scratch;
     }
 
 -- How many were taken: nothing in place of none.

@@ -2,7 +2,7 @@
 use mathlib.Core.Path.{◌≡◌}
 use mathlib.Core.Bool.{true, ◌&&◌}
 use mathlib.Core.List.{List, [], ◌∷◌, map}
-use Prim.Native.Nat.{ℕ, zero, suc, ◌-◌, ◌<◌}
+use Prim.Native.Nat.{ℕ, zero, suc, ◌<◌}
 use native.Mathlib.Omega.{arith}
 use lib.ListN.{length}
 use Rattle.lists.specs.Lists.{All, numbers_from}
@@ -16,7 +16,8 @@ use Rattle.rules.specs.NationRows.{nation_rows_in, entry_rows_in, kind_of, kind_
 use Rattle.chronicle_rows.specs.RowAt.{nation_row_at, entry_row_at, entry_at}
 use Rattle.chronicle_rows.proofs.NumberedLaws.{numbers-range, nation-inside, nation-tags, entry-good}
 use Rattle.claims.specs.declared.claims.Claim.{Claim}
-use Rattle.claims.specs.Claims.{kind_claims, switch_claims, nation_claims, claims_in}
+use Rattle.claims.specs.Claims.{kind_claims, switch_claims, claims_in}
+use Rattle.claims.proofs.ClaimLaws.{claims_at, claims-numbered}
 use Rattle.questions.specs.Layout.{claim_dates}
 use Rattle.questions.proofs.KeyLaws.{GoodClaim}
 
@@ -46,7 +47,7 @@ module _ (ws es : List ℕ) (shaped : well_shaped ws es ≡ true) where
       all_append (SoundClaim (length (nation_rows_in ws))) (kind_claims i (entry_at es j).date (entry_at es j).kind) (switch_claims i (map (entry_at es) js))
       (entry-sound i j h q.0) (switches-sound i h js q.1)
 
-  nation-sound : (i : ℕ) → i < length (nation_rows_in ws) → All (SoundClaim (length (nation_rows_in ws))) (nation_claims ws es i)
+  nation-sound : (i : ℕ) → i < length (nation_rows_in ws) → All (SoundClaim (length (nation_rows_in ws))) (claims_at ws es i)
   nation-sound i h =
       let r = nation_row_at ws i in
       let t = nation-tags ws es shaped i h in
@@ -56,8 +57,7 @@ module _ (ws es : List ℕ) (shaped : well_shaped ws es ≡ true) where
       )
 
   pub claims-sound : All (SoundClaim (length (nation_rows_in ws))) (claims_in ws es)
-  unfolding claims_in
   claims-sound =
       let n = length (nation_rows_in ws) in
-      all_join (SoundClaim n) (nation_claims ws es) nation-sound (numbers_from 0 (length (nation_rows_in ws) - 0))
-      (all_map (λ i g. omega (arith, g.1)) (numbers_from 0 (length (nation_rows_in ws) - 0)) (numbers-range 0 (length (nation_rows_in ws) - 0)))
+      rw claims-numbered
+      (all_join (SoundClaim n) (claims_at ws es) nation-sound (numbers_from 0 n) (all_map (λ i g. omega (arith, g.1)) (numbers_from 0 n) (numbers-range 0 n)))

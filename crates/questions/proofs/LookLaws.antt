@@ -2,45 +2,53 @@
 use mathlib.Core.Path.{◌≡◌, sym, ap, ◌∙◌}
 use mathlib.Core.List.{List}
 use mathlib.Core.Option.{none, some}
-use Prim.Native.Nat.{ℕ, ◌+◌, ◌-◌, ◌*◌, ◌/◌, ◌≤◌, ◌<◌}
+use Prim.Native.Nat.{ℕ, ◌+◌, ◌-◌, ◌*◌, ◌/◌}
 use native.Mathlib.Omega.{arith}
-use lib.Dec.{leb, ltb}
+use borrow.Author.Tests.{leb-true, leb-false}
+use lib.Dec.{leb}
 use lib.ListN.{get_or}
-use Rattle.lists.specs.Lists.{keep, count_of, last}
+use Rattle.std.specs.Prelude as code
+use Rattle.std.specs.Bool.{then_some}
+use Rattle.lists.specs.Lists.{keep, last}
+use Rattle.lists.specs.Options.{option_of}
+use Rattle.lists.proofs.BoolLaws.{cases}
 use Rattle.lists.proofs.BoundLaws.{last_none, last-below, last-there}
 use Rattle.lists.proofs.ElementLaws.{last_some}
 use Rattle.sorting.specs.Sort.{sort_by}
 use Rattle.sorting.proofs.SortedKeyLaws.{sorted-up}
 use Rattle.format.specs.declared.tag.CountryTag.{CountryTag}
 use Rattle.format.specs.declared.date.Eu4Date.{Eu4Date}
-use Rattle.search.specs.Halving.{CountsBelow}
+use Rattle.search.specs.Halving.{count_below}
 use Rattle.questions.specs.Layout.{claim_numbers, last_number}
 use Rattle.questions.specs.Keys.{lowest_key, is_asked_key, last_asked}
 
 -- The count that a search for an odd number gives, where that is the highest key of a tag and a date.
-pub odd-upto : (tag : CountryTag) (date : Eu4Date) (keys : List ℕ) (key i : ℕ) → key ≡ lowest_key tag date → CountsBelow keys ((key + last_number) / 2 * 2 + 2) i
-    → CountsBelow keys (lowest_key tag date + claim_numbers) i
+odd-upto : (tag : CountryTag) (date : Eu4Date) (keys : List ℕ) (key i : ℕ) → key ≡ lowest_key tag date → i ≡ count_below ((key + last_number) / 2 * 2 + 2) keys
+    → i ≡ count_below (lowest_key tag date + claim_numbers) keys
 unfolding lowest_key
 odd-upto tag date keys key i h k =
     let e : (key + last_number) / 2 * 2 + 2 ≡ lowest_key tag date + claim_numbers = omega arith in rw e at k
 
--- What the code has worked out: the lowest key of the tag, from date `zero`, and the count up to the highest one not after the date.
-module _ (tag : CountryTag) (date zero-date : Eu4Date) (keys : List ℕ) (low i : ℕ) (z : zero-date.0 ≡ 0) (l : low ≡ lowest_key tag zero-date)
-    (k : CountsBelow keys (lowest_key tag date + claim_numbers) i) (s : sort_by leb keys ≡ keys) where
-  lowest : low ≡ lowest_key tag (record { 0 = 0 })
-  lowest = l ∙ ap (λ (w : ℕ). lowest_key tag (record { 0 = w })) z
+-- What the code has worked out: the count up to the highest key not after the date, and the lowest key of the tag.
+module _ (tag : CountryTag) (date : Eu4Date) (keys : List ℕ) (s : sort_by leb keys ≡ keys) (key i : ℕ) (h : key ≡ lowest_key tag date) (k : i ≡ count_below ((key + last_number) / 2 * 2 + 2) keys) where
+  abbrev low : ℕ
+  low = lowest_key tag (record { 0 = 0 })
 
-  upto : i ≡ count_of (λ x. ltb x (lowest_key tag date + claim_numbers)) keys
-  upto = k.counted s
+  abbrev high : ℕ
+  high = lowest_key tag date + claim_numbers
+
+  upto : i ≡ count_below high keys
+  upto = odd-upto tag date keys key i h k
 
   pub looked-none : i ≡ 0 → none ≡ last_asked tag date keys
-  looked-none e = sym (ap last (last_none (lowest_key tag (record { 0 = 0 })) (lowest_key tag date + claim_numbers) keys (sorted-up keys s) i upto e))
+  looked-none e = sym (ap last (last_none low high keys (sorted-up keys s) i upto e))
 
-  pub looked-below : (i ≡ 0 → ⊥) → get_or keys (i - 1) 0 < low → none ≡ last_asked tag date keys
-  looked-below e b =
-      sym (ap last (last-below (lowest_key tag (record { 0 = 0 })) (lowest_key tag date + claim_numbers) keys (sorted-up keys s) i upto (omega arith) (omega (arith, lowest))))
-
-  pub looked-there : (i ≡ 0 → ⊥) → low ≤ get_or keys (i - 1) 0 → some (get_or keys (i - 1) 0) ≡ last_asked tag date keys
-  looked-there e b =
-      sym (last-there (lowest_key tag (record { 0 = 0 })) (lowest_key tag date + claim_numbers) keys (sorted-up keys s) i upto some none (omega arith) (omega (arith, lowest)))
-      ∙ last_some (keep (is_asked_key tag date) keys)
+  -- The key in front of that count is the tag's, or lower.
+  pub looked : (there : ℕ) (r : code.Option ℕ) → (i ≡ 0 → ⊥) → there ≡ get_or keys (i - 1) 0 → r ≡ then_some (leb low there) there → option_of r ≡ last_asked tag date keys
+  looked there r e t f =
+      cases (leb low there)
+      (λ b. rw (f, b)
+      (ap some t
+      ∙ sym (last-there low high keys (sorted-up keys s) i upto some none (omega arith) (let l = leb-true low there b in omega (arith, t)))
+      ∙ last_some (keep (is_asked_key tag date) keys)))
+      (λ b. rw (f, b) (sym (ap last (last-below low high keys (sorted-up keys s) i upto (omega arith) (let l = leb-false low there b in omega (arith, t))))))

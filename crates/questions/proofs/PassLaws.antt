@@ -1,19 +1,25 @@
 -- A pass over the rows: those passed hold what the pass writes, the others what stood there.
-use mathlib.Core.Path.{◌≡◌, refl, sym, ap, ◌∙◌}
+use mathlib.Core.Path.{◌≡◌, refl, sym, ap, ap₂, ◌∙◌}
+use mathlib.Core.Bool.{true}
 use mathlib.Core.List.{List, [], ◌∷◌, ◌++◌, append_assoc, append-nil}
 use mathlib.Core.Option.{Option, map}
-use Prim.Native.Nat.{ℕ, zero, suc, ◌+◌, ◌-◌, ◌*◌, ◌<◌, ◌≤◌}
+use Prim.Native.Nat.{ℕ, zero, suc, ◌+◌, ◌-◌, ◌*◌, ◌≤◌}
 use native.Mathlib.Omega.{arith}
-use lib.ListN.{length, replicate, set, drop, get_or, length-append, length-set}
-use lib.Seq.{drop-cons, set_at, get_or-append-add, get_or-drop}
+use borrow.Author.Tests.{le-leb}
+use lib.Dec.{leb}
+use lib.ListN.{length, replicate, take, drop, get_or, length-append, length-drop}
+use lib.Seq.{take_at, take_all, drop_at, drop-drop, get_or-append-add, get_or-drop}
+use Rattle.std.proofs.lemmas.List.{drop_all}
 use Rattle.lists.specs.Lists.{join_of, numbers_from}
 use Rattle.lists.proofs.ListLaws.{join-append}
+use Rattle.chronicle_rows.specs.RowAt.{row_put}
 use Rattle.rules.specs.Questions.{Question, answer_words}
 use Rattle.claims.specs.declared.claims.Claim.{Claim}
-use Rattle.claims.specs.Claims.{claims_in, best_of, plain_of}
+use Rattle.claims.specs.Claims.{claims_in, best_of, plain_at}
+use Rattle.claims.proofs.ResolvedLaws.{map-twice}
 use Rattle.questions.specs.Asked.{question_at}
 use Rattle.questions.specs.Keys.{last_asked}
-use Rattle.questions.specs.Passes.{row_set, updated, finished, rows_with, block_row, best_row, finished_row, claim_row}
+use Rattle.questions.specs.Passes.{row_set, updated, row_owner, rows_with, block_row, best_row, finished_row, claim_row}
 
 numbers-behind : (a n : ℕ) → numbers_from a (n + 1) ≡ numbers_from a n ++ ((a + n) ∷ [])
 numbers-behind a zero = let e : a + 0 ≡ a = omega arith in rw e
@@ -34,6 +40,20 @@ pub zeros-rows : (qs : List ℕ) (a n m : ℕ) → m ≡ 2 * n → replicate m 0
 zeros-rows qs a zero m e = let z : m ≡ 0 = omega arith in rw z refl
 zeros-rows qs a (suc n) m e =
     let z : m ≡ suc (suc (m - 2)) = omega arith in rw z (ap (λ (l : List ℕ). 0 ∷ 0 ∷ l) (zeros-rows qs (suc a) n (m - 2) (omega arith)))
+
+-- A row put at the front of the cells from its place on.
+pub row-put : (out words now : List ℕ) (i : ℕ) → 2 * (i + 1) ≤ length out → now ≡ row_put 2 words (take (length out - 2 * i) (drop (2 * i) out))
+    → take (2 * i) out ++ (now ++ drop (length out - 2 * i) (drop (2 * i) out)) ≡ row_set out i words
+row-put out words now i h e =
+    let cells : List ℕ = drop (2 * i) out in
+    let many : length cells ≡ length out - 2 * i = length-drop (2 * i) out in
+    let two : 2 * i + 2 ≡ 2 * (i + 1) = omega arith in
+    let all : take (length out - 2 * i) cells ≡ cells = take_all (length out - 2 * i) cells (omega (arith, many)) in
+    let over : drop (length out - 2 * i) cells ≡ [] = drop_all (length out - 2 * i) cells (omega (arith, many)) in
+    let room : leb 2 (length cells) ≡ true = le-leb 2 (length cells) (omega (arith, many)) in
+    let back : drop 2 cells ≡ drop (2 * (i + 1)) out = drop-drop 2 (2 * i) out ∙ ap (λ (n : ℕ). drop n out) two in
+    let put : now ≡ words ++ drop (2 * (i + 1)) out = rw all at e ∙ rw (room, back) refl in
+    ap₂ (λ (l r : List ℕ). take (2 * i) out ++ (l ++ r)) put over ∙ ap (λ (l : List ℕ). take (2 * i) out ++ l) (append-nil _)
 
 pub record Passing (row : ℕ → List ℕ) (before : List ℕ) (i : ℕ) (out : List ℕ) : Type 0 where
   pub cells : out ≡ rows_with row i before
@@ -58,46 +78,35 @@ module _ (row : ℕ → List ℕ) (before : List ℕ) (i : ℕ) (out : List ℕ)
       ∙ (ap (λ (n : ℕ). get_or (passed ++ drop (2 * i) before) (n + k) 0) (sym p.wide)
       ∙ (get_or-append-add passed (drop (2 * i) before) k 0 ∙ get_or-drop (2 * i) before k 0))
 
-  pub first-still : get_or out (2 * i) 0 ≡ get_or before (2 * i) 0
-  first-still = let e : 2 * i + 0 ≡ 2 * i = omega arith in rw e at (word-still 0)
+  pub first-still : (at : ℕ) → at ≡ i → get_or out (2 * at) 0 ≡ get_or before (2 * i) 0
+  first-still at e = rw e (let f : 2 * i + 0 ≡ 2 * i = omega arith in rw f at (word-still 0))
 
-  pub second-still : get_or out (2 * i + 1) 0 ≡ get_or before (2 * i + 1) 0
-  second-still = word-still 1
+  pub second-still : (at : ℕ) → at ≡ i → get_or out (2 * at + 1) 0 ≡ get_or before (2 * i + 1) 0
+  second-still at e = rw e (word-still 1)
 
-  -- Its words are written.
-  pub passing-next : (a b : ℕ) → 2 * i + 1 < length before → a ∷ b ∷ [] ≡ row i → Passing row before (i + 1) (row_set out i (a ∷ b ∷ []))
+  -- The next row is written.
+  pub passing-put : (words new : List ℕ) (at : ℕ) → at ≡ i → length words ≡ 2 → new ≡ row_set out at words → 2 * (i + 1) ≤ length before → words ≡ row i → Passing row before (i + 1) new
   unfolding passed
-  passing-next a b h e =
-      let x = get_or before (2 * i) 0 in
-      let y = get_or before (2 * i + 1) 0 in
-      let rest = drop (2 * (i + 1)) before in
-      let f : suc (2 * i) ≡ 2 * i + 1 = omega arith in
-      let g : suc (2 * i + 1) ≡ 2 * (i + 1) = omega arith in
-      let two : drop (2 * i) before ≡ x ∷ y ∷ rest =
-      drop-cons before (2 * i) 0 (omega arith)
-      ∙ ap (λ (l : List ℕ). x ∷ l) (ap (λ (n : ℕ). drop n before) f ∙ drop-cons before (2 * i + 1) 0 h ∙ ap (λ (n : ℕ). y ∷ drop n before) g) in
-      let w : length passed ≡ 2 * i = p.wide in
-      let first : set out (2 * i) a ≡ passed ++ (a ∷ y ∷ rest) =
-      ap (λ (l : List ℕ). set l (2 * i) a) (p.cells ∙ ap (λ (l : List ℕ). passed ++ l) two) ∙ set_at passed x (y ∷ rest) a (2 * i) w in
-      let both : set (set out (2 * i) a) (2 * i + 1) b ≡ (passed ++ (a ∷ [])) ++ (b ∷ rest) =
-      ap (λ (l : List ℕ). set l (2 * i + 1) b) (first ∙ sym (append_assoc passed (a ∷ []) (y ∷ rest)))
-      ∙ set_at (passed ++ (a ∷ [])) y rest b (2 * i + 1) (simp length-append (omega arith)) in
+  passing-put words new at here-at l w h e =
+      let rest : List ℕ = drop (2 * (i + 1)) before in
+      let front : take (2 * i) out ≡ passed = ap (take (2 * i)) p.cells ∙ take_at passed (drop (2 * i) before) (2 * i) p.wide in
+      let two : 2 * i + 2 ≡ 2 * (i + 1) = omega arith in
+      let here : drop (2 * i) out ≡ drop (2 * i) before = ap (drop (2 * i)) p.cells ∙ drop_at passed (drop (2 * i) before) (2 * i) p.wide in
+      let back : drop (2 * (i + 1)) out ≡ rest =
+      ap (λ (n : ℕ). drop n out) (sym two) ∙ sym (drop-drop 2 (2 * i) out) ∙ ap (drop 2) here ∙ drop-drop 2 (2 * i) before ∙ ap (λ (n : ℕ). drop n before) two in
+      let cells : new ≡ rows_with row (i + 1) before =
+      w
+      ∙ ap (λ (k : ℕ). row_set out k words) here-at
+      ∙ ap₂ (λ (f b : List ℕ). f ++ (words ++ b)) front back
+      ∙ sym (append_assoc passed words rest)
+      ∙ ap (λ (l : List ℕ). l ++ rest) (ap (λ (r : List ℕ). passed ++ r) e ∙ sym (join-next row i)) in
+      let wide : length (join_of row (numbers_from 0 (i + 1))) ≡ 2 * (i + 1) =
+      omega (arith, ap length (join-next row i) ∙ length-append passed (row i), p.wide, ap length (sym e) ∙ l) in
       record {
-        cells =
-            both
-            ∙ (append_assoc passed (a ∷ []) (b ∷ rest)
-            ∙ (sym (append_assoc passed (a ∷ b ∷ []) rest)
-            ∙ ap (λ (l : List ℕ). l ++ rest) (ap (λ (r : List ℕ). passed ++ r) e ∙ sym (join-next row i))));
-        wide = ap length (join-next row i) ∙ length-append passed (row i) ∙ (rw (← e) (omega arith));
-        long = length-set (set out (2 * i) a) (2 * i + 1) b ∙ length-set out (2 * i) a ∙ p.long;
+        cells = cells;
+        wide = wide;
+        long = ap length cells ∙ length-append (join_of row (numbers_from 0 (i + 1))) rest ∙ omega (arith, wide, length-drop (2 * (i + 1)) before);
       }
-
-  -- The same, as the code leaves the slice.
-  pub passing-put : (words new : List ℕ) → length words ≡ 2 → new ≡ row_set out i words → 2 * i + 1 < length before → words ≡ row i → Passing row before (i + 1) new
-  passing-put (a ∷ b ∷ []) new l w h e = rw w (passing-next a b h e)
-  passing-put [] new l w h e = absurd (omega arith)
-  passing-put (a ∷ []) new l w h e = absurd (omega arith)
-  passing-put (a ∷ b ∷ c ∷ words) new l w h e = absurd (omega arith)
 
 -- ## The rows of the passes, as the code has worked them out
 
@@ -106,9 +115,10 @@ pub block-row : (qs keys owners before : List ℕ) (i : ℕ) (words : List ℕ) 
     → words ≡ block_row qs keys owners before i
 block-row qs keys owners before i words looked q best owner w l e b o = w ∙ rw (l, e, b, o)
 
-pub finished-row : (ws before : List ℕ) (i : ℕ) (words : List ℕ) (owner : ℕ) → words ≡ finished ws owner → owner ≡ get_or before (2 * i + 1) 0 → words ≡ finished_row ws before i
-finished-row ws before i words owner w o = w ∙ rw o
+pub finished-row : (ws before : List ℕ) (i : ℕ) (words : List ℕ) (nation : Option ℕ) (owner : ℕ) → words ≡ answer_words (map (plain_at ws) nation) → nation ≡ row_owner owner
+    → owner ≡ get_or before (2 * i + 1) 0 → words ≡ finished_row ws before i
+finished-row ws before i words nation owner w n o = w ∙ rw (n, o)
 
-pub claim-row : (ws es qs : List ℕ) (i : ℕ) (words : List ℕ) (best : Option Claim) (q : Question) → words ≡ answer_words (map (plain_of ws) best)
-    → best ≡ best_of q.tag q.date (claims_in ws es) → q ≡ question_at qs i → words ≡ claim_row ws es qs i
-claim-row ws es qs i words best q w b e = w ∙ rw (b, e)
+pub claim-row : (ws es qs : List ℕ) (i : ℕ) (words : List ℕ) (nation : Option ℕ) (best : Option Claim) (q : Question) → words ≡ answer_words (map (plain_at ws) nation)
+    → nation ≡ map (λ c. c.nation) best → best ≡ best_of q.tag q.date (claims_in ws es) → q ≡ question_at qs i → words ≡ claim_row ws es qs i
+claim-row ws es qs i words nation best q w n b e = w ∙ ap answer_words (ap (map (plain_at ws)) n ∙ map-twice (λ (c : Claim). c.nation) (plain_at ws) best) ∙ rw (b, e)

@@ -38,20 +38,18 @@ module _ (ws es qs before : List ℕ) where
   unfolding rows
   number = first_of (chronicle_number ws es ∷ questions_number qs ∷ room_number (fits rows before) ∷ [])
 
-  -- The code has tested the shape, s.
-  module _ (s : Bool) (e : s ≡ well_shaped ws es) where
-    pub each-torn : not s ≡ true → record { answer = refused 11; memory = before } ≡ call_resolve_each ws es qs before
-    unfolding call_resolve_each number rows
-    each-torn h =
-        let t = sym e ∙ not-true s h in
-        let first : number ≡ 11 = ap (λ (n : ℕ). first_of (n ∷ questions_number qs ∷ room_number (fits rows before) ∷ [])) (ap (λ (b : Bool). cond b 0 11) t) ∙ first-stop 11 _ (λ z. omega arith) in
-        sym (rw first (outcome-refused 11 (length (questions_in qs)) (written rows before) before (omega arith)))
+  -- What `open` refused.
+  pub each-torn : (n : ℕ) → 0 < n → n ≡ cond (well_shaped ws es) 0 11 → record { answer = refused n; memory = before } ≡ call_resolve_each ws es qs before
+  unfolding call_resolve_each number rows
+  each-torn n more e =
+      let first : number ≡ n =
+      ap (λ (m : ℕ). first_of (m ∷ questions_number qs ∷ room_number (fits rows before) ∷ [])) (sym e) ∙ first-stop n _ (λ z. omega arith) in
+      sym (rw first (outcome-refused n (length (questions_in qs)) (written rows before) before more))
 
-    -- And the questions, g.
-    module _ (well : not s ≡ false) (g : Bool) (f : g ≡ (is_whole question_width qs && all_of question_shaped (questions_in qs))) where
-      shaped : well_shaped ws es ≡ true
-      shaped = sym e ∙ not-false s well
-
+  -- The chronicle is well shaped.
+  module _ (shaped : well_shaped ws es ≡ true) where
+    -- The code has tested the questions, g.
+    module _ (g : Bool) (f : g ≡ (is_whole question_width qs && all_of question_shaped (questions_in qs))) where
       behind : number ≡ first_of (questions_number qs ∷ room_number (fits rows before) ∷ [])
       unfolding number rows
       behind = first-pass (chronicle_number ws es) _ (ap (λ (b : Bool). cond b 0 11) shaped)

@@ -1,12 +1,11 @@
 -- What the rows of the answer hold between blocks: the date and the nation number plus 1 of each question's best claim so far.
-use Rattle.std.specs.Prelude.{◌≡◌, true, cond, ◌||◌, List, [], ◌∷◌, ◌++◌, ℕ, zero, suc, ◌+◌, ◌*◌, ◌%◌, ◌≤◌, leb, eqb, length, set, drop, get_or}
+use Rattle.std.specs.Prelude.{◌≡◌, true, cond, ◌||◌, List, [], ◌∷◌, ◌++◌, ℕ, zero, suc, ◌+◌, ◌*◌, ◌%◌, ◌≤◌, leb, eqb, length, take, drop, get_or}
 use Rattle.std.proofs.Math.Option.{Option, none, some, map}
 use Rattle.lists.specs.Lists.{all_of, join_of, numbers_from}
 use Rattle.rules.specs.NationRows.{well_shaped}
 use Rattle.rules.specs.Questions.{Question, questions_in, question_shaped, answer_words}
-use Rattle.chronicle_rows.specs.RowAt.{nation_row_at}
 use Rattle.claims.specs.declared.claims.Claim.{Claim}
-use Rattle.claims.specs.Claims.{claims_in, best_of, plain_of}
+use Rattle.claims.specs.Claims.{claims_in, best_of, plain_of, plain_at}
 use Rattle.questions.specs.Asked.{question_at}
 use Rattle.questions.specs.Layout.{row_owners}
 use Rattle.questions.specs.Keys.{last_asked, key_day, key_number}
@@ -27,17 +26,21 @@ best_words cs q = claim_words (best_of q.tag q.date cs)
 
 -- A row written at its place.
 abbrev pub row_set : List ℕ → ℕ → List ℕ → List ℕ
-row_set out i row = set (set out (2 * i) (get_or row 0 0)) (2 * i + 1) (get_or row 1 0)
+row_set out i row = take (2 * i) out ++ (row ++ drop (2 * (i + 1)) out)
 
 -- A row after a block: the block's claim, if there is one and the row holds none or one that is not later.
 abbrev pub updated : List ℕ → Option ℕ → ℕ → ℕ → List ℕ
 updated owners none best owner = best ∷ owner ∷ []
 updated owners (some k) best owner = cond (eqb owner 0 || leb best (key_day k)) (key_words owners (some k)) (best ∷ owner ∷ [])
 
--- A row in the end: latest and stored tag of the nation whose number plus 1 it holds.
+-- The number of the nation that a row holds, plus 1; none by 0.
+abbrev pub row_owner : ℕ → Option ℕ
+row_owner zero = none
+row_owner (suc m) = some m
+
+-- A row in the end: latest and stored tag of that nation.
 abbrev pub finished : List ℕ → ℕ → List ℕ
-finished ws zero = 0 ∷ 0 ∷ []
-finished ws (suc m) = (nation_row_at ws m).latest.0 ∷ (nation_row_at ws m).stored.0 ∷ []
+finished ws owner = answer_words (map (plain_at ws) (row_owner owner))
 
 -- So many rows, each by its number, and behind them what stood there.
 abbrev pub rows_with : (ℕ → List ℕ) → ℕ → List ℕ → List ℕ

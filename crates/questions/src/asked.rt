@@ -3,10 +3,9 @@ ghost use Rattle.std.specs.Prelude.{◌≡◌, ◌&&◌, length};
 ghost use Rattle.std.proofs.Common.{lit<};
 ghost use Rattle.lists.specs.Lists.{all_of, is_whole};
 ghost use Rattle.rules.specs.Questions.{question_width, question_of, questions_in, question_shaped};
-ghost use Rattle.questions.specs.Cases.{question_told};
-ghost use Rattle.questions.specs.Asked.{question_at};
+ghost use Rattle.questions.specs.Cases.{question_in};
 
-use chronicle_rows::{Row, row_at};
+use chronicle_rows::{LentRows, Row};
 use format::{CountryTag, Eu4Date};
 
 // How many words a question has.
@@ -19,9 +18,12 @@ pub struct Question {
     pub date: Eu4Date,
 }
 
+// The questions of lent words.
+pub type Questions<'a> = LentRows<'a, Question, QUESTION_WIDTH>;
+
 // What a question's words ask, whatever they are: `questions_good` tests tag and date.
 impl From<[u32; QUESTION_WIDTH]> for Question {
-    ghost from_gives = { λ row question. question_told question ≡ question_of row };
+    ghost from_gives = { λ row question. question ≡ question_in row };
 
     fn from(row: [u32; QUESTION_WIDTH]) -> Question {
         let [tag, date] = row;
@@ -33,6 +35,10 @@ impl From<[u32; QUESTION_WIDTH]> for Question {
 }
 
 impl Row<QUESTION_WIDTH> for Question {
+    ghost told = { question_in };
+
+    ghost read = { λ words row e. e };
+
     ghost some = { lit< tt };
 
     ghost narrow = { lit< tt };
@@ -44,14 +50,6 @@ pub fn question_count(questions: &[u32]) -> usize
     ensures { result ≡ length (questions_in questions.now) }
 {
     questions.len() / QUESTION_WIDTH
-}
-
-// Question number i, untested; past the last one zeros.
-#[tactic(auto, using(crate::proofs::AskedLaws::question_here))]
-pub fn question_at(questions: &[u32], i: usize) -> Question
-    ensures { question_told result ≡ question_at questions.now i }
-{
-    row_at(questions, i)
 }
 
 // Whether a question's tag and date are good.

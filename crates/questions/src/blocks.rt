@@ -1,9 +1,7 @@
 // Blocks of claims as sorted keys. A key holds a claim's tag, date and number in the block, so that the claims to a tag stand together
 // in the order of their dates, those of one date in list order.
-ghost use Rattle.std.specs.Prelude.{◌≡◌, ◌+◌, ◌<◌, ◌≤◌, leb, IfSome};
-ghost use Rattle.sorting.specs.Sort.{sort_by};
+ghost use Rattle.std.specs.Prelude.{◌≡◌, ◌+◌, ◌<◌, ◌≤◌, IfSome};
 ghost use Rattle.lists.specs.Options.{option_of};
-ghost use Rattle.search.specs.Halving.{CountsBelow};
 ghost use Rattle.claims.specs.Claims.{claims_left};
 ghost use Rattle.questions.specs.Layout.{three_letters, claim_numbers, key_span};
 ghost use Rattle.questions.specs.Keys.{tag_bits, lowest_key, Fills, SortsBlock, block_room, last_asked};
@@ -15,7 +13,7 @@ use crate::layout::{
 };
 use claims::Claims;
 use format::{CountryTag, Eu4Date};
-use search::count_near;
+use search::SortedKeys;
 use spreading::spread_sort;
 
 // How many claims are sorted at a time: a chronicle at 01's limits is one block.
@@ -40,7 +38,8 @@ fn lowest_key(tag: CountryTag, date: Eu4Date) -> u64
     tag_bits(tag) * CLAIM_SPAN + u64::from(u32::from(date)) % CLAIM_DATES * CLAIM_NUMBERS
 }
 
-// Takes as many claims as there is room for, and writes the key and the nation number of each. Gives how many were taken.
+// Takes as many claims as there is room for, and writes the key and the nation number of each. Gives how many were taken: by number, since `take` does
+// not tell that, and a `zip` with the cells would lose a claim where they end.
 fn fill_block(claims: &mut Claims, keys: &mut [u64], owners: &mut [u64]) -> usize
     ensures { Fills (claims_left claims.old) (claims_left claims.new) (block_room keys.old owners.old) result keys.old keys.new owners.old owners.new }
 {
@@ -67,32 +66,21 @@ pub(crate) fn sort_block(
     ensures some { IfSome result (λ taken. 0 < taken) }
 {
     let taken = fill_block(claims, keys, owners);
-    spread_sort(&mut keys[0..taken], scratch);
+    spread_sort(&mut keys[..taken], scratch);
     (taken != 0).then_some(taken)
 }
 
-// The last key of the tag that is not after the date, which stands before key number i. Its keys begin at date 0, which is before every date.
-fn key_before(keys: &[u64], i: usize, tag: CountryTag, date: Eu4Date) -> Option<u64>
-    requires { CountsBelow keys.now (lowest_key tag date + claim_numbers) i }
-    ensures { sort_by leb keys.now ≡ keys.now → option_of result ≡ last_asked tag date keys.now }
-{
-    let key = keys[i.checked_sub(1)?];
-    if key < lowest_key(tag, Eu4Date::kept(0)) {
-        return None;
-    }
-    Some(key)
-}
-
-// The last key of the tag that is not after the date, among keys that are in order: found fast with the starts that `index_block` sets for
-// them, and found all the same with any others.
+// The last key of the tag that is not after the date: found fast with the starts that `index_block` sets for the keys, and found all the same with any
+// others. The keys of a tag begin at the date before all.
 pub(crate) fn look_up_near(
-    keys: &[u64],
+    sorted: SortedKeys<'_>,
     starts: &[u64],
     tag: CountryTag,
     date: Eu4Date,
 ) -> Option<u64>
-    ensures { sort_by leb keys.now ≡ keys.now → option_of result ≡ last_asked tag date keys.now }
+    ensures { option_of result ≡ last_asked tag date sorted.entry.keys.now }
 {
-    let i = count_near(keys, starts, lowest_key(tag, date) + LAST_NUMBER);
-    key_before(keys, i, tag, date)
+    let i = sorted.count_near(starts, lowest_key(tag, date) + LAST_NUMBER);
+    let key = sorted.keys[i.checked_sub(1)?];
+    (lowest_key(tag, Eu4Date::BEFORE_ALL) <= key).then_some(key)
 }

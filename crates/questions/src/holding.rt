@@ -1,6 +1,5 @@
 // Rows held against the claims of a chronicle, a sorted block of claims at a time.
-ghost use Rattle.std.specs.Prelude.{◌≡◌, ◌≤◌, ltb, List, ℕ, leb, length};
-ghost use Rattle.sorting.specs.Sort.{sort_by};
+ghost use Rattle.std.specs.Prelude.{◌≡◌, ◌≤◌, ltb, List, ℕ, length};
 ghost use Rattle.rules.specs.NationRows.{nation_rows_in};
 ghost use Rattle.claims.specs.Claims.{claims_in};
 ghost use Rattle.questions.specs.Layout.{row_owners};
@@ -11,18 +10,18 @@ ghost use Rattle.questions.specs.Holding.{HoldsAll};
 use crate::blocks::{BLOCK, look_up_near, sort_block};
 use crate::layout::ROW_OWNERS;
 use crate::words::{ANSWER_WIDTH, updated_row};
-use chronicle_rows::nation_count;
+use chronicle_rows::{Chronicle, nation_count};
 use claims::Claims;
 use format::{CountryTag, Eu4Date};
-use search::{CELLS, index_block};
+use search::{CELLS, SortedKeys, index_block};
 
-// Some claims: their sorted keys, the numbers of their nations, which a key leads to, and hints of where the keys of each cell start.
+// Some claims: their sorted keys, the numbers of their nations, which a key leads to, and hints of where the keys of each cell start. Owners stand
+// beside the keys: a key has 16 bits for a claim's number, and none for its nation's.
 #[derive(Clone, Copy)]
 pub struct ClaimBlock<'a> {
-    keys: &'a [u64],
+    sorted: SortedKeys<'a>,
     owners: &'a [u64],
     starts: &'a [u64],
-    ghost sorted: { sort_by leb keys.now ≡ keys.now },
 }
 
 impl ClaimBlock<'_> {
@@ -35,9 +34,9 @@ impl ClaimBlock<'_> {
         best: u32,
         owner: u32,
     ) -> [u32; ANSWER_WIDTH]
-        ensures { result ≡ updated self.now.owners.now (last_asked tag date self.now.keys.now) best owner }
+        ensures { result ≡ updated self.now.owners.now (last_asked tag date self.now.sorted.keys.now) best owner }
     {
-        let looked = look_up_near(self.keys, self.starts, tag, date);
+        let looked = look_up_near(self.sorted, self.starts, tag, date);
         updated_row(self.owners, looked, best, owner)
     }
 }
@@ -50,7 +49,7 @@ pub trait BlockPass {
 
     // Holds the best claim so far of each row against that of the block, in a slice with room for the rows.
     fn hold(&self, block: &ClaimBlock, out: &mut [u32])
-        ensures { words self.now ≤ length out.old → out.new ≡ held self.now block.now.keys.now block.now.owners.now out.old };
+        ensures { words self.now ≤ length out.old → out.new ≡ held self.now block.now.sorted.keys.now block.now.owners.now out.old };
 }
 
 // Whether a row's word has room for the number of every nation, plus 1.
@@ -62,20 +61,22 @@ pub fn fit_in_rows(nations: &[u32]) -> bool
 
 // Holds rows against each block of the claims, until none is left. A `while let`: a block lies in arrays that the next one fills anew, so that no iterator
 // can give it.
-pub fn hold_blocks<P: BlockPass>(pass: &P, nations: &[u32], entries: &[u32], out: &mut [u32])
-    ensures { HoldsAll (P.words pass.now) (P.held pass.now) (claims_in nations.now entries.now) out.old out.new }
+pub fn hold_blocks<P: BlockPass>(pass: &P, chronicle: Chronicle<'_>, out: &mut [u32])
+    ensures { HoldsAll (P.words pass.now) (P.held pass.now) (claims_in chronicle.entry.nations.now chronicle.entry.entries.now) out.old out.new }
 {
     // Fixed memory: a call allocates nothing.
     let mut keys = [0u64; BLOCK];
     let mut owners = [0u64; BLOCK];
     let mut scratch = [0u64; BLOCK];
     let mut starts = [0u64; CELLS];
-    let mut claims = Claims::of(nations, entries);
+    let mut claims = Claims::of(chronicle);
     while let Some(taken) = sort_block(&mut claims, &mut keys, &mut owners, &mut scratch) {
-        let keys = &keys[..taken];
-        index_block(keys, &mut starts);
+        let sorted = SortedKeys {
+            keys: &keys[..taken],
+        };
+        index_block(sorted.keys, &mut starts);
         let block = ClaimBlock {
-            keys,
+            sorted,
             owners: &owners,
             starts: &starts,
         };

@@ -9,6 +9,7 @@ mod holding;
 mod layout;
 mod words;
 
-pub use asked::{Question, question_at, question_count};
+pub use asked::{Question, Questions, question_count};
 pub use each::resolve_each;
 pub use holding::{BlockPass, ClaimBlock, fit_in_rows, hold_blocks};
+pub use words::row_owner;

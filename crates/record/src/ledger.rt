@@ -1,5 +1,5 @@
 // An iterator over the ledger names, each with its points.
-ghost use Rattle.std.specs.Prelude.{◌≡◌, take, drop};
+ghost use Rattle.std.specs.Prelude.{◌≡◌, length, take, drop};
 ghost use Rattle.std.specs.Iterator.{YieldsFirstBy, item_count};
 ghost use Rattle.record.specs.Cursors.{ledger_of, ledgers_left, all_points, points_left};
 
@@ -20,7 +20,15 @@ pub struct Ledgers<'a> {
     pub(crate) points: Points<'a>,
 }
 
+#[tactic(auto, using(crate::proofs::CountLaws::counts))]
 impl<'a> Ledgers<'a> {
+    // How many ledger names are left.
+    pub fn len(&self) -> usize
+        ensures { result ≡ length (ledgers_left self.now) }
+    {
+        self.rows.len()
+    }
+
     // So many of the points that all names left share, from a number on; as far as there are any.
     pub fn points_from(&self, first: usize, n: usize) -> Points<'a>
         ensures { points_left result ≡ take n (drop first (all_points self.now)) }

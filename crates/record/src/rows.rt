@@ -1,5 +1,5 @@
 // Rows of one width that own nothing, one by one in their order.
-ghost use Rattle.std.specs.Prelude.{◌≡◌, ◌*◌, length, map, take, drop};
+ghost use Rattle.std.specs.Prelude.{◌≡◌, length, map, take, drop};
 ghost use Rattle.std.specs.Iterator.{YieldsFirst, item_count};
 
 use format::{CountryTag, OwnerEvent, Packed, Point, Switch, WarEvent};

@@ -2,7 +2,7 @@
 ghost use Rattle.std.specs.Iterator.{YieldsFirstRef, item_count};
 ghost use Rattle.record.specs.Cursors.{strings_left};
 
-// So many strings, and the bytes that they stand in.
+// So many strings, and the bytes that they stand in. The number stands beside them: that the bytes are just so many strings is no fact of this type.
 #[derive(Clone, Copy)]
 pub struct Strings<'a> {
     pub(crate) bytes: &'a [u8],

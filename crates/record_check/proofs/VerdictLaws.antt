@@ -8,7 +8,7 @@ use Prim.Native.Nat.{ℕ}
 use Rattle.format.specs.declared.refused.Refusal.{Refusal}
 use Rattle.format.specs.Refused.{refusal_number}
 use Rattle.format.specs.Refusal.{refusal}
-use Rattle.record_check.specs.declared.verdict.Accepted.{Accepted}
+use Rattle.record_head.specs.declared.parsed.Parsed.{Parsed}
 use Rattle.record_check.specs.Accepted.{RightlyAccepted}
 
 -- a number that stands for a test that fails, or for one that holds
@@ -28,7 +28,7 @@ module _ {b : Bool} (n : ℕ) where
 pub refused : (xs : List ℕ) (e : Refusal) → refusal_number e ≡ refusal xs → RightlyAccepted xs (Err e)
 refused xs e h = record { number = h; rows = tt }
 
-pub refused-on : (xs : List ℕ) (r : code.Result Accepted Refusal) (e : Refusal) → IsErr r × IsErrAnd r (λ x. x ≡ e) → refusal_number e ≡ refusal xs
+pub refused-on : (xs : List ℕ) (r : code.Result Parsed Refusal) (e : Refusal) → IsErr r × IsErrAnd r (λ x. x ≡ e) → refusal_number e ≡ refusal xs
     → RightlyAccepted xs r
 refused-on xs (Ok x) e h t = absurd h.1
 refused-on xs (Err x) e h t = refused xs x (ap refusal_number h.1 ∙ t)

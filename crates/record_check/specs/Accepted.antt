@@ -6,9 +6,9 @@ use Rattle.format.specs.Head.{head_of}
 use Rattle.format.specs.Refused.{number_of}
 use Rattle.format.specs.Refusal.{refusal}
 use Rattle.record_head.specs.Sections.{SectionsOf}
-use Rattle.record_check.specs.declared.verdict.Accepted.{Accepted}
+use Rattle.record_head.specs.declared.parsed.Parsed.{Parsed}
 
 -- What `accept` promises.
-pub record RightlyAccepted (xs : List ℕ) (r : code.Result Accepted Refusal) : Type 0 where
+pub record RightlyAccepted (xs : List ℕ) (r : code.Result Parsed Refusal) : Type 0 where
   pub number : number_of r ≡ refusal xs
   pub rows : IfOk r (λ a. (a.head ≡ head_of xs) × SectionsOf xs a.head a.sections)

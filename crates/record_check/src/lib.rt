@@ -5,4 +5,4 @@ mod repeats;
 mod sizes;
 mod verdict;
 
-pub use verdict::{Accepted, accept, check};
+pub use verdict::{accept, check};

@@ -1,32 +1,24 @@
 // Number 7: a country tag or a province id twice, or an id above P. Marks find a repeat in one pass: bits for the many tags,
 // and for the few ids a whole byte each, which is quicker.
-ghost use Rattle.std.specs.Prelude.{◌≡◌, ◌+◌, ◌-◌, ◌*◌, ◌/◌, ◌%◌, ◌||◌, true, List, ℕ, ltb, map, length, ◌≤◌};
+ghost use Rattle.std.specs.Prelude.{◌≡◌, ◌+◌, ◌-◌, ◌*◌, ◌/◌, ◌%◌, ◌||◌, true, ltb, map, length, ◌≤◌};
 ghost use Rattle.lists.specs.Lists.{All, any_of, twice};
-ghost use Rattle.format.specs.Head.{head_of};
 ghost use Rattle.format.specs.Tags.{is_tag};
 ghost use Rattle.format.specs.Rows.{country_at, province_at};
 ghost use Rattle.format.specs.Refusal.{tag_twice, id_twice_or_above};
-ghost use Rattle.record_head.specs.Sections.{SectionsOf};
 ghost use Rattle.record_check.specs.Few.{FewRows};
 
-use format::{CountryTag, Head, Packed, PackedCountry, PackedProvince};
-use record_head::Sections;
+use format::{CountryTag, MOST_PROVINCES, Packed, PackedCountry, PackedProvince};
+use record_head::Parsed;
 
-// A tag byte's place from 0 to 75: `-` is 45, and the next tag byte is 48.
-fn byte_place(b: u32) -> u32
-    ensures { result ≡ b - 47 }
-{
-    b.saturating_sub(47)
-}
-
-// A tag's place among all tags, of 76 for each byte: the fewer there are, the smaller the stack that a thread needs for the check.
+// A tag's place among all tags, of 76 for each byte, where `-` is 45 and the next tag byte 48: the fewer there are, the smaller the stack that a
+// thread needs for the check. By division, as the test of a tag is: the promise is of any word.
 fn place(tag: CountryTag) -> usize
     ensures { result ≡ (tag.0 / 65536 - 47) * 5776 + (tag.0 / 256 % 256 - 47) * 76 + (tag.0 % 256 - 47) }
 {
     let w = u32::from(tag);
-    let a = byte_place(w / 65536);
-    let b = byte_place(w / 256 % 256);
-    let c = byte_place(w % 256);
+    let a = (w / 65536).saturating_sub(47);
+    let b = (w / 256 % 256).saturating_sub(47);
+    let c = (w % 256).saturating_sub(47);
     (a * 5776 + b * 76 + c) as usize
 }
 
@@ -52,11 +44,11 @@ fn tag_twice(rows: &[[u8; 12]]) -> bool
 
 // Whether an id stands twice among provinces, or is above their number.
 fn id_twice_or_above(rows: &[[u8; 7]]) -> bool
-    requires { length rows.now ≤ 8000 }
+    requires { length rows.now ≤ MOST_PROVINCES }
     ensures { result ≡ twice (map (λ row. (province_at row 0).id.0) rows.now) || any_of (ltb (length rows.now)) (map (λ row. (province_at row 0).id.0) rows.now) }
 {
     let n = rows.len();
-    let mut seen = [false; 8192];
+    let mut seen = [false; MOST_PROVINCES + 1];
     for row in rows {
         let id = u32::from(PackedProvince::unpack(row).id) as usize;
         let above = n < id;
@@ -72,10 +64,11 @@ fn id_twice_or_above(rows: &[[u8; 7]]) -> bool
 }
 
 // Whether anything stands twice that may not, or an id is above the number of provinces. The countries' fields are good.
-pub(crate) fn repeated(head: Head, sections: Sections) -> bool
-    requires few { FewRows sections }
-    requires good_tags { All (λ row. is_tag (country_at row 0).tag ≡ true) sections.countries.now }
-    ensures { (xs : List ℕ) → head ≡ head_of xs → SectionsOf xs head sections.entry → result ≡ tag_twice xs || id_twice_or_above xs }
+pub(crate) fn repeated(parsed: Parsed) -> bool
+    requires few { FewRows parsed.sections }
+    requires good_tags { All (λ row. is_tag (country_at row 0).tag ≡ true) parsed.sections.countries.now }
+    ensures { result ≡ tag_twice parsed.entry.bytes.now || id_twice_or_above parsed.entry.bytes.now }
 {
+    let sections = parsed.sections;
     tag_twice(sections.countries) | id_twice_or_above(sections.provinces)
 }

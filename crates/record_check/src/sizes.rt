@@ -1,22 +1,21 @@
 // Number 3: limits, totals and length.
-ghost use Rattle.std.specs.Prelude.{◌≡◌, true, false, List, ℕ, ◌≤◌, eqb, map, IfOk, IfErr, length};
+ghost use Rattle.std.specs.Prelude.{◌≡◌, ℕ, ◌≤◌, eqb, map, IfOk, length};
 ghost use Rattle.lists.specs.Lists.{sum_of};
-ghost use Rattle.format.specs.Head.{head_of};
 ghost use Rattle.format.specs.Rows.{strings_end};
-ghost use Rattle.format.specs.Refusal.{totals_agree, sizes_agree};
-ghost use Rattle.record_head.specs.Sections.{SectionsOf};
+ghost use Rattle.format.specs.Refusal.{totals_agree, sizes_number};
+ghost use Rattle.format.specs.Refused.{number_of};
 ghost use Rattle.record_check.specs.Few.{FewRows};
 
-use format::{Head, Packed, PackedCountry, PackedLedger, PackedProvince, Refusal};
-use record_head::Sections;
+use format::{MOST_PROVINCES, Packed, PackedCountry, PackedLedger, PackedProvince, Refusal};
+use record_head::Parsed;
 
-// The sum of a count in each row, of which there are few.
+// The sum of a count in each row. No section whose rows own others may have more rows than the provinces.
 fn total<R: Packed<WIDTH>, const WIDTH: usize, F: Fn(R) -> u32>(
     rows: &[[u8; WIDTH]],
     count: F,
 ) -> usize
     requires callable { F.IsAlwaysCallable count }
-    requires few { length rows.now ≤ 8000 }
+    requires few { length rows.now ≤ MOST_PROVINCES }
     ensures { (number : R → ℕ) → ((row : R) (n : ℕ) → F.post count row n → n ≡ number row) → result ≡ sum_of number (map R.unpacked rows.now) }
 {
     let mut sum = 0;
@@ -27,10 +26,12 @@ fn total<R: Packed<WIDTH>, const WIDTH: usize, F: Fn(R) -> u32>(
 }
 
 // The rows that own others count as many as the head says.
-fn totals_agree(head: Head, sections: Sections) -> bool
-    requires { FewRows sections }
-    ensures { (xs : List ℕ) → head ≡ head_of xs → SectionsOf xs head sections.entry → result ≡ totals_agree xs }
+fn totals_agree(parsed: Parsed) -> bool
+    requires { FewRows parsed.sections }
+    ensures { result ≡ totals_agree parsed.entry.bytes.now }
 {
+    let head = parsed.head;
+    let sections = parsed.sections;
     (total(sections.countries, |row: PackedCountry| row.previous) == head.previous as usize)
         & (total(sections.countries, |row: PackedCountry| row.switches) == head.switches as usize)
         & (total(sections.provinces, |row: PackedProvince| row.events) == head.events as usize)
@@ -38,7 +39,8 @@ fn totals_agree(head: Head, sections: Sections) -> bool
         & (total(sections.ledgers, |row: PackedLedger| row.points) == head.points as usize)
 }
 
-// Whether the bytes are just so many strings.
+// Whether the bytes are just so many strings. It cuts a string off as `Strings::next` (record) does, in two lines: a function of both would promise as
+// much as either.
 fn strings_fill(bytes: &[u8], n: u32) -> bool
     ensures { result ≡ eqb (strings_end bytes.now 0 n) (length bytes.now) }
 {
@@ -55,19 +57,25 @@ fn strings_fill(bytes: &[u8], n: u32) -> bool
     rest.is_empty()
 }
 
-// The sections, where no count is above its limit, the totals agree with the head, and the rows need exactly the bytes that are there.
-pub(crate) fn sections_agreeing(s: &[u8], head: Head) -> Result<Sections<'_>, Refusal>
-    ensures agreeing { head ≡ head_of s.now → IfOk result (λ z. (sizes_agree s.now ≡ true) × SectionsOf s.now head z) }
-    ensures wrong { head ≡ head_of s.now → IfErr result (λ e. (e ≡ Refusal.WrongSizes) × (sizes_agree s.now ≡ false)) }
+// The head and the sections, where no count is above its limit, the totals agree with the head, and the rows need exactly the bytes that are there.
+pub(crate) fn sizes_checked(s: &[u8]) -> Result<Parsed<'_>, Refusal>
+    ensures number { number_of result ≡ sizes_number s.now }
+    ensures bytes { IfOk result (λ p. p.bytes.now ≡ s.now) }
 {
+    let head = record_head::read_head(s);
     if !record_head::within_limits(head) {
         return Err(Refusal::WrongSizes);
     }
     let Some(sections) = record_head::sections_of(s, head) else {
         return Err(Refusal::WrongSizes);
     };
-    if totals_agree(head, sections) & strings_fill(sections.strings, head.strings) {
-        Ok(sections)
+    let parsed = Parsed {
+        bytes: s,
+        head,
+        sections,
+    };
+    if totals_agree(parsed) & strings_fill(sections.strings, head.strings) {
+        Ok(parsed)
     } else {
         Err(Refusal::WrongSizes)
     }

@@ -1,40 +1,33 @@
-// The check of a record, and what an accepted one holds.
+// The check of a record, and the head and the rows of an accepted one.
 ghost use Rattle.std.specs.Prelude.{◌≡◌};
 ghost use Rattle.format.specs.Refused.{number_of};
 ghost use Rattle.format.specs.Refusal.{refusal};
 ghost use Rattle.record_check.specs.Accepted.{RightlyAccepted};
 
 use crate::{repeats, sizes};
-use format::{Head, Refusal};
-use record_head::Sections;
+use format::Refusal;
+use record_head::Parsed;
 
-// The head of an accepted record, and the rows of its sections.
-#[derive(Clone, Copy)]
-pub struct Accepted<'a> {
-    pub head: Head,
-    pub sections: Sections<'a>,
-}
-
-// What an accepted record holds; else its refusal by the order of the numbers 1, 2, 3; then 4, 5, 6, 9; then 7, 8. Any bytes may be given.
-pub fn accept(s: &[u8]) -> Result<Accepted<'_>, Refusal>
+// The head of an accepted record, and the rows of its sections; else its refusal by the order of the numbers 1, 2, 3; then 4, 5, 6, 9; then 7, 8. Any
+// bytes may be given.
+pub fn accept(s: &[u8]) -> Result<Parsed<'_>, Refusal>
     ensures { RightlyAccepted s.now result }
 {
     if !record_head::opens_record(s) {
         return Err(Refusal::NoRecord);
     }
-    let head = record_head::read_head(s);
-    if !record_head::version_known(head) {
+    if !record_head::version_known(record_head::read_head(s)) {
         return Err(Refusal::UnknownVersion);
     }
-    let sections = sizes::sections_agreeing(s, head)?;
-    record_fields::fields_checked(head, sections)?;
-    if repeats::repeated(head, sections) {
+    let parsed = sizes::sizes_checked(s)?;
+    record_fields::check_fields(parsed)?;
+    if repeats::repeated(parsed) {
         return Err(Refusal::Repeated);
     }
-    if record_head::ends_early(head) {
+    if record_head::ends_early(parsed.head) {
         return Err(Refusal::EndsEarly);
     }
-    Ok(Accepted { head, sections })
+    Ok(parsed)
 }
 
 // The check alone.

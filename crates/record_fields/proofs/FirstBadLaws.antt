@@ -8,17 +8,14 @@ use lib.ListN.{length, get_or, drop}
 use Rattle.std.proofs.lemmas.List.{at_drop_all, at_drop_more}
 use Rattle.lists.specs.Lists.{all_of}
 use Rattle.lists.proofs.BoolLaws.{cases}
-use Rattle.format.specs.declared.head.Head.{Head}
 use Rattle.format.specs.declared.refused.Refusal.{Refusal}
 use Rattle.format.specs.Bytes.{tag_at}
-use Rattle.format.specs.Head.{head_of}
 use Rattle.format.specs.Rows.{country_at, switch_at, province_at, owner_event_at, war_event_at, ledger_at, point_at}
 use Rattle.format.specs.Refused.{refusal_number}
 use Rattle.format.specs.Refusal.{first_of, first_in, tag_number, year_number, country_number, switch_number, owner_event_number, war_event_number, head_number, fields_number}
 use Rattle.format.proofs.FirstLaws.{first-pass}
 use Rattle.format.proofs.RefusedLaws.{stop}
-use Rattle.record_head.specs.declared.sections.Sections.{Sections}
-use Rattle.record_head.specs.Sections.{SectionsOf}
+use Rattle.record_head.specs.declared.parsed.Parsed.{Parsed}
 
 -- So far all rows pass; the next one, read from the bytes of its place, passes too or refuses.
 module _ {B A : Type 0} (number : A → ℕ) (read : B → A) (rows : List B) (i : ℕ) where
@@ -52,20 +49,21 @@ points-told (row ∷ rows) =
     (λ h. simp h)
 
 -- The numbers of the head and of each section, in the order of the file, are those of the record.
-pub fields-told : (xs : List ℕ) (h : Head) (z : Sections) {m : ℕ} → h ≡ head_of xs → SectionsOf xs h z
+pub fields-told : (p : Parsed) {m : ℕ}
     → m
     ≡ first_of
-    (head_number h
-    ∷ first_in country_number (map (λ row. country_at row 0) z.countries.now)
-    ∷ first_in (λ t. tag_number t) (map (λ row. tag_at row 0) z.previous.now)
-    ∷ first_in switch_number (map (λ row. switch_at row 0) z.switches.now)
-    ∷ first_in (λ r. tag_number r.owner) (map (λ row. province_at row 0) z.provinces.now)
-    ∷ first_in owner_event_number (map (λ row. owner_event_at row 0) z.events.now)
-    ∷ first_in war_event_number (map (λ row. war_event_at row 0) z.war_events.now)
-    ∷ first_in (λ r. tag_number r.tag) (map (λ row. ledger_at row 0) z.ledgers.now)
-    ∷ first_in (λ p. year_number p.year) (map (λ row. point_at row 0) z.points.now)
+    (head_number p.head
+    ∷ first_in country_number (map (λ row. country_at row 0) p.sections.countries.now)
+    ∷ first_in (λ t. tag_number t) (map (λ row. tag_at row 0) p.sections.previous.now)
+    ∷ first_in switch_number (map (λ row. switch_at row 0) p.sections.switches.now)
+    ∷ first_in (λ r. tag_number r.owner) (map (λ row. province_at row 0) p.sections.provinces.now)
+    ∷ first_in owner_event_number (map (λ row. owner_event_at row 0) p.sections.events.now)
+    ∷ first_in war_event_number (map (λ row. war_event_at row 0) p.sections.war_events.now)
+    ∷ first_in (λ r. tag_number r.tag) (map (λ row. ledger_at row 0) p.sections.ledgers.now)
+    ∷ first_in (λ p. year_number p.year) (map (λ row. point_at row 0) p.sections.points.now)
     ∷ [])
-    → m ≡ fields_number xs
+    → m ≡ fields_number p.bytes.now
 unfolding fields_number
-fields-told xs h z e s told =
-    rw (s.countries, s.previous, s.switches, s.provinces, s.events, s.war_events, s.ledgers, s.points, e) at told
+fields-told p told =
+    let s = p.rows_read in
+    rw (s.countries, s.previous, s.switches, s.provinces, s.events, s.war_events, s.ledgers, s.points, p.head_read) at told

@@ -1,24 +1,29 @@
 // Numbers 4, 5, 6 and 9: the first bad field in file order.
-ghost use Rattle.std.specs.Prelude.{◌≡◌, List, ℕ};
-ghost use Rattle.format.specs.Head.{head_of};
+ghost use Rattle.std.specs.Prelude.{◌≡◌};
 ghost use Rattle.format.specs.Refused.{number_of};
 ghost use Rattle.format.specs.Refusal.{fields_number};
-ghost use Rattle.record_head.specs.Sections.{SectionsOf};
 
 use crate::rows::{points_checked, rows_checked};
-use crate::tables::Tables;
+use crate::tables::{Tables, fill_days, fill_tag_bytes};
 use format::{
-    CountryTag, Head, OwnerEvent, PackedCountry, PackedLedger, PackedProvince, Refusal, Switch,
-    WarEvent,
+    CountryTag, OwnerEvent, PackedCountry, PackedLedger, PackedProvince, Refusal, Switch, WarEvent,
 };
-use record_head::Sections;
+use record_head::Parsed;
 
 // The head's fields, then those of each section's rows in the order of the file, by tables that are made once. The first bad one refuses.
-pub fn fields_checked(head: Head, sections: Sections) -> Result<(), Refusal>
-    ensures { (xs : List ℕ) → head ≡ head_of xs → SectionsOf xs head sections.entry → number_of result ≡ fields_number xs }
+pub fn check_fields(parsed: Parsed) -> Result<(), Refusal>
+    ensures { number_of result ≡ fields_number parsed.entry.bytes.now }
 {
-    record_head::head_checked(head)?;
-    let tables = Tables::new();
+    record_head::head_checked(parsed.head)?;
+    let sections = parsed.sections;
+    let mut tag_bytes = [false; 256];
+    let mut days = [false; 10000];
+    fill_tag_bytes(&mut tag_bytes);
+    fill_days(&mut days);
+    let tables = Tables {
+        tag_bytes: &tag_bytes,
+        days: &days,
+    };
     rows_checked::<PackedCountry, 12>(sections.countries, &tables)?;
     rows_checked::<CountryTag, 3>(sections.previous, &tables)?;
     rows_checked::<Switch, 7>(sections.switches, &tables)?;

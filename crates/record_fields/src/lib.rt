@@ -5,4 +5,4 @@ mod fields;
 mod rows;
 mod tables;
 
-pub use fields::fields_checked;
+pub use fields::check_fields;

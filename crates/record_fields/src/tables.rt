@@ -6,24 +6,18 @@ ghost use Rattle.record_fields.specs.Tables.{TagTable, DaysTo, DayTable};
 
 use format::{CountryTag, Eu4Date};
 
-// Of each byte whether it is a tag's, and of each number month*100 + day whether it is a day.
+// Of each byte whether it is a tag's, and of each number month*100 + day whether it is a day. The two stand where the rows are tested, and are lent:
+// handed on by value, they cost a thread 24 KiB of stack more.
 #[derive(Drop)]
-pub(crate) struct Tables {
-    tag_bytes: [bool; 256],
-    days: [bool; 10000],
-    ghost tag_rule: { TagTable tag_bytes },
-    ghost day_rule: { DayTable days },
+pub(crate) struct Tables<'a> {
+    pub(crate) tag_bytes: &'a [bool; 256],
+    pub(crate) days: &'a [bool; 10000],
+    ghost tag_rule: { TagTable tag_bytes.now },
+    ghost day_rule: { DayTable days.now },
 }
 
-impl Tables {
-    // The test of every byte and of every day.
-    pub(crate) fn new() -> Tables {
-        let tag_bytes = tag_table();
-        let days = day_table();
-        Tables { tag_bytes, days }
-    }
-
-    // Whether a tag's three bytes are tag bytes.
+impl Tables<'_> {
+    // Whether a tag's three bytes are tag bytes. By division, and not by `to_be_bytes`: a word of more than three bytes is no tag.
     #[tactic(auto, unfolding(format::specs::Tags::is_tag))]
     pub(crate) fn good_tag(&self, tag: CountryTag) -> bool
         ensures { result ≡ is_tag tag }
@@ -36,7 +30,8 @@ impl Tables {
     fn tag_byte(&self, b: u32) -> bool
         ensures { result ≡ tag_byte b }
     {
-        self.tag_bytes.get(b as usize).copied().unwrap_or(false)
+        let tag_bytes = self.tag_bytes;
+        tag_bytes.get(b as usize).copied().unwrap_or(false)
     }
 
     // Whether the number is a date.
@@ -48,14 +43,12 @@ impl Tables {
 }
 
 // The test of every byte.
-fn tag_table() -> [bool; 256]
-    ensures { TagTable result }
+pub(crate) fn fill_tag_bytes(table: &mut [bool; 256])
+    ensures { TagTable table.new }
 {
-    let mut table = [false; 256];
     for (b, cell) in table.iter_mut().enumerate() {
         *cell = format::tag_byte(b as u32);
     }
-    table
 }
 
 // Marks the days of a month; the months before it are marked.
@@ -70,13 +63,12 @@ fn mark_days(table: &mut [bool; 10000], month: usize)
     }
 }
 
-// Which numbers month*100 + day are days.
-fn day_table() -> [bool; 10000]
-    ensures { DayTable result }
+// Which numbers month*100 + day are days, in a table without marks.
+pub(crate) fn fill_days(table: &mut [bool; 10000])
+    requires { DaysTo table.old (100 * 1) }
+    ensures { DayTable table.new }
 {
-    let mut table = [false; 10000];
     for month in 1..13 {
-        mark_days(&mut table, month);
+        mark_days(table, month);
     }
-    table
 }

@@ -14,6 +14,7 @@ use Rattle.format.specs.Bytes.{byte_at}
 use Rattle.format.specs.Head.{head_of}
 use Rattle.format.specs.Rows.{rows_at}
 use Rattle.format.proofs.PackedLaws.{Reads, head-same, rows_cut}
+use Rattle.record_head.specs.Sections.{RowsCut}
 
 -- Behind the end every byte is 0, so zeros in the place of what is missing change nothing.
 filled : (xs : List ℕ) (size n : ℕ) → n ≡ min (length xs) size → (k : ℕ) → k < size
@@ -55,15 +56,15 @@ pub record Behind (xs : List ℕ) (at : ℕ) (rest : List ℕ) : Type 0 where
   pub left : rest ≡ drop at xs
 
 -- So many rows are taken from what is left: they are a section of the rules, and what is left behind them begins where they end.
-module _ {xs : List ℕ} {at : ℕ} {bytes : List ℕ} (b : Behind xs at bytes) (w n : ℕ) (room : w * n ≤ length bytes) where
-  inside : at + w * n ≤ length xs
-  inside = omega (arith, b.inside, room, ap length b.left, length-drop at xs)
+pub record Section {A : Type 0} (xs : List ℕ) (at width n : ℕ) (read : List ℕ → ℕ → A) (rows : List (List ℕ)) (rest : List ℕ) : Type 0 where
+  pub told : map (λ row. read row 0) rows ≡ rows_at (read xs) width xs at n
+  pub behind : Behind xs (at + width * n) rest
 
-  pub behind-rows : (rest : List ℕ) → rest ≡ drop (w * n) bytes → Behind xs (at + w * n) rest
-  behind-rows rest e =
-      record { inside = inside; left = e ∙ ap (drop (w * n)) b.left ∙ drop-drop (w * n) at xs }
-
-  pub rows-told : {A : Type 0} (read : List ℕ → ℕ → A) → Reads w read → (rows : List (List ℕ)) → rows ≡ first_chunks w n bytes
-      → map (λ row. read row 0) rows ≡ rows_at (read xs) w xs at n
-  rows-told read reads rows e =
-      ap (map (λ row. read row 0)) (e ∙ ap (first_chunks w n) b.left) ∙ rows_cut read w reads xs at n inside
+pub section : {A : Type 0} {xs bytes rest : List ℕ} {rows : List (List ℕ)} {at : ℕ} (b : Behind xs at bytes) (width n : ℕ) {read : List ℕ → ℕ → A} → Reads width read
+    → RowsCut width n bytes rows rest → Section xs at width n read rows rest
+section {xs = xs} {at = at} b width n {read = read} reads cut =
+    let inside : at + width * n ≤ length xs = omega (arith, b.inside, cut.0, ap length b.left, length-drop at xs) in
+    record {
+      told = ap (map (λ row. read row 0)) (cut.1 ∙ ap (first_chunks width n) b.left) ∙ rows_cut read width reads xs at n inside;
+      behind = record { inside = inside; left = cut.2 ∙ ap (drop (width * n)) b.left ∙ drop-drop (width * n) at xs };
+    }

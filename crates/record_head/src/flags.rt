@@ -1,11 +1,6 @@
 // Flags. A mask finds every bit that has no meaning.
-ghost use Rattle.std.specs.Prelude.{◌≡◌, ltb};
+ghost use Rattle.std.specs.Prelude.{◌≡◌, ◌^◌, ltb};
 ghost use Rattle.format.specs.Bytes.{bit};
-
-// The head defines bits 0 and 1 of its flags, a country bits 0 to 2: the others.
-const HEAD_OTHERS: u32 = 0xFFFFFFFC;
-
-const COUNTRY_OTHERS: u32 = 0xFFFFFFF8;
 
 // Bit k, by its mask; behind the last bit there is none. Of the head: 0 ironman, 1 multiplayer; of a country: 0 human, 1 was_player,
 // 2 has_switched_nation.
@@ -16,16 +11,10 @@ pub fn bit(flags: u32, k: u32) -> bool
     flags & mask != 0
 }
 
-// Whether no bit is set that the head does not define.
-pub(crate) fn head_flags_defined(flags: u32) -> bool
-    ensures { result ≡ ltb flags 4 }
+// Whether no bit is set but the first n, by the mask of all others. The head defines 2 flags, a country 3.
+pub fn flags_defined(flags: u32, n: u32) -> bool
+    ensures { result ≡ ltb flags (2 ^ n) }
 {
-    flags & HEAD_OTHERS == 0
-}
-
-// The same of a country.
-pub fn country_flags_defined(flags: u32) -> bool
-    ensures { result ≡ ltb flags 8 }
-{
-    flags & COUNTRY_OTHERS == 0
+    let others = u32::MAX.checked_shl(n).unwrap_or(0);
+    flags & others == 0
 }

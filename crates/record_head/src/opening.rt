@@ -5,11 +5,14 @@ ghost use Rattle.format.specs.Refusal.{opens, head_number};
 ghost use Rattle.format.specs.Refused.{number_of};
 ghost use Rattle.format.specs.Dates.{earlier};
 
-use crate::flags;
-use format::{Head, Packed, Refusal};
+use crate::flags::flags_defined;
+use format::{
+    Head, MOST_COUNTRIES, MOST_EVENTS, MOST_LEDGERS, MOST_POINTS, MOST_PREVIOUS, MOST_PROVINCES,
+    MOST_STRINGS, MOST_SWITCHES, MOST_WAR_EVENTS, MOST_WARS, Packed, Refusal,
+};
 
 // How many bytes a head has.
-const HEAD_BYTES: usize = 44;
+pub(crate) const HEAD_BYTES: usize = 44;
 
 // The head as it stands in the bytes; of fewer than it needs, with zeros for the others.
 pub fn read_head(s: &[u8]) -> Head
@@ -40,16 +43,16 @@ pub fn version_known(h: Head) -> bool
 pub fn within_limits(h: Head) -> bool
     ensures { result ≡ within_limits h }
 {
-    (h.countries <= 2000)
-        & (h.provinces <= 8000)
-        & (h.previous <= 20000)
-        & (h.switches <= 20000)
-        & (h.events <= 60000)
-        & (h.strings <= 1000)
-        & (h.wars <= 5000)
-        & (h.war_events <= 100000)
-        & (h.ledgers <= 2000)
-        & (h.points <= 1000000)
+    (h.countries as usize <= MOST_COUNTRIES)
+        & (h.provinces as usize <= MOST_PROVINCES)
+        & (h.previous as usize <= MOST_PREVIOUS)
+        & (h.switches as usize <= MOST_SWITCHES)
+        & (h.events as usize <= MOST_EVENTS)
+        & (h.strings as usize <= MOST_STRINGS)
+        & (h.wars as usize <= MOST_WARS)
+        & (h.war_events as usize <= MOST_WAR_EVENTS)
+        & (h.ledgers as usize <= MOST_LEDGERS)
+        & (h.points as usize <= MOST_POINTS)
 }
 
 // The first of the head's flags and dates that is bad refuses it.
@@ -57,7 +60,7 @@ pub fn within_limits(h: Head) -> bool
 pub fn head_checked(h: Head) -> Result<(), Refusal>
     ensures { number_of result ≡ head_number h }
 {
-    if !flags::head_flags_defined(h.flags) {
+    if !flags_defined(h.flags, 2) {
         return Err(Refusal::UndefinedBit);
     }
     if !(h.start.good() & h.current.good()) {

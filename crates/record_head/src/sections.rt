@@ -3,10 +3,8 @@ ghost use Rattle.std.specs.Prelude.{◌*◌, ◌<◌, ◌^◌, length, MatchOpti
 ghost use Rattle.format.specs.Head.{strings_at};
 ghost use Rattle.record_head.specs.Sections.{SectionsOf, RowsCut};
 
+use crate::opening::HEAD_BYTES;
 use format::Head;
-
-// The bytes of the countries begin behind the head.
-const COUNTRIES_AT: usize = 44;
 
 // The rows of each section as they stand in the bytes, and the bytes behind the points, where the strings are.
 #[derive(Clone, Copy)]
@@ -36,7 +34,7 @@ fn take_rows<const WIDTH: usize>(bytes: &[u8], n: u32) -> Option<(&[[u8; WIDTH]]
 pub fn sections_of(s: &[u8], h: Head) -> Option<Sections<'_>>
     ensures { MatchOption result (length s.now < strings_at h) (λ z. SectionsOf s.now h z) }
 {
-    let (_, rest) = s.split_at_checked(COUNTRIES_AT)?;
+    let (_, rest) = s.split_at_checked(HEAD_BYTES)?;
     let (countries, rest) = take_rows(rest, h.countries)?;
     let (previous, rest) = take_rows(rest, h.previous)?;
     let (switches, rest) = take_rows(rest, h.switches)?;

@@ -6,7 +6,7 @@ use mathlib.Core.List.{List, [], ◌∷◌}
 use mathlib.Core.Option.{Option, none, some, map}
 use Rattle.std.specs.Prelude as code
 use Rattle.std.specs.Prelude.{Ok, Err, IsErr, IsErrAnd}
-use Prim.Native.Nat.{ℕ, ◌+◌}
+use Prim.Native.Nat.{ℕ, ◌+◌, ◌<◌}
 use native.Mathlib.Omega.{arith}
 use borrow.Author.Tests.{not-true, not-false}
 use lib.ListN.{length, drop}
@@ -29,7 +29,7 @@ use Rattle.rules.specs.Outcomes.{call_resolve, call_initial, call_resolve_on, ca
 use Rattle.rules.proofs.LentLaws.{answered-refused, answered-gives}
 use Rattle.chronicle_rows.specs.RowAt.{nation_row_at, nation_numbered}
 use Rattle.claims.specs.declared.claims.Claim.{Claim}
-use Rattle.claims.specs.Claims.{initial_claims, claims_in, best_of, plain_of}
+use Rattle.claims.specs.Claims.{initial_claims, claims_in, best_of, last_to, plain_of}
 use Rattle.resolver.specs.declared.forms.TagData as Found
 use Rattle.resolver.specs.Cases.{resolved_answer}
 use Rattle.resolver.specs.Found.{asked_number, worn_in, day_of, switched_of}
@@ -42,19 +42,20 @@ module _ (ws es : List ℕ) (tag : CountryTag) (dates : List Eu4Date) where
   abbrev pub dates_left : ℕ → ℕ
   dates_left i = first_of (List.map (λ (d : Eu4Date). asked_date_number d.0) (drop i dates))
 
-  module _ (s : Bool) (e : s ≡ well_shaped ws es) where
-    pub asked-torn : not s ≡ true → 11 ≡ asked_number ws es tag dates
-    asked-torn h = let t : well_shaped ws es ≡ false = sym e ∙ not-true s h in rw t (sym (first-stop 11 _ (λ z. omega arith)))
+  -- What `open` refused.
+  pub asked-torn : (n : ℕ) → 0 < n → n ≡ cond (well_shaped ws es) 0 11 → n ≡ asked_number ws es tag dates
+  asked-torn n more e = e ∙ sym (first-stop (chronicle_number ws es) _ (λ z. omega (arith, e)))
 
-    module _ (h : not s ≡ false) (g : Bool) (f : g ≡ is_tag tag) where
-      whole : asked_number ws es tag dates ≡ first_of (asked_tag_number tag.0 ∷ List.map (λ (d : Eu4Date). asked_date_number d.0) dates)
-      whole = first-pass (chronicle_number ws es) _ (ap (λ (b : Bool). cond b 0 11) (sym e ∙ not-false s h))
+  -- The chronicle is well shaped.
+  module _ (e : ◌≡◌ {A = ℕ} 0 (cond (well_shaped ws es) 0 11)) (g : Bool) (f : g ≡ is_tag tag) where
+    whole : asked_number ws es tag dates ≡ first_of (asked_tag_number tag.0 ∷ List.map (λ (d : Eu4Date). asked_date_number d.0) dates)
+    whole = first-pass (chronicle_number ws es) _ (sym e)
 
-      pub asked-bad : not g ≡ true → 12 ≡ asked_number ws es tag dates
-      asked-bad k = let t : is_tag tag ≡ false = sym f ∙ not-true g k in sym (whole ∙ rw t (first-stop 12 _ (λ z. omega arith)))
+    pub asked-bad : not g ≡ true → 12 ≡ asked_number ws es tag dates
+    asked-bad k = let t : is_tag tag ≡ false = sym f ∙ not-true g k in sym (whole ∙ rw t (first-stop 12 _ (λ z. omega arith)))
 
-      pub asked-begun : not g ≡ false → dates_left 0 ≡ asked_number ws es tag dates
-      asked-begun k = sym (whole ∙ first-pass (asked_tag_number tag.0) _ (ap (λ (b : Bool). cond b 0 12) (sym f ∙ not-false g k)))
+    pub asked-begun : not g ≡ false → dates_left 0 ≡ asked_number ws es tag dates
+    asked-begun k = sym (whole ∙ first-pass (asked_tag_number tag.0) _ (ap (λ (b : Bool). cond b 0 12) (sym f ∙ not-false g k)))
 
   module _ (i n : ℕ) (d : Eu4Date) (next : drop i dates ≡ d ∷ drop (i + 1) dates) (so_far : dates_left i ≡ n) (g : Bool) (f : g ≡ good_date d) where
     pub date-bad : not g ≡ true → 12 ≡ n
@@ -115,7 +116,7 @@ module _ (ws es : List ℕ) (best : Option Claim) where
         sym (answered-gives _ _ (sym e)
         ∙ ap gives (ap (map (day_data day)) (sym (claim-resolved ws es tag date (shaped ws es _ (sym e))) ∙ ap (map (claim_nation ws es)) (sym b)) ∙ map-twice (claim_nation ws es) (day_data day) best))
 
-  module _ (tag : CountryTag) (b : best ≡ best_of tag (record { 0 = 0 }) (initial_claims ws 0)) where
+  module _ (tag : CountryTag) (b : best ≡ last_to tag (initial_claims ws)) where
     pub initial-gives : 0 ≡ first_of (chronicle_number ws es ∷ asked_tag_number tag.0 ∷ [])
         → gives (map (plain_of ws) best) ≡ call_initial ws es tag.0
     unfolding call_initial initial

@@ -1,6 +1,6 @@
 // The four forms of the resolver. Each is lent nation words and entry words, and refuses a chronicle that is not well shaped, then a bad tag,
 // date or day.
-ghost use Rattle.std.specs.Prelude.{◌≡◌};
+ghost use Rattle.std.specs.Prelude.{◌≡◌, IfOk};
 ghost use Rattle.std.proofs.Math.Option.{map};
 ghost use Rattle.lists.specs.Options.{option_of};
 ghost use Rattle.format.specs.Refused.{number_of};
@@ -10,7 +10,7 @@ ghost use Rattle.claims.specs.Claims.{plain_of};
 ghost use Rattle.resolver.specs.Found.{asked_number, day_of, switched_of};
 
 use crate::worn::worn_on;
-use chronicle_rows::{is_well_shaped, nation_at};
+use chronicle_rows::{Chronicle, nation_at};
 use claims::{Claim, best_claim, best_initial};
 use format::{CountryTag, Eu4Date, Refusal};
 
@@ -21,18 +21,17 @@ pub struct TagData {
     pub stored: CountryTag,
 }
 
-// Refuses a chronicle that is not well shaped, and a question whose tag or one of whose dates is bad.
-fn test_question(
-    nations: &[u32],
-    entries: &[u32],
+// The chronicle that a question is asked of. Refused are one that is not well shaped, and a question whose tag or one of whose dates is bad.
+fn open_asked<'a>(
+    nations: &'a [u32],
+    entries: &'a [u32],
     tag: CountryTag,
     dates: &[Eu4Date],
-) -> Result<(), Refusal>
-    ensures { number_of result ≡ asked_number nations.now entries.now tag dates.now }
+) -> Result<Chronicle<'a>, Refusal>
+    ensures number { number_of result ≡ asked_number nations.now entries.now tag dates.now }
+    ensures chronicle { IfOk result (λ c. (c.nations.now ≡ nations.entry.now) × (c.entries.now ≡ entries.entry.now)) }
 {
-    if !is_well_shaped(nations, entries) {
-        return Err(Refusal::NotShaped);
-    }
+    let chronicle = Chronicle::open(nations, entries)?;
     if !tag.good() {
         return Err(Refusal::BadQuestion);
     }
@@ -41,7 +40,7 @@ fn test_question(
             return Err(Refusal::BadQuestion);
         }
     }
-    Ok(())
+    Ok(chronicle)
 }
 
 // Latest and stored tag of the nation that a claim found.
@@ -56,16 +55,11 @@ fn plain_answer(nations: &[u32], best: Option<Claim>) -> Option<TagData>
 }
 
 // The tag that it wears on the day, without a switch up to then its initial.
-fn day_answer(
-    nations: &[u32],
-    entries: &[u32],
-    best: Option<Claim>,
-    day: Eu4Date,
-) -> Option<TagData>
-    ensures { map tag_data_told (option_of result) ≡ map (day_of nations.now entries.now day) (option_of best) }
+fn day_answer(chronicle: Chronicle<'_>, best: Option<Claim>, day: Eu4Date) -> Option<TagData>
+    ensures { map tag_data_told (option_of result) ≡ map (day_of chronicle.entry.nations.now chronicle.entry.entries.now day) (option_of best) }
 {
-    let nation = nation_at(nations, best?.nation);
-    let current = worn_on(entries, nation, day).unwrap_or(nation.initial);
+    let nation = nation_at(chronicle.nations, best?.nation);
+    let current = worn_on(chronicle.entries, nation, day).unwrap_or(nation.initial);
     Some(TagData {
         current,
         stored: nation.stored,
@@ -73,16 +67,11 @@ fn day_answer(
 }
 
 // The same, but nothing without a switch: two functions that differ in one word, since a closure for that word would be longer than either.
-fn switched_answer(
-    nations: &[u32],
-    entries: &[u32],
-    best: Option<Claim>,
-    day: Eu4Date,
-) -> Option<TagData>
-    ensures { map tag_data_told (option_of result) ≡ switched_of nations.now entries.now day (option_of best) }
+fn switched_answer(chronicle: Chronicle<'_>, best: Option<Claim>, day: Eu4Date) -> Option<TagData>
+    ensures { map tag_data_told (option_of result) ≡ switched_of chronicle.entry.nations.now chronicle.entry.entries.now day (option_of best) }
 {
-    let nation = nation_at(nations, best?.nation);
-    let current = worn_on(entries, nation, day)?;
+    let nation = nation_at(chronicle.nations, best?.nation);
+    let current = worn_on(chronicle.entries, nation, day)?;
     Some(TagData {
         current,
         stored: nation.stored,
@@ -98,8 +87,9 @@ pub fn resolve(
 ) -> Result<Option<TagData>, Refusal>
     ensures { resolved_answer result ≡ call_resolve nations.now entries.now tag.0 date.0 }
 {
-    test_question(nations, entries, tag, &[date])?;
-    Ok(plain_answer(nations, best_claim(nations, entries, tag, date)))
+    let chronicle = open_asked(nations, entries, tag, &[date])?;
+    let best = best_claim(chronicle, tag, date);
+    Ok(plain_answer(chronicle.nations, best))
 }
 
 // Where the country that began as a tag is now.
@@ -110,8 +100,9 @@ pub fn initial(
 ) -> Result<Option<TagData>, Refusal>
     ensures { resolved_answer result ≡ call_initial nations.now entries.now tag.0 }
 {
-    test_question(nations, entries, tag, &[])?;
-    Ok(plain_answer(nations, best_initial(nations, tag)))
+    let chronicle = open_asked(nations, entries, tag, &[])?;
+    let best = best_initial(chronicle.nations, tag);
+    Ok(plain_answer(chronicle.nations, best))
 }
 
 // A resolver set to a day: of each nation it looks only at the entries before the first dated later.
@@ -138,9 +129,9 @@ impl TagResolverDated {
     ) -> Result<Option<TagData>, Refusal>
         ensures { resolved_answer result ≡ call_resolve_on nations.now entries.now self.day.0 tag.0 date.0 }
     {
-        test_question(nations, entries, tag, &[self.day, date])?;
-        let best = best_claim(nations, entries, tag, date);
-        Ok(day_answer(nations, entries, best, self.day))
+        let chronicle = open_asked(nations, entries, tag, &[self.day, date])?;
+        let best = best_claim(chronicle, tag, date);
+        Ok(day_answer(chronicle, best, self.day))
     }
 
     // `initial`, but nothing if the country had not switched by the day.
@@ -152,8 +143,8 @@ impl TagResolverDated {
     ) -> Result<Option<TagData>, Refusal>
         ensures { resolved_answer result ≡ call_initial_on nations.now entries.now self.day.0 tag.0 }
     {
-        test_question(nations, entries, tag, &[self.day])?;
-        let best = best_initial(nations, tag);
-        Ok(switched_answer(nations, entries, best, self.day))
+        let chronicle = open_asked(nations, entries, tag, &[self.day])?;
+        let best = best_initial(chronicle.nations, tag);
+        Ok(switched_answer(chronicle, best, self.day))
     }
 }

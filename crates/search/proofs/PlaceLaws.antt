@@ -20,7 +20,7 @@ use Rattle.sorting.proofs.SortLaws.{Ordered, sort-ordered, keep-sort, leb-total,
 use Rattle.sorting.proofs.SortedKeyLaws.{sorted-up, sort-again}
 use Rattle.format.specs.declared.tag.CountryTag.{CountryTag}
 use Rattle.format.specs.Tags.{same_tag}
-use Rattle.search.specs.Halving.{CountsBelow}
+use Rattle.search.specs.Halving.{count_below}
 use Rattle.search.specs.Places.{tag_key, tag_keys_from, place_from}
 
 -- ## The keys of a list of tags
@@ -99,7 +99,7 @@ module _ (t : CountryTag) where
 -- ## The place that a search finds
 
 module _ (t : CountryTag) (ts : List CountryTag) (few : length ts ≤ 65536) (keys : List ℕ) (sorted : keys ≡ sort_by leb (tag_keys_from 0 ts))
-    (lowest : ℕ) (first_of_tag : lowest ≡ tag_key t 0) (i : ℕ) (counted : CountsBelow keys (lowest / 2 * 2) i) where
+    (lowest : ℕ) (first_of_tag : lowest ≡ tag_key t 0) (i : ℕ) (counted : i ≡ count_below (lowest / 2 * 2) keys) where
   again : sort_by leb keys ≡ keys
   again = rw sorted (sort-again (tag_keys_from 0 ts))
 
@@ -115,7 +115,7 @@ module _ (t : CountryTag) (ts : List CountryTag) (few : length ts ≤ 65536) (ke
   first ks = first_or none (map (λ x. some (x % 65536)) ks)
 
   below : i ≡ count_of (λ k. ltb k (tag_key t 0)) keys
-  below = let e : lowest / 2 * 2 ≡ tag_key t 0 = omega arith in rw e at (counted.counted again)
+  below = let e : lowest / 2 * 2 ≡ tag_key t 0 = omega arith in rw e at counted
 
   pub placed_past : length keys ≤ i → none ≡ place_from 0 t ts
   placed_past h = sym (ap first (first_past (low t) (low t + 65536) keys (sorted-up keys again) i below h)) ∙ first_key

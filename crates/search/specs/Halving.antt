@@ -11,7 +11,11 @@ in_cell_before cell key = ltb (key / 4503599627370496) cell
 abbrev pub starts_of : List ℕ → ℕ → List ℕ
 starts_of keys cells = map (λ c. length (leading (in_cell_before c) keys)) (numbers_from 0 cells)
 
--- How many keys are below a number, if they are in order; never more than there are.
+-- How many keys are below a number.
+abbrev pub count_below : ℕ → List ℕ → ℕ
+count_below x keys = count_of (λ k. ltb k x) keys
+
+-- What a search finds: how many keys are below a number, if they are in order; never more than there are.
 pub record CountsBelow (keys : List ℕ) (x count : ℕ) : Type 0 where
   pub inside : count ≤ length keys
   pub counted : sort_by leb keys ≡ keys → count ≡ count_of (λ k. ltb k x) keys

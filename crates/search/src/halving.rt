@@ -2,20 +2,20 @@
 // A table of starts, one for each cell of keys, spares most of the steps. What it holds are hints, each held against the keys before use.
 ghost use Rattle.std.specs.Prelude.{◌≡◌, true, ◌+◌, ◌*◌, ◌/◌, ◌<◌, ◌≤◌, leb, ltb, length};
 ghost use Rattle.std.specs.List.{prefix_len};
-ghost use Rattle.lists.specs.Lists.{count_of, leading};
+ghost use Rattle.lists.specs.Lists.{count_of};
 ghost use Rattle.sorting.specs.Sort.{sort_by};
 ghost use Rattle.search.specs.Halving.{CountsBelow, in_cell_before, starts_of};
 
 use std::ops::Range;
 
 // The highest of 64 bits: half of what they hold.
-const TOP_BIT: u64 = 9223372036854775808;
+const TOP_BIT: u64 = 1 << 63;
 
 // A cell holds keys with the same first 12 bits.
-const CELL: u64 = 4503599627370496;
+const CELL: u64 = 1 << 52;
 
 // How many starts a table has: one for each cell of 64-bit keys, and one behind the last.
-pub const CELLS: usize = 4097;
+pub const CELLS: usize = (1 << 12) + 1;
 
 // How far a search goes on: by `half` if the key is at most x, else not at all. `top` is x / 2 + 2^63.
 fn step(key: u64, top: u64, half: usize) -> usize
@@ -72,35 +72,53 @@ fn count_hinted(keys: &[u64], x: u64, hints: Range<usize>) -> usize
     count_up_to(keys, x)
 }
 
-// How many of the keys, which are in order, are at most x: the starts of x's cell and of the next one are the hints.
-pub fn count_near(keys: &[u64], starts: &[u64], x: u64) -> usize
-    ensures { CountsBelow keys.now (x / 2 * 2 + 2) result }
-{
-    let cell = (x / CELL) as usize;
-    if cell + 1 < starts.len() {
-        return count_hinted(keys, x, starts[cell] as usize..starts[cell + 1] as usize);
-    }
-    count_up_to(keys, x)
+// Keys that are in order.
+#[derive(Clone, Copy)]
+pub struct SortedKeys<'a> {
+    pub keys: &'a [u64],
+    pub ghost sorted: { sort_by leb keys.now ≡ keys.now },
 }
 
-// How many of the keys, which are in order, are below x, an even number: likely not fewer than the hints' start and not more than their end.
-pub fn count_between(keys: &[u64], x: u64, hints: Range<usize>) -> usize
-    ensures { CountsBelow keys.now (x / 2 * 2) result }
-{
-    if x < 2 {
-        return 0;
-    }
-    count_hinted(keys, x - 2, hints)
-}
+impl SortedKeys<'_> {
+    ghost use Rattle.search.specs.Halving.{count_below};
 
-// How many of the keys, which are in order, are below x, an even number.
-pub fn count_below(keys: &[u64], x: u64) -> usize
-    ensures { CountsBelow keys.now (x / 2 * 2) result }
-{
-    if x < 2 {
-        return 0;
+    // How many keys are at most x, an odd number: the starts of x's cell and of the next one are the hints.
+    pub fn count_near(self, starts: &[u64], x: u64) -> usize
+        ensures value { result ≡ count_below (x / 2 * 2 + 2) self.entry.keys.now }
+        ensures inside { result ≤ length self.entry.keys.now }
+    {
+        let cell = (x / CELL) as usize;
+        if cell + 1 < starts.len() {
+            return count_hinted(
+                self.keys,
+                x,
+                starts[cell] as usize..starts[cell + 1] as usize,
+            );
+        }
+        count_up_to(self.keys, x)
     }
-    count_up_to(keys, x - 2)
+
+    // How many keys are below x, an even number: likely not fewer than the hints' start and not more than their end.
+    pub fn count_between(self, x: u64, hints: Range<usize>) -> usize
+        ensures value { result ≡ count_below (x / 2 * 2) self.entry.keys.now }
+        ensures inside { result ≤ length self.entry.keys.now }
+    {
+        if x < 2 {
+            return 0;
+        }
+        count_hinted(self.keys, x - 2, hints)
+    }
+
+    // How many keys are below x, an even number. Not `count_between` with hints of nothing, which would test them in vain.
+    pub fn count_below(self, x: u64) -> usize
+        ensures value { result ≡ count_below (x / 2 * 2) self.entry.keys.now }
+        ensures inside { result ≤ length self.entry.keys.now }
+    {
+        if x < 2 {
+            return 0;
+        }
+        count_up_to(self.keys, x - 2)
+    }
 }
 
 // How many of the keys at the front are in cells before this one.

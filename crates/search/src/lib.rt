@@ -4,5 +4,5 @@
 mod halving;
 mod places;
 
-pub use halving::{CELLS, count_below, count_between, count_near, index_block};
+pub use halving::{CELLS, SortedKeys, index_block};
 pub use places::{KEYS_PER_TAG, first_place, tag_key};

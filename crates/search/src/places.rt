@@ -5,11 +5,11 @@ ghost use Rattle.format.specs.declared.tag.CountryTag.{CountryTag};
 ghost use Rattle.lists.specs.Options.{option_of};
 ghost use Rattle.search.specs.Places.{tag_key, tag_keys_from, place_from};
 
-use crate::halving;
+use crate::halving::SortedKeys;
 use format::CountryTag;
 
 // How many keys a tag has, one for each number: one more of a tag adds this to a key.
-pub const KEYS_PER_TAG: u64 = 65536;
+pub const KEYS_PER_TAG: u64 = 1 << 16;
 
 // The key of a tag and a number, of which 16 bits are kept.
 pub fn tag_key(tag: CountryTag, number: usize) -> u64
@@ -19,11 +19,11 @@ pub fn tag_key(tag: CountryTag, number: usize) -> u64
 }
 
 // The number of the first element that has the tag, among at most 65,536 whose sorted keys these are.
-pub fn first_place(keys: &[u64], tag: CountryTag) -> Option<usize>
-    ensures { (ts : List CountryTag) → length ts ≤ 65536 → keys.now ≡ sort_by leb (tag_keys_from 0 ts) → option_of result ≡ place_from 0 tag ts }
+pub fn first_place(sorted: SortedKeys<'_>, tag: CountryTag) -> Option<usize>
+    ensures { (ts : List CountryTag) → length ts ≤ 65536 → sorted.entry.keys.now ≡ sort_by leb (tag_keys_from 0 ts) → option_of result ≡ place_from 0 tag ts }
 {
     let low = tag_key(tag, 0);
     let high = low + KEYS_PER_TAG;
-    let key = *keys.get(halving::count_below(keys, low))?;
+    let key = *sorted.keys.get(sorted.count_below(low))?;
     (key < high).then_some((key % KEYS_PER_TAG) as usize)
 }

@@ -1,10 +1,14 @@
 -- Points written into a slice from its front on, as many as find room: some of them, then more, then all.
 use mathlib.Core.Path.{◌≡◌, refl, sym, ap, subst, ◌∙◌}
+use mathlib.Core.Bool.{Bool, true, false, cond}
 use mathlib.Core.List.{List, [], ◌∷◌, ◌++◌, append_assoc, append-nil}
 use Prim.Native.Nat.{ℕ, zero, suc, ◌+◌, ◌-◌, ◌*◌, ◌/◌, ◌<◌, ◌≤◌, min}
 use native.Mathlib.Nat.{zero-add}
 use native.Mathlib.Decide.{dec_le}
 use native.Mathlib.Omega.{arith}
+use borrow.Author.Tests.{leb-true, leb-false}
+use lib.Dec.{leb}
+use mir.Val.{bool_byte}
 use lib.ListN.{length, take, drop, length-take, length-drop}
 use lib.Seq.{take_all, take-nil}
 use Rattle.lists.proofs.FillLaws.{Behind, row-behind, Filling, filling-new, filling-behind, filling-count, filling-written}
@@ -43,18 +47,27 @@ take-both (suc n) (x ∷ xs) ys =
     rw e (ap (λ (l : List _). x ∷ l) (take-both n xs ys))
 
 -- A row of one point.
-pub point-fills : (p : LedgerPoint) (before after : List ℕ) → 3 ≤ length before → after ≡ point_words p ++ drop 3 before → FillsSpan (p ∷ []) 1 before after
+point-fills : (p : LedgerPoint) (before after : List ℕ) → 3 ≤ length before → after ≡ point_words p ++ drop 3 before → FillsSpan (p ∷ []) 1 before after
 unfolding point_rows
 point-fills p before after h e =
     let room : 1 ≤ length before / 3 = omega arith in
     record { counted = omega arith; cells = rw (take_all (length before / 3) (p ∷ []) room) e }
 
 -- It finds no room.
-pub point-none : (p : LedgerPoint) (before : List ℕ) → length before < 3 → FillsSpan (p ∷ []) 0 before before
+point-none : (p : LedgerPoint) (before : List ℕ) → length before < 3 → FillsSpan (p ∷ []) 0 before before
 unfolding point_rows
 point-none p before h =
     let none : length before / 3 ≡ 0 = omega arith in
     record { counted = omega arith; cells = rw none }
+
+-- Written if there is room.
+pub point-put : (p : LedgerPoint) (before after row : List ℕ) (b : Bool) (r : ℕ) → row ≡ point_words p → b ≡ leb 3 (length before)
+    → after ≡ cond (leb 3 (length before)) (row ++ drop 3 before) before → r ≡ bool_byte b → FillsSpan (p ∷ []) r before after
+point-put p before after row b r w e a k = go (leb 3 (length before)) refl a (k ∙ ap bool_byte e)
+  where
+    go : (x : Bool) → leb 3 (length before) ≡ x → after ≡ cond x (row ++ drop 3 before) before → r ≡ bool_byte x → FillsSpan (p ∷ []) r before after
+    go true t q n = rw n (point-fills p before after (leb-true 3 (length before) t) (q ∙ ap (λ (l : List ℕ). l ++ drop 3 before) w))
+    go false t q n = rw (n, q) (point-none p before (leb-false 3 (length before) t))
 
 -- ## Some of all
 

@@ -9,12 +9,17 @@ use Rattle.rules.specs.Lent.{written}
 use Rattle.rules.specs.Ledger.{LedgerPoint, zeros, filled, within, point_rows}
 use Rattle.spans.specs.declared.walk.Span.{Span}
 use Rattle.spans.specs.SpanSteps.{span_in}
+use Rattle.span_points.specs.declared.filling.LedgerPoint as Code
 
 -- ## What a span gives
 
 -- The points of a span, with those of its ledger row.
 abbrev pub span_filled : Rows Point 6 → Span → List LedgerPoint
 span_filled points s = filled (span_in s) (year s.start + 1) (within (span_in s) (points_left points))
+
+-- The point that the code holds.
+abbrev pub point_told : Code.LedgerPoint → LedgerPoint
+point_told p = record { tag = p.tag; year = p.year; value = p.value }
 
 -- A point of a tag.
 abbrev pub point_of : CountryTag → ℕ → ℕ → LedgerPoint

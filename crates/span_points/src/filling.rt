@@ -1,23 +1,37 @@
 // The points of a span, written as rows: as many as find room.
 ghost use Rattle.std.specs.Prelude.{◌≡◌, [], ◌∷◌};
-ghost use Rattle.rules.specs.Ledger.{zeros};
-ghost use Rattle.span_points.specs.PointSteps.{point_of, year_filled, span_filled, FillsSpan};
+ghost use Rattle.rules.specs.Ledger.{zeros, point_words};
+ghost use Rattle.span_points.specs.PointSteps.{point_told, year_filled, span_filled, FillsSpan};
 
+use chronicle_rows::put;
 use record::{CountryTag, Point, Points};
 use spans::Span;
 
 // How many words a ledger row has.
 pub const LEDGER_WIDTH: usize = 3;
 
+// A point of a ledger: a value of a tag in a year.
+#[derive(Clone, Copy, Debug, PartialEq, Eq)]
+pub(crate) struct LedgerPoint {
+    pub tag: CountryTag,
+    pub year: u32,
+    pub value: u32,
+}
+
+// The words of a row: tag, year, value.
+impl From<LedgerPoint> for [u32; LEDGER_WIDTH] {
+    ghost from_gives = { λ point row. row ≡ point_words (point_told point) };
+
+    fn from(point: LedgerPoint) -> [u32; LEDGER_WIDTH] {
+        [u32::from(point.tag), point.year, point.value]
+    }
+}
+
 // Writes the row of a point if it finds room: one row, or none.
-fn write_point(tag: CountryTag, year: u32, value: u32, out: &mut [u32]) -> usize
-    ensures { FillsSpan (point_of tag year value ∷ []) result out.old out.new }
+fn write_point(point: LedgerPoint, out: &mut [u32]) -> usize
+    ensures { FillsSpan (point_told point ∷ []) result out.old out.new }
 {
-    let Some(row) = out.first_chunk_mut::<LEDGER_WIDTH>() else {
-        return 0;
-    };
-    *row = [u32::from(tag), year, value];
-    1
+    usize::from(put(point.into(), out))
 }
 
 // Writes a zero for each year from the running one on before another, as many as find room, and gives their number.
@@ -28,7 +42,12 @@ fn write_zeros(tag: CountryTag, running: usize, until: u32, out: &mut [u32]) -> 
     let n = years.min(out.len() / LEDGER_WIDTH);
     // By places, not by `chunks_exact_mut`: of what is written through its parts, a proof knows the lengths alone.
     for i in 0..n {
-        write_point(tag, (running + i) as u32, 0, &mut out[LEDGER_WIDTH * i..]);
+        let zero = LedgerPoint {
+            tag,
+            year: (running + i) as u32,
+            value: 0,
+        };
+        write_point(zero, &mut out[LEDGER_WIDTH * i..]);
     }
     n
 }
@@ -38,7 +57,12 @@ fn write_year(tag: CountryTag, running: usize, point: Point, out: &mut [u32]) ->
     ensures { FillsSpan (year_filled tag running point) result out.old out.new }
 {
     let n = write_zeros(tag, running, point.year, out);
-    n + write_point(tag, point.year, point.value, &mut out[LEDGER_WIDTH * n..])
+    let point = LedgerPoint {
+        tag,
+        year: point.year,
+        value: point.value,
+    };
+    n + write_point(point, &mut out[LEDGER_WIDTH * n..])
 }
 
 // Writes the points of a span with those of its ledger row, three words each, as many as find room, and gives their number.

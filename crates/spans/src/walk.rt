@@ -1,5 +1,5 @@
 // An iterator over the spans of a nation, entry by entry. Entries may be in any order: a span may well end before it starts.
-ghost use Rattle.std.specs.Prelude.{◌≡◌, false};
+ghost use Rattle.std.specs.Prelude.{◌≡◌};
 ghost use Rattle.std.specs.Iterator.{YieldsFirstBy, item_count};
 ghost use Rattle.rules.specs.Ledger.{runs_on, closed as closedSpan, spans_from};
 ghost use Rattle.chronicle_rows.specs.Cases.{kind_told};
@@ -71,7 +71,7 @@ impl RunningSpan {
 }
 
 // What runs, until the last span was given; the entries from number `next` on, which lie before `end`; and the date on which what still runs behind
-// them is closed.
+// them is closed. By number and not by an iterator over rows: of any words a row may count entries past the last, which read as zeros.
 #[derive(Clone, Copy)]
 pub struct Spans<'a> {
     pub(crate) running: Option<RunningSpan>,

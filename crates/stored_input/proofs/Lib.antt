@@ -1,1 +1,2 @@
 pub mod ReadLaws
+pub mod ReplayLaws

@@ -6,10 +6,10 @@ mod replay;
 
 ghost use Rattle.std.specs.Prelude.{◌<◌, ◌≤◌, length, IfOk, IfErr, IfSome};
 ghost use Rattle.std.specs.Io.KnownBytes.{IsAtEnd};
-ghost use Rattle.stored_input.specs.Reading.{BeginsRead};
+ghost use Rattle.stored_input.specs.Reading.{BeginsRead, ReadsAll};
 
 pub use numbers::{BrokenOff, Stored, next_number, read_head, read_part, stored_answer, take_part};
-pub use replay::{Counts, Replay, Tally, replay_list};
+pub use replay::{Counts, Replay, Tally, replay_file, replay_list};
 use std::fs::File;
 use std::io::Read;
 use std::rt::Files;
@@ -40,9 +40,12 @@ pub fn read_full<R: Read>(input: &mut R, buf: &mut [u8]) -> Result<usize, ReadFa
     Ok(done)
 }
 
-// Reads a file into a buffer, as far as it has room: nothing of one that cannot be opened or read.
-pub fn read_file<'a>(rt: &impl Files, name: &str, buf: &'a mut [u8]) -> Option<&'a [u8]>
-    ensures { IfSome result (λ s. length s.now ≤ length buf.old) }
+// Reads a file into a buffer, as far as it has room: nothing of one that cannot be opened or read. Which file a name opens, and what it holds,
+// no clause of `Files` tells: so the promise is of some file that was opened.
+pub fn read_file<'a, F: Files>(rt: &F, name: &str, buf: &'a mut [u8]) -> Option<&'a [u8]>
+    ensures fits { IfSome result (λ s. length s.now ≤ length buf.old) }
+    ensures read { IfSome result (λ s. (file : F.File) × (after : F.File)
+        × ReadsAll (F.File.remaining file) (F.File.remaining after) (length buf.old) s.now) }
 {
     let mut file = File::open(rt, name).ok()?;
     let n = read_full(&mut file, buf).ok()?;

@@ -1,5 +1,5 @@
 // What a stored list has: bytes, and numbers of 32 bits, low byte first.
-ghost use Rattle.std.specs.Prelude.{◌≡◌, ◌≢◌, ◌++◌, ℕ, List, length, Ok, Err, IfOk, OnOk, MatchOption};
+ghost use Rattle.std.specs.Prelude.{◌≡◌, ◌≢◌, ◌++◌, [], ℕ, List, length, Ok, Err, IfOk, OnOk, MatchOption};
 ghost use Rattle.std.specs.Int.{to_le_bytes, w32};
 ghost use Rattle.std.specs.Io.KnownBytes.{Consumes, IsAtEnd};
 ghost use Rattle.stored_input.specs.Reading.{number_bytes};
@@ -60,7 +60,9 @@ fn number_of(bytes: [u8; 4]) -> u32
 
 // The next number, nothing at the list's end.
 pub fn next_number<R: Read>(list: &mut R) -> Result<Option<u32>, BrokenOff>
-    ensures { IfOk result (λ r. MatchOption r (IsAtEnd (R.remaining list.new)) (λ n. Consumes (R.remaining list.old) (R.remaining list.new) (to_le_bytes w32 n))) }
+    ensures { IfOk result (λ r. MatchOption r
+        (Consumes (R.remaining list.old) (R.remaining list.new) [] × IsAtEnd (R.remaining list.new))
+        (λ n. Consumes (R.remaining list.old) (R.remaining list.new) (to_le_bytes w32 n))) }
 {
     let mut bytes = [0u8; 4];
     match read_full(list, &mut bytes)? {

@@ -1,5 +1,8 @@
 // Replaying a stored list, case by case.
-ghost use Rattle.std.specs.Prelude.{◌≤◌};
+ghost use Rattle.std.specs.Prelude.{◌≡◌, ◌≤◌, ◌++◌, [], ℕ, List, IfOk, IfSome, MatchOption};
+ghost use Rattle.std.specs.Int.{to_le_bytes, w32};
+ghost use Rattle.std.specs.Io.KnownBytes.{Consumes, IsAtEnd};
+ghost use Rattle.stored_input.specs.Replaying.{plus, ListReplayed};
 
 use crate::{BrokenOff, next_number};
 use std::fs::File;
@@ -34,13 +37,23 @@ pub struct Tally {
 
 // Cases of one kind, with what they need to be read and answered.
 pub trait Replay {
-    // Reads the rest of a case that begins with a number, and holds it against what the code answers.
-    fn replay<R: Read>(&mut self, first: u32, list: &mut R) -> Result<Counts, BrokenOff>;
+    ghost use Rattle.stored_input.specs.declared.replay.Counts.{Counts};
+
+    // What a case comes to, by the number that it begins with and the bytes behind it.
+    ghost comes_to: { ℕ → List ℕ → Counts → Type 0 };
+
+    // Reads the rest of a case that begins with a number, and holds it against what the code answers. Of an error nothing is promised: a read
+    // may fail at any time.
+    fn replay<R: Read>(&mut self, first: u32, list: &mut R) -> Result<Counts, BrokenOff>
+        ensures { IfOk result (λ counts. (bytes : List ℕ)
+            × Consumes (R.remaining list.old) (R.remaining list.new) bytes × comes_to first bytes counts) };
 }
 
 impl Counts {
     // The counts of both. One that would pass the type's top stays there.
-    fn plus(self, other: Counts) -> Counts {
+    fn plus(self, other: Counts) -> Counts
+        ensures { result ≡ plus self other }
+    {
         Counts {
             questions: self.questions.saturating_add(other.questions),
             wrong: self.wrong.saturating_add(other.wrong),
@@ -50,27 +63,26 @@ impl Counts {
 }
 
 // Replays the next case, if there is one.
-fn replay_next<C: Replay, R: Read>(
-    cases: &mut C,
-    list: &mut R,
-) -> Result<Option<Counts>, BrokenOff> {
+fn replay_next<C: Replay, R: Read>(cases: &mut C, list: &mut R) -> Result<Option<Counts>, BrokenOff>
+    ensures { IfOk result (λ r. MatchOption r
+        (Consumes (R.remaining list.old) (R.remaining list.new) [] × IsAtEnd (R.remaining list.new))
+        (λ counts. (first : ℕ) × (bytes : List ℕ)
+        × Consumes (R.remaining list.old) (R.remaining list.new) (to_le_bytes w32 first ++ bytes) × C.comes_to first bytes counts)) }
+{
     match next_number(list)? {
         Some(first) => Ok(Some(cases.replay(first, list)?)),
         None => Ok(None),
     }
 }
 
-// Replays the cases of a stored file, 100,000 at most; one that cannot be opened has none. A list that breaks off ends there, with one wrong
-// answer more.
-pub fn replay_list<C: Replay>(rt: &impl Files, name: &str, cases: &mut C) -> Tally
-    ensures { result.cases ≤ 100000 }
+// Replays the cases of a list, 100,000 at most. A list that breaks off ends there, with one wrong answer more.
+pub fn replay_list<C: Replay, R: Read>(list: &mut R, cases: &mut C) -> Tally
+    ensures most { result.cases ≤ MOST_CASES }
+    ensures counted { ListReplayed C.comes_to MOST_CASES (R.remaining list.old) (R.remaining list.new) result }
 {
     let mut all = Tally::default();
-    let Ok(mut list) = File::open(rt, name) else {
-        return all;
-    };
     for _ in 0..MOST_CASES {
-        match replay_next(cases, &mut list) {
+        match replay_next(cases, list) {
             Ok(Some(case)) => {
                 all.cases += 1;
                 all.counts = all.counts.plus(case);
@@ -83,4 +95,14 @@ pub fn replay_list<C: Replay>(rt: &impl Files, name: &str, cases: &mut C) -> Tal
         }
     }
     all
+}
+
+// Replays the cases of a stored file, nothing of one that cannot be opened. Of which file a name opens, and of what it holds, no clause of
+// `Files` tells: so the promise is of some file that was opened.
+pub fn replay_file<C: Replay, F: Files>(rt: &F, name: &str, cases: &mut C) -> Option<Tally>
+    ensures { IfSome result (λ all. (all.cases ≤ MOST_CASES) × (file : F.File) × (after : F.File)
+        × ListReplayed C.comes_to MOST_CASES (F.File.remaining file) (F.File.remaining after) all) }
+{
+    let mut list = File::open(rt, name).ok()?;
+    Some(replay_list(&mut list, cases))
 }

@@ -12,15 +12,15 @@ use crate::Refusal;
 /// thread was measured to need on records at the limits.
 #[derive(Clone, Copy, Debug)]
 pub(crate) enum Depth {
-    /// `check`, for which 84 KiB were enough.
+    /// `check`, for which 64 KiB were enough.
     Check = 192 << 10,
-    /// Players, of 80 KiB, ledgers, of 176, and histories, of 176.
+    /// Players, of 60 KiB, ledgers, of 108, and histories, of 156.
     Rows = 576 << 10,
-    /// Owner changes, of 1,020 KiB, those of a day, bookings, of 688, and many questions, of 632.
+    /// Owner changes, of 1,000 KiB, those of a day, bookings, of 668, and many questions, of 632.
     Changes = 1_152 << 10,
-    /// The chronicle, of 1,540 KiB.
+    /// The chronicle, of 1,508 KiB.
     Nations = 1_664 << 10,
-    /// The page, of 1,740 KiB.
+    /// The page, of 1,708 KiB.
     Page = 1_920 << 10,
 }
 

@@ -24,7 +24,7 @@ pub struct Room<'a> {
 /// how many slots each country holds then, the changes, and the five counts. One slice that is
 /// shorter than its part of the answer is [`Refusal::NoRoom`], and then none is written.
 ///
-/// It needs 1,600 KiB of stack.
+/// It needs 1.5 MiB of stack.
 ///
 /// # Panics
 ///

@@ -5,7 +5,7 @@ use crate::Refusal;
 
 /// Says whether the bytes are a packed record the chronicle accepts, and if not, why.
 ///
-/// Any bytes at all may be given; nothing is written. Needs 96 KiB of stack.
+/// Any bytes at all may be given; nothing is written. Needs 72 KiB of stack.
 ///
 /// # Panics
 ///

@@ -99,9 +99,9 @@ fn counts_are((record, expected): (Vec<u8>, [u32; 5])) {
 }
 
 #[test]
-fn nations_in_1600_kibibytes_of_stack() {
+fn nations_in_one_and_a_half_mebibytes_of_stack() {
     let at_the_limits = at_the_limits();
-    within(1_638_400, move || counts_are(at_the_limits));
+    within(1_572_864, move || counts_are(at_the_limits));
 }
 
 /// Rust gives a thread that is started without a size 2 MiB, unless RUST_MIN_STACK says otherwise.

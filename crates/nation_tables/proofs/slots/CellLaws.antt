@@ -2,8 +2,7 @@
 use mathlib.Core.Path.{◌≡◌, refl, sym, ap, ap₂, ◌∙◌}
 use mathlib.Core.Bool.{Bool, true, false, ◌||◌, true≢false}
 use mathlib.Core.List.{List, [], ◌∷◌, ◌++◌, map}
-use Prim.Native.Nat.{ℕ, suc, ◌+◌, ◌-◌, ◌%◌, ◌≤◌, ◌<◌}
-use native.Mathlib.Nat.{sub-zero}
+use Prim.Native.Nat.{ℕ, suc, ◌+◌, ◌%◌, ◌≤◌, ◌<◌}
 use native.Mathlib.Numerals.{add-one}
 use native.Mathlib.Omega.{arith}
 use borrow.Author.Tests.{eqb-true, eqb-false, ltb-false, le-ltb}
@@ -15,9 +14,8 @@ use Rattle.lists.proofs.BoolLaws.{cases, neither}
 use Rattle.lists.proofs.FillLaws.{Filling}
 use Rattle.lists.proofs.ListLaws.{length-numbers, numbers-at, count-append, count-le}
 use Rattle.rules.specs.Lent.{written}
-use Rattle.nation_tables.specs.Layout.{most_slots, half}
-use Rattle.nation_tables.specs.Turning.{low_halves}
-use Rattle.nation_tables.specs.Holders.{slot_counts, SlotsRoom}
+use Rattle.nation_tables.specs.Layout.{most_slots, cell_rows}
+use Rattle.nation_tables.specs.Holders.{rows_in, slot_counts, SlotsRoom}
 
 -- ## Lists
 
@@ -94,16 +92,15 @@ module _ (rows : List ℕ) (i n : ℕ) (h : i < length rows) where
       sym (set_out (slot_counts (take i rows) n) (get_or rows i 0) _ (omega (arith, length-counts (take i rows) n))) ∙ counts-next
 
 -- Counts in the front of a slice, where the front was lent.
-pub counts-written : (rows before counts : List ℕ) (n : ℕ) → n ≤ length before → counts ≡ slot_counts rows (length (take (n - 0) before))
-    → counts ++ drop (n - 0) before ≡ written (slot_counts rows n) before
+pub counts-written : (rows before counts : List ℕ) (n : ℕ) → n ≤ length before → counts ≡ slot_counts rows (length (take n before))
+    → counts ++ drop n before ≡ written (slot_counts rows n) before
 counts-written rows before counts n h e =
-    let size : length (take (n - 0) before) ≡ n = rw (sub-zero n) (length-take-le n before h) in
-    ap₂ (λ (l : List ℕ) (k : ℕ). l ++ drop k before) (e ∙ ap (slot_counts rows) size) (sub-zero n ∙ sym (length-counts rows n))
+    ap₂ (λ (l : List ℕ) (k : ℕ). l ++ drop k before) (e ∙ ap (slot_counts rows) (length-take-le n before h)) (sym (length-counts rows n))
 
 -- The slots before i are counted, by the rows in their cells.
 pub record SlotsCounting (slots counts₀ counts : List ℕ) (i : ℕ) : Type 0 where
   pub inside : i ≤ length slots
-  pub cells : counts ≡ slot_counts (take i (low_halves slots)) (length counts₀)
+  pub cells : counts ≡ slot_counts (take i (rows_in slots)) (length counts₀)
 
 -- Cells of 0 count no slot.
 pub slots-counting-none : (slots before counts : List ℕ) → counts ≡ map (λ _. 0) before → SlotsCounting slots counts counts 0
@@ -116,16 +113,16 @@ slots-counting-none slots before counts e =
 module _ (slots counts₀ counts : List ℕ) (i : ℕ) (q : SlotsCounting slots counts₀ counts i) where
   -- As many cells as at first.
   pub slots-counting-long : length counts ≡ length counts₀
-  slots-counting-long = ap length q.cells ∙ length-counts (take i (low_halves slots)) (length counts₀)
+  slots-counting-long = ap length q.cells ∙ length-counts (take i (rows_in slots)) (length counts₀)
 
   -- As many rows as slots.
-  rows_long : length (low_halves slots) ≡ length slots
-  rows_long = length-map slots (λ x. x % half)
+  rows_long : length (rows_in slots) ≡ length slots
+  rows_long = length-map slots (λ x. x % cell_rows)
 
   module _ (h : i < length slots) where
     -- The row in the next slot's cell.
-    row-low-half : get_or (low_halves slots) i 0 ≡ get_or slots i 0 % half
-    row-low-half = get_or-map (λ x. x % half) slots i 0
+    row-in-cell : get_or (rows_in slots) i 0 ≡ get_or slots i 0 % cell_rows
+    row-in-cell = get_or-map (λ x. x % cell_rows) slots i 0
 
     -- So few that one more has room.
     pub slots-counting-few : (row : ℕ) → row < length counts → get_or counts row 0 ≤ i
@@ -135,37 +132,37 @@ module _ (slots counts₀ counts : List ℕ) (i : ℕ) (q : SlotsCounting slots 
         omega (
           arith,
           ap (λ (l : List ℕ). get_or l row 0) q.cells,
-          slot-count-small (take i (low_halves slots)) (length counts₀) row (omega (arith, slots-counting-long)),
-          length-take-le i (low_halves slots) (omega arith),
+          slot-count-small (take i (rows_in slots)) (length counts₀) row (omega (arith, slots-counting-long)),
+          length-take-le i (rows_in slots) (omega arith),
         )
 
     -- The next slot is counted.
-    pub slots-counting-next : SlotsCounting slots counts₀ (set counts (get_or slots i 0 % half) (get_or counts (get_or slots i 0 % half) 0 + 1)) (i + 1)
+    pub slots-counting-next : SlotsCounting slots counts₀ (set counts (get_or slots i 0 % cell_rows) (get_or counts (get_or slots i 0 % cell_rows) 0 + 1)) (i + 1)
     slots-counting-next =
         let r = rows_long in
         record {
           inside = omega arith;
           cells =
-              ap (λ (n : ℕ). set counts n (get_or counts n 0 + 1)) (sym row-low-half)
-              ∙ ap (λ (l : List ℕ). set l (get_or (low_halves slots) i 0) (get_or l (get_or (low_halves slots) i 0) 0 + 1)) q.cells
-              ∙ counts-next (low_halves slots) i (length counts₀) (omega arith);
+              ap (λ (n : ℕ). set counts n (get_or counts n 0 + 1)) (sym row-in-cell)
+              ∙ ap (λ (l : List ℕ). set l (get_or (rows_in slots) i 0) (get_or l (get_or (rows_in slots) i 0) 0 + 1)) q.cells
+              ∙ counts-next (rows_in slots) i (length counts₀) (omega arith);
         }
 
     -- It has no row.
-    pub slots-counting-past : length counts ≤ get_or slots i 0 % half → SlotsCounting slots counts₀ counts (i + 1)
+    pub slots-counting-past : length counts ≤ get_or slots i 0 % cell_rows → SlotsCounting slots counts₀ counts (i + 1)
     slots-counting-past l =
         let r = rows_long in
-        let e = row-low-half in
+        let e = row-in-cell in
         record {
           inside = omega arith;
-          cells = q.cells ∙ counts-outside (low_halves slots) i (length counts₀) (omega arith) (omega (arith, slots-counting-long));
+          cells = q.cells ∙ counts-outside (rows_in slots) i (length counts₀) (omega arith) (omega (arith, slots-counting-long));
         }
 
   -- All slots are counted.
-  pub slots-counting-done : (before : List ℕ) → counts₀ ≡ map (λ _. 0) before → length slots ≤ i → counts ≡ slot_counts (low_halves slots) (length before)
+  pub slots-counting-done : (before : List ℕ) → counts₀ ≡ map (λ _. 0) before → length slots ≤ i → counts ≡ slot_counts (rows_in slots) (length before)
   slots-counting-done before e h =
       let r = rows_long in
-      q.cells ∙ ap₂ slot_counts (take_all i (low_halves slots) (omega arith)) (ap length e ∙ length-map before (λ _. 0))
+      q.cells ∙ ap₂ slot_counts (take_all i (rows_in slots) (omega arith)) (ap length e ∙ length-map before (λ _. 0))
 
 -- ## Room for the rows of slots, as the code tests it
 

@@ -1,17 +1,19 @@
--- Chains of changes: linking, both chains in one list of cells, and walking along one. Linking goes from the last change to the first; its invariant: the changes from
+-- Chains of changes: linking, both chains of a list, and walking along one. Linking goes from the last change to the first; its invariant: the changes from
 -- k on are links, those before k are rows still, and each row's head is its first change from k on.
 use mathlib.Core.Path.{◌≡◌, refl, sym, ap, subst, ◌∙◌}
 use mathlib.Core.Bool.{Bool, cond}
 use mathlib.Core.List.{List, [], ◌∷◌, ◌++◌, map, append-nil}
-use Prim.Native.Nat.{ℕ, zero, suc, ◌+◌, ◌-◌, ◌*◌, ◌/◌, ◌%◌, ◌≤◌, ◌<◌}
+use Prim.Native.Nat.{ℕ, zero, suc, ◌+◌, ◌-◌, ◌≤◌, ◌<◌}
 use native.Mathlib.Omega.{arith}
 use borrow.Author.Tests.{ltb-true, eqb-true, eqb-false, lt-ltb, le-ltb, eq-eqb, ne_eqb}
 use lib.Dec.{ltb, eqb}
 use lib.ListN.{length, get_or, set, take, drop, length-set, length-map, length-take, get_or-append, get_or-map}
 use lib.Seq.{take-length, drop-length, take-suc, drop-cons, append_snoc, set_at, length-take-le, get_or-take, get_or-drop, drop-drop, get_or-set_same, get_or-set_other, map-set_same, set_out}
 use Rattle.lists.proofs.BoolLaws.{cases}
-use Rattle.nation_tables.specs.Layout.{word_span, half, no_change}
-use Rattle.nation_tables.specs.Turning.{high_halves, low_halves, first_at, links_from, Fresh, Linked, TurnsLinked, Pushed, LossPushed, GainPushed}
+use Rattle.std.proofs.lemmas.List.{map-set}
+use Rattle.nation_tables.specs.declared.layout.Turn.{Turn}
+use Rattle.nation_tables.specs.Layout.{no_change}
+use Rattle.nation_tables.specs.Turning.{losses, gains, first_at, links_from, Fresh, Linked, TurnsLinked, Pushed, LossPushed, GainPushed}
 
 -- ## Linking
 
@@ -93,119 +95,100 @@ pub linking-done : (rows links heads : List ℕ) (k : ℕ) → k ≡ 0 → Linki
 linking-done rows links heads k e i =
     record { cells = rw e at i.cells; firsts = rw e at i.firsts }
 
--- ## Two chains in one list of cells
+-- ## Both chains of a list
 
--- A store changes one element of what a function gives of a list.
-pub map-set : {A B : Type 0} (f : A → B) (l : List A) (i : ℕ) (v : A) → map f (set l i v) ≡ set (map f l) i (f v)
-map-set f [] i v = refl
-map-set f (x ∷ l) zero v = refl
-map-set f (x ∷ l) (suc i) v = ap (λ (m : List _). f x ∷ m) (map-set f l i v)
+-- What a place past the end reads as.
+abbrev past_end : Turn
+past_end = record { loss = 0; gain = 0 }
 
--- The two halves of a cell.
-pub half_high : (a b : ℕ) → b < half → (a * half + b) / half ≡ a
-half_high a b h = omega arith
-
-pub half-low : (a b : ℕ) → b < half → (a * half + b) % half ≡ b
-half-low a b h = omega arith
-
-module _ (firsts : List ℕ) (row k : ℕ) where
-  abbrev cell : ℕ
-  cell = get_or firsts row 0
+module _ (firsts : List Turn) (row k : ℕ) where
+  abbrev here : Turn
+  here = get_or firsts row past_end
 
   -- No row has this number: nothing is pushed.
-  none-pushed : (f : ℕ → ℕ) → length firsts ≤ row → Pushed (map f firsts) row k no_change (map f firsts)
+  none-pushed : (f : Turn → ℕ) → length firsts ≤ row → Pushed (map f firsts) row k no_change (map f firsts)
   none-pushed f h =
       let past : length (map f firsts) ≤ row = omega (arith, length-map firsts f) in
       record { next = simp (le-ltb row (length (map f firsts)) past); cells = sym (set_out (map f firsts) row k past) }
 
   pub loss-outside : length firsts ≤ row → LossPushed firsts row k no_change firsts
-  loss-outside h = record { loss = none-pushed (λ x. x / half) h; gain = refl; small = omega arith }
+  loss-outside h = record { loss = none-pushed (λ x. x.loss) h; gain = refl }
 
   pub gain-outside : length firsts ≤ row → GainPushed firsts row k no_change firsts
-  gain-outside h = record { gain = none-pushed (λ x. x % half) h; loss = refl; small = omega arith }
+  gain-outside h = record { gain = none-pushed (λ x. x.gain) h; loss = refl }
 
-  -- A row has it: its half of the cell is pushed.
-  half-pushed : (f : ℕ → ℕ) (v : ℕ) → f 0 ≡ 0 → f v ≡ k → row < length firsts → Pushed (map f firsts) row k (f cell) (map f (set firsts row v))
-  half-pushed f v z e h =
+  -- A row has it: one of its two numbers is pushed.
+  one-pushed : (f : Turn → ℕ) (v : Turn) → f past_end ≡ 0 → f v ≡ k → row < length firsts → Pushed (map f firsts) row k (f here) (map f (set firsts row v))
+  one-pushed f v z e h =
       let inside : row < length (map f firsts) = omega (arith, length-map firsts f) in
       record {
-        next =
-            simp (lt-ltb row (length (map f firsts)) inside)
-            (sym (get_or-map f firsts row 0) ∙ ap (λ (d : ℕ). get_or (map f firsts) row d) z);
+        next = simp (lt-ltb row (length (map f firsts)) inside) (sym (get_or-map f firsts row past_end) ∙ ap (λ (d : ℕ). get_or (map f firsts) row d) z);
         cells = map-set f firsts row v ∙ ap (set (map f firsts) row) e;
       }
 
-  pub loss-inside : row < length firsts → cell < word_span → LossPushed firsts row k (cell / half) (set firsts row (k * half + cell % half))
-  loss-inside h small =
-      let v : ℕ = k * half + cell % half in
-      record {
-        loss = half-pushed (λ x. x / half) v refl (half_high k (cell % half) (omega arith)) h;
-        gain = map-set_same (λ x. x % half) firsts row v 0 (half-low k (cell % half) (omega arith));
-        small = omega arith;
-      }
+  pub loss-inside : row < length firsts → (r n : ℕ) → r ≡ here.loss → n ≡ k → LossPushed firsts row k r (set firsts row (record { loss = n; gain = here.gain }))
+  loss-inside h r n e w =
+      let v : Turn = record { loss = n; gain = here.gain } in
+      rw e (record { loss = one-pushed (λ x. x.loss) v refl w h; gain = map-set_same (λ x. x.gain) firsts row v past_end refl })
 
-  pub gain-inside : row < length firsts → k < half → GainPushed firsts row k (cell % half) (set firsts row (cell / half * half + k))
-  gain-inside h small =
-      let v : ℕ = cell / half * half + k in
-      record {
-        gain = half-pushed (λ x. x % half) v refl (half-low (cell / half) k small) h;
-        loss = map-set_same (λ x. x / half) firsts row v 0 (half_high (cell / half) k small);
-        small = omega arith;
-      }
+  pub gain-inside : row < length firsts → (r n : ℕ) → r ≡ here.gain → n ≡ k → GainPushed firsts row k r (set firsts row (record { loss = here.loss; gain = n }))
+  gain-inside h r n e w =
+      let v : Turn = record { loss = here.loss; gain = n } in
+      rw e (record { gain = one-pushed (λ x. x.gain) v refl w h; loss = map-set_same (λ x. x.loss) firsts row v past_end refl })
 
 -- Both chains are linked from change k on.
-pub record BothLinking (turns₀ firsts₀ turns firsts : List ℕ) (k : ℕ) : Type 0 where
-  pub losses : Linking (high_halves turns₀) (high_halves turns) (high_halves firsts) k
-  pub gains : Linking (low_halves turns₀) (low_halves turns) (low_halves firsts) k
+pub record BothLinking (turns₀ firsts₀ turns firsts : List Turn) (k : ℕ) : Type 0 where
+  pub loss : Linking (losses turns₀) (losses turns) (losses firsts) k
+  pub gain : Linking (gains turns₀) (gains turns) (gains firsts) k
   pub inside : k ≤ length turns₀
+  pub few : length turns₀ ≤ no_change
   pub long : length turns ≡ length turns₀
   pub rows : length firsts ≡ length firsts₀
 
-pub both-none : (turns firsts : List ℕ) → length turns ≤ no_change → Fresh (high_halves firsts) → Fresh (low_halves firsts)
+pub both-none : (turns firsts : List Turn) → length turns ≤ no_change → Fresh (losses firsts) → Fresh (gains firsts)
     → BothLinking turns firsts turns firsts (length turns)
 both-none turns firsts few loss gain =
     record {
-      losses = begin (λ x. x / half) loss;
-      gains = begin (λ x. x % half) gain;
+      loss = begin (λ x. x.loss) loss;
+      gain = begin (λ x. x.gain) gain;
       inside = omega arith;
+      few = few;
       long = refl;
       rows = refl;
     }
   where
-    begin : (f : ℕ → ℕ) → Fresh (map f firsts) → Linking (map f turns) (map f turns) (map f firsts) (length turns)
+    begin : (f : Turn → ℕ) → Fresh (map f firsts) → Linking (map f turns) (map f turns) (map f firsts) (length turns)
     begin f fresh =
         let l : length (map f turns) ≡ length turns = length-map turns f in
         subst (Linking (map f turns) (map f turns) (map f firsts)) l (linking-none (map f turns) (map f firsts) (omega arith) fresh)
 
--- One half of a change more.
-half_step : (f : ℕ → ℕ) (turns₀ turns firsts after : List ℕ) (k r v : ℕ) → f 0 ≡ 0 → f v ≡ r → 0 < k → Linking (map f turns₀) (map f turns) firsts k
-    → Pushed firsts (f (get_or turns (k - 1) 0)) (k - 1) r after → Linking (map f turns₀) (map f (set turns (k - 1) v)) after (k - 1)
-half_step f turns₀ turns firsts after k r v z e h i p =
-    let here : get_or (map f turns) (k - 1) 0 ≡ f (get_or turns (k - 1) 0) =
-    ap (λ (d : ℕ). get_or (map f turns) (k - 1) d) (sym z) ∙ get_or-map f turns (k - 1) 0 in
+-- One of the two numbers of a change more.
+number_step : (f : Turn → ℕ) (turns₀ turns : List Turn) (heads after : List ℕ) (k r : ℕ) (v : Turn) → f past_end ≡ 0 → f v ≡ r → 0 < k
+    → Linking (map f turns₀) (map f turns) heads k → Pushed heads (f (get_or turns (k - 1) past_end)) (k - 1) r after
+    → Linking (map f turns₀) (map f (set turns (k - 1) v)) after (k - 1)
+number_step f turns₀ turns heads after k r v z e h i p =
+    let there : get_or (map f turns) (k - 1) 0 ≡ f (get_or turns (k - 1) past_end) =
+    ap (λ (d : ℕ). get_or (map f turns) (k - 1) d) (sym z) ∙ get_or-map f turns (k - 1) past_end in
     let put : map f (set turns (k - 1) v) ≡ set (map f turns) (k - 1) r = map-set f turns (k - 1) v ∙ ap (set (map f turns) (k - 1)) e in
-    rw put (linking-step (map f turns₀) (map f turns) firsts k r after h i (rw here p))
+    rw put (linking-step (map f turns₀) (map f turns) heads k r after h i (rw there p))
 
-module _ (turns₀ firsts₀ turns firsts : List ℕ) (k : ℕ) (b : BothLinking turns₀ firsts₀ turns firsts k) where
-  -- Both halves of change k - 1 are pushed.
-  pub both-step : 0 < k → (loss gain : ℕ) (after last : List ℕ) → LossPushed firsts (get_or turns (k - 1) 0 / half) (k - 1) loss after
-      → GainPushed after (get_or turns (k - 1) 0 % half) (k - 1) gain last → BothLinking turns₀ firsts₀ (set turns (k - 1) (loss * half + gain)) last (k - 1)
+module _ (turns₀ firsts₀ turns firsts : List Turn) (k : ℕ) (b : BothLinking turns₀ firsts₀ turns firsts k) where
+  -- Both numbers of change k - 1 are pushed.
+  pub both-step : 0 < k → (loss gain : ℕ) (after last : List Turn) → LossPushed firsts (get_or turns (k - 1) past_end).loss (k - 1) loss after
+      → GainPushed after (get_or turns (k - 1) past_end).gain (k - 1) gain last → BothLinking turns₀ firsts₀ (set turns (k - 1) (record { loss = loss; gain = gain })) last (k - 1)
   both-step h loss gain after last p q =
-      let v : ℕ = loss * half + gain in
+      let v : Turn = record { loss = loss; gain = gain } in
       record {
-        losses =
-            rw q.loss
-            (half_step (λ x. x / half) turns₀ turns (high_halves firsts) (high_halves after) k loss v refl (half_high loss gain q.small) h b.losses p.loss);
-        gains =
-            half_step (λ x. x % half) turns₀ turns (low_halves firsts) (low_halves last) k gain v refl (half-low loss gain q.small) h b.gains
-            (rw p.gain at q.gain);
+        loss = rw q.loss (number_step (λ x. x.loss) turns₀ turns (losses firsts) (losses after) k loss v refl refl h b.loss p.loss);
+        gain = number_step (λ x. x.gain) turns₀ turns (gains firsts) (gains last) k gain v refl refl h b.gain (rw p.gain at q.gain);
         inside = let i = b.inside in omega arith;
+        few = b.few;
         long = length-set turns (k - 1) v ∙ b.long;
         rows =
-            let i = length-map last (λ x. x % half) in
-            let j = length-map after (λ x. x / half) in
-            let i' = length-map after (λ x. x % half) in
-            let j' = length-map firsts (λ x. x / half) in
+            let i = length-map last (λ x. x.gain) in
+            let j = length-map after (λ x. x.loss) in
+            let i' = length-map after (λ x. x.gain) in
+            let j' = length-map firsts (λ x. x.loss) in
             let x = pushed_long _ _ _ _ _ p.loss in
             let y = pushed_long _ _ _ _ _ q.gain in
             let l = b.rows in
@@ -213,7 +196,7 @@ module _ (turns₀ firsts₀ turns firsts : List ℕ) (k : ℕ) (b : BothLinking
       }
 
   pub both-done : k ≡ 0 → TurnsLinked turns₀ turns firsts
-  both-done e = record { losses = linking-done _ _ _ k e b.losses; gains = linking-done _ _ _ k e b.gains }
+  both-done e = record { loss = linking-done _ _ _ k e b.loss; gain = linking-done _ _ _ k e b.gain }
 
 -- ## Links
 

@@ -26,16 +26,17 @@ use Rattle.rules.specs.Changes.{province_changes, by_date_and_id}
 use Rattle.rules.specs.Nations.{all_switches, settles, move_of}
 use Rattle.rules.specs.NationRows.{holder_word}
 use Rattle.change_keys.specs.ChangeSteps.{entered, change_key, change_keys_from, tags_of, change_at, per_id, per_date}
-use Rattle.nation_tables.specs.Layout.{key_rows, key_tags, cell_rows}
+use Rattle.nation_tables.specs.Layout.{key_rows, key_tags, cell_rows, row_number}
 use Rattle.nation_tables.specs.Lookup.{no_row}
 use Rattle.nation_tables.specs.Countries.{tag_at_row, words_of_tags, places_of, row_of, Keyed}
-use Rattle.nation_tables.specs.Settling.{or_tag, settled_row, RowHolds}
+use Rattle.nation_tables.specs.Settling.{or_tag, settling_row, settled_row}
 use Rattle.nation_tables.specs.Turning.{first_at, holder_row}
 use Rattle.nation_tables.specs.Holders.{Settler, Small, slot_cell, holder_cell, Step, step_at, steps_of}
 use Rattle.rules.proofs.CampaignLaws.{all-changes}
 use Rattle.change_keys.proofs.ChangeLaws.{Narrow}
 use Rattle.change_keys.proofs.ChangeKeyLaws.{changes-back, keys-sorted}
 use Rattle.nation_tables.proofs.tables.MappedLaws.{row-single}
+use Rattle.nation_tables.proofs.tables.OwnLaws.{row-holds}
 use Rattle.nation_tables.proofs.tables.SettlingLaws.{settled-row}
 use Rattle.nation_tables.proofs.slots.TurningLaws.{step_of}
 
@@ -105,14 +106,15 @@ pub all-sorted : (xs keys : List ℕ) → keys ≡ sort_by leb xs → sort_by le
 all-sorted xs keys e = ap (sort_by leb) e ∙ sort-again xs ∙ sym e
 
 module _ (ks : List Country) (ws ss : List ℕ) (q : Settler ks ws ss) (x : Change) (small : Small x) (row : ℕ)
-    (found : RowHolds ss x.to x.date row) where
+    (found : row ≡ row_number (settling_row ss x.to x.date)) where
   -- The row that was found and the word that stands there make the cell of the change.
   pub cell-made : (to : ℕ) → to ≡ x.to.0 → get_or ws row to * cell_rows + row ≡ holder_cell ks x
   unfolding holder_cell
   cell-made to e =
       let whom : CountryTag = settles (all_switches ks) x in
-      let r : row ≡ row_of ks whom = found.holds ks x q.keyed q.own q.once q.keys refl refl small.date in
-      let t = found.holder ks x q.keyed q.own q.once q.keys refl refl small.date in
+      let all = row-holds ss x.to x.date in
+      let r : row ≡ row_of ks whom = found ∙ all.holds ks x q.keyed q.own q.once q.keys refl refl small.date in
+      let t : whom ≡ or_tag x.to (tag_at_row ks row) = rw found (all.holder ks x q.keyed q.own q.once q.keys refl refl small.date) in
       let w : get_or ws row to ≡ whom.0 = rw (q.words, e) (word_at ks row x.to) ∙ ap (λ (t : CountryTag). t.0) (sym t) in
       ap₂ (λ (a b : ℕ). a * cell_rows + b) w (r ∙ sym (first-places whom.0 0 (words_of_tags ks)))
 
@@ -121,7 +123,7 @@ module _ (ks : List Country) where
   pub settled-small : Keyed ks → Short ks → (x : Change) → Small x → (settles (all_switches ks) x).0 < key_tags
   settled-small keyed short x s =
       let q = settled-row ks keyed x s.date in
-      omega (arith, ap (λ (t : CountryTag). t.0) q.holder, tag-at-small key_tags ks (settled_row ks x.to x.date.0) x.to short s.to)
+      omega (arith, ap (λ (t : CountryTag). t.0) q.holder, tag-at-small key_tags ks (settled_row ks x.to x.date) x.to short s.to)
 
   -- ## Steps
 

@@ -4,8 +4,7 @@ use mathlib.Core.Bool.{false}
 use mathlib.Core.List.{List, [], ◌∷◌, ◌++◌, map}
 use mathlib.Core.Option
 use mathlib.Core.Option.{Option}
-use Prim.Native.Nat.{ℕ, suc, ◌+◌, ◌-◌, ◌*◌, ◌%◌, ◌≤◌, ◌<◌}
-use native.Mathlib.Nat.{sub-zero}
+use Prim.Native.Nat.{ℕ, suc, ◌+◌, ◌*◌, ◌%◌, ◌≤◌, ◌<◌}
 use native.Mathlib.Omega.{arith}
 use borrow.Author.Tests.{eqb-true, eqb-false}
 use lib.Dec.{leb, eqb}
@@ -31,15 +30,16 @@ use Rattle.rules.proofs.CampaignLaws.{holders-of}
 use Rattle.change_keys.specs.ChangeSteps.{entered, AtFirstProvince, change_keys_from, KeysFilled}
 use Rattle.nation_tables.specs.Layout.{key_rows, key_tags, word_span, no_change, cell_rows}
 use Rattle.nation_tables.specs.Lookup.{no_row}
-use Rattle.nation_tables.specs.Countries.{tag_at_row, words_of_tags, initial_words, row_keys, initial_row}
+use Rattle.nation_tables.specs.Countries.{tag_at_row, words_of_tags, initial_words, row_keys, initial_number}
 use Rattle.nation_tables.specs.Starting.{owner_in, slot_rows, Slotted, Started}
-use Rattle.nation_tables.specs.Turning.{high_halves, low_halves, row_turns_of, Rowed}
-use Rattle.nation_tables.specs.Holders.{Small, row_cell, slot_cell, slot_cells, cell_word, slot_counts, holder_cell, step_at, steps_of}
+use Rattle.nation_tables.specs.declared.layout.Turn.{Turn}
+use Rattle.nation_tables.specs.Turning.{losses, gains, row_turns_of, Rowed}
+use Rattle.nation_tables.specs.Holders.{Small, rows_in, row_cell, slot_cell, slot_cells, cell_word, slot_counts, holder_cell, step_at, steps_of}
 use Rattle.nation_tables.specs.Holders.{turns_along, cells_along, turn_cell, Passed, Began, Stepped, Held}
 use Rattle.change_keys.proofs.ChangeLaws.{entered-few, entered-narrow}
 use Rattle.change_keys.proofs.ChangeKeyLaws.{length-change-keys}
 use Rattle.nation_tables.proofs.tables.KeyedLaws.{tag_small, accepted-keyed, accepted-slotted}
-use Rattle.nation_tables.proofs.tables.MappedLaws.{row-mapped}
+use Rattle.nation_tables.proofs.tables.MappedLaws.{initial-mapped}
 use Rattle.nation_tables.proofs.slots.SlotPassLaws.{length-along, passed-rows}
 use Rattle.nation_tables.proofs.slots.ChangeCellLaws.{holder-word, row_back, entered-small, Short, settled-small, steps-sorted}
 use Rattle.nation_tables.proofs.slots.TurningLaws.{steps_in, cell_parts, cell-rows, cell-words, all_after, row-turns, holder-cells, counts-held}
@@ -61,15 +61,15 @@ module _ (c : Campaign) (few : length c.countries ≤ key_rows) (once : twice (w
   slot-holders = s.holders c refl size few initials
 
   -- The cells of these rows are those of the start holders.
-  pub start-cells : map (row_cell (words_of_tags ks)) (low_halves rows) ≡ map (slot_cell (words_of_tags ks)) (start_holders c)
+  pub start-cells : map (row_cell (words_of_tags ks)) (rows_in rows) ≡ map (slot_cell (words_of_tags ks)) (start_holders c)
   start-cells =
-      ap (λ (l : List ℕ). map (row_cell (words_of_tags ks)) (low_halves l)) s.cells
+      ap (λ (l : List ℕ). map (row_cell (words_of_tags ks)) (rows_in l)) s.cells
       ∙ map-then (λ x. x % cell_rows) (row_cell (words_of_tags ks)) slots
       ∙ map_same (λ r. row_cell (words_of_tags ks) (r % cell_rows)) (λ r. slot_cell (words_of_tags ks) (tag_at_row ks r)) slots
       (all-images (λ r. row_cell (words_of_tags ks) (r % cell_rows) ≡ slot_cell (words_of_tags ks) (tag_at_row ks r))
-      (λ n. initial_row keys (owner_in c.provinces (record { 0 = n })))
+      (λ n. initial_number keys (owner_in c.provinces (record { 0 = n })))
       (λ n. let t = owner_in c.provinces (record { 0 = n }) in
-      one_cell (initial_row keys t) ((row-mapped keys t t.0 (initial_row keys t) refl refl).inside ks few initials))
+      one_cell (initial_number keys t) ((initial-mapped keys t).inside ks few initials))
       (numbers_from 0 count))
       ∙ sym (map-then (tag_at_row ks) (slot_cell (words_of_tags ks)) slots)
       ∙ ap (map (slot_cell (words_of_tags ks))) slot-holders
@@ -119,7 +119,7 @@ module _ (xs : List ℕ) (z : refusal xs ≡ 0) where
 
   -- How many slots have each row is how many each country holds.
   counts-of : (holders : List (Option CountryTag)) (n : ℕ) → n ≡ length campaign.countries
-      → slot_counts (low_halves (slot_cells campaign holders)) n ≡ map (λ k. count_of (matches k.tag) holders) campaign.countries
+      → slot_counts (rows_in (slot_cells campaign holders)) n ≡ map (λ k. count_of (matches k.tag) holders) campaign.countries
   counts-of holders n e =
       let tags = words_of_tags campaign.countries in
       let long : length tags ≡ length campaign.countries = length-map campaign.countries (λ k. k.tag.0) in
@@ -129,9 +129,9 @@ module _ (xs : List ℕ) (z : refusal xs ≡ 0) where
 
   -- By the cells of the slots after the last change each country holds as many as it does.
   pub held-counted : (slots counts : List ℕ) (n : ℕ) → slots ≡ slot_cells campaign (holders_of campaign) → n ≡ length campaign.countries
-      → counts ≡ slot_counts (low_halves slots) n → counts ≡ held_of campaign
+      → counts ≡ slot_counts (rows_in slots) n → counts ≡ held_of campaign
   unfolding held_of
-  held-counted slots counts n e c f = f ∙ ap (λ (l : List ℕ). slot_counts (low_halves l) n) e ∙ counts-of (holders_of campaign) n c
+  held-counted slots counts n e c f = f ∙ ap (λ (l : List ℕ). slot_counts (rows_in l) n) e ∙ counts-of (holders_of campaign) n c
 
   -- The words of all holders have 32 bits.
   small-start : All (λ h. holder_word h < word_span) (start_holders campaign)
@@ -165,31 +165,31 @@ module _ (xs : List ℕ) (z : refusal xs ≡ 0) where
   pub began : (ws is : List ℕ) (ps : List Province) → ps ≡ campaign.provinces → ws ≡ words_of_tags campaign.countries
       → is ≡ row_keys (initial_words campaign.countries) → (count : ℕ) (rows slots counts : List ℕ) (n : ℕ)
       → count ≡ suc (length campaign.provinces) → n ≡ length campaign.countries
-      → Started is ps count rows → slots ≡ map (row_cell ws) (low_halves rows) → counts ≡ slot_counts (low_halves slots) n
+      → Started is ps count rows → slots ≡ map (row_cell ws) (rows_in rows) → counts ≡ slot_counts (rows_in slots) n
       → Began campaign slots counts
   began ws is ps p w i count rows slots counts n size e s f g =
       let s' : Started is campaign.provinces count rows = rw p at s in
       let cells : slots ≡ slot_cells campaign (start_holders campaign) =
-      f ∙ ap (λ (l : List ℕ). map (row_cell l) (low_halves rows)) w ∙ start-cells campaign few once is i count rows size s' in
-      record { slots = cells; started = g ∙ ap (λ (l : List ℕ). slot_counts (low_halves l) n) cells ∙ counts-of (start_holders campaign) n e }
+      f ∙ ap (λ (l : List ℕ). map (row_cell l) (rows_in rows)) w ∙ start-cells campaign few once is i count rows size s' in
+      record { slots = cells; started = g ∙ ap (λ (l : List ℕ). slot_counts (rows_in l) n) cells ∙ counts-of (start_holders campaign) n e }
 
   -- What `sort_steps` leaves.
-  pub stepped : (n : ℕ) (keys sorted cells keys' : List ℕ) → KeysFilled xs n keys → sorted ≡ sort_by leb (take (n - 0) keys)
+  pub stepped : (n : ℕ) (keys sorted cells keys' : List ℕ) → KeysFilled xs n keys → sorted ≡ sort_by leb (take n keys)
       → take n cells ≡ map (holder_cell campaign.countries) (entered xs) → Stepped xs n (sorted ++ keys') cells
   stepped n keys sorted cells keys' k s f =
-      let all : sorted ≡ sort_by leb (change_keys_from 0 (entered xs)) = s ∙ rw (sub-zero, k.cells) in
+      let all : sorted ≡ sort_by leb (change_keys_from 0 (entered xs)) = s ∙ ap (sort_by leb) k.cells in
       let long : length sorted ≡ n = ap length all ∙ length-sort leb (change_keys_from 0 (entered xs)) ∙ length-change-keys 0 (entered xs) ∙ sym k.counted in
       record { counted = k.counted; sorted = take_at sorted keys' n long ∙ all; filled = f }
 
   -- The pass over these steps, from that start.
-  module _ (n : ℕ) (slots started keys cells : List ℕ) (b : Began campaign slots started) (q : Stepped xs n keys cells) (slots₁ turns : List ℕ)
+  module _ (n : ℕ) (slots started keys cells : List ℕ) (b : Began campaign slots started) (q : Stepped xs n keys cells) (slots₁ : List ℕ) (turns : List Turn)
       (p : Passed (take n keys) (take n cells) slots slots₁ turns) where
     steps : steps_of (take n cells) (take n keys) ≡ steps_in campaign
     steps = campaign-steps (take n cells) (take n keys) q.filled q.sorted
 
-    told : Rowed (take n keys) (high_halves turns) (low_halves turns) (row_turns_of campaign)
+    told : Rowed (take n keys) (losses turns) (gains turns) (row_turns_of campaign)
     told =
-        subst (Rowed (take n keys) (high_halves turns) (low_halves turns)) (ap₂ turns_along b.slots steps ∙ sym (row-turns campaign few-tags))
+        subst (Rowed (take n keys) (losses turns) (gains turns)) (ap₂ turns_along b.slots steps ∙ sym (row-turns campaign few-tags))
         (passed-rows (take n keys) (take n cells) slots slots₁ turns p)
 
     -- As many turns as changes.
@@ -204,7 +204,7 @@ module _ (xs : List ℕ) (z : refusal xs ≡ 0) where
         ∙ length-change-keys 0 (entered xs)
         ∙ sym q.counted
 
-    held_all : (turns' : List ℕ) → Held xs n keys slots₁ started (turns ++ turns')
+    held_all : (turns' : List Turn) → Held xs n keys slots₁ started (turns ++ turns')
     unfolding changes_of
     held_all turns' =
         record {
@@ -216,6 +216,6 @@ module _ (xs : List ℕ) (z : refusal xs ≡ 0) where
         }
 
   -- What `hold_slots` leaves.
-  pub held : (n : ℕ) (slots started keys cells : List ℕ) → Began campaign slots started → Stepped xs n keys cells → (slots₁ turns turns' : List ℕ)
-      → Passed (take (n - 0) keys) (take (n - 0) cells) slots slots₁ turns → Held xs n keys slots₁ started (turns ++ turns')
-  held n slots started keys cells b q slots₁ turns turns' p = held_all n slots started keys cells b q slots₁ turns (rw (sub-zero n) at p) turns'
+  pub held : (n : ℕ) (slots started keys cells : List ℕ) → Began campaign slots started → Stepped xs n keys cells → (slots₁ : List ℕ) (turns turns' : List Turn)
+      → Passed (take n keys) (take n cells) slots slots₁ turns → Held xs n keys slots₁ started (turns ++ turns')
+  held n slots started keys cells b q slots₁ turns turns' p = held_all n slots started keys cells b q slots₁ turns p turns'

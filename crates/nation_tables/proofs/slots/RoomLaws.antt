@@ -2,7 +2,7 @@
 use Rattle.std.specs.Prelude as code
 use Rattle.std.specs.Prelude.{Ok}
 use mathlib.Core.Path.{◌≡◌, refl, sym, ◌∙◌}
-use mathlib.Core.Bool.{Bool, true, false, not, ◌&&◌, true≢false}
+use mathlib.Core.Bool.{Bool, true, false, not, true≢false}
 use mathlib.Core.List.{List}
 use Prim.Native.Nat.{ℕ, ◌≤◌}
 use native.Mathlib.Omega.{arith}
@@ -19,6 +19,7 @@ use Rattle.record.specs.Opened.{Tells, RightlyOpened}
 use Rattle.rules.specs.Changes.{by_date_and_id, changes_of}
 use Rattle.change_keys.specs.ChangeSteps.{entered, most_changes}
 use Rattle.change_keys.proofs.ChangeLaws.{entered-few, entered-bytes}
+use Rattle.nation_tables.specs.declared.layout.Turn.{Turn}
 use Rattle.nation_tables.specs.Layout.{most_countries, most_settling, most_slots, rows_within}
 use Rattle.nation_tables.specs.Countries.{switch_keys_from, settling_keys_from}
 use Rattle.nation_tables.specs.Gathering.{Begun, TableRoom, room_of}
@@ -41,70 +42,56 @@ module _ (xs : List ℕ) (h : refusal xs ≡ 0) (room : ℕ) where
   unfolding changes_of
   changes-fit l = omega (arith, length-sort by_date_and_id (entered xs), entered-fit l)
 
+-- ## Cells
+
+-- Cells of the tables that are long enough for any record of so many bytes.
+pub record CellsRoom (bytes : ℕ) (words₀ initials₀ switches₀ keys₀ cells₀ slots₀ started₀ : List ℕ) (turns₀ : List Turn) : Type 0 where
+  pub words : most_countries ≤ length words₀
+  pub initials : most_countries ≤ length initials₀
+  pub switches : rows_within most_settling bytes ≤ length switches₀
+  pub keys : rows_within most_changes bytes ≤ length keys₀
+  pub cells : rows_within most_changes bytes ≤ length cells₀
+  pub slots : most_slots ≤ length slots₀
+  pub started : most_countries ≤ length started₀
+  pub turns : rows_within most_changes bytes ≤ length turns₀
+
+module _ {bytes m n : ℕ} (room : TableRoom bytes m n) where
+  -- Arrays for enough keys and changes are.
+  pub cells-room : (words initials switches keys cells slots started : List ℕ) (turns : List Turn)
+      → length words ≡ most_countries → length initials ≡ most_countries → length switches ≡ m → length keys ≡ n → length cells ≡ n
+      → length slots ≡ most_slots → length started ≡ most_countries → length turns ≡ n
+      → CellsRoom bytes words initials switches keys cells slots started turns
+  cells-room words initials switches keys cells slots started turns w i u k c s b t =
+      record {
+        words = omega arith;
+        initials = omega arith;
+        switches = omega (arith, room.keys);
+        keys = omega (arith, room.changes);
+        cells = omega (arith, room.changes);
+        slots = omega arith;
+        started = omega arith;
+        turns = omega (arith, room.changes);
+      }
+
 -- ## The test
 
-module _ (bytes : ℕ) (words initials switches keys cells slots started turns firsts : List ℕ) where
-  -- What the code tests.
-  abbrev roomy : Bool
-  roomy =
-      room_of bytes (length words) (length initials) (length switches) (length keys) (length cells) (length slots) (length started) (length turns)
-      (length firsts)
+module _ (bytes m n : ℕ) where
+  -- Room is found where it is.
+  room-found : TableRoom bytes m n → room_of bytes m n ≡ true
+  room-found room = rw (le-leb (rows_within most_settling bytes) m room.keys, le-leb (rows_within most_changes bytes) n room.changes) refl
 
-  -- Cells that have room are found to have it.
-  room-found : TableRoom bytes words initials switches keys cells slots started turns firsts → roomy ≡ true
-  room-found room =
-      rw (
-        le-leb most_countries (length words) room.words,
-        le-leb most_countries (length initials) room.initials,
-        le-leb (rows_within most_settling bytes) (length switches) room.switches,
-        le-leb (rows_within most_changes bytes) (length keys) room.keys,
-        le-leb (rows_within most_changes bytes) (length cells) room.cells,
-        le-leb most_slots (length slots) room.slots,
-        le-leb most_countries (length started) room.started,
-        le-leb (rows_within most_changes bytes) (length turns) room.turns,
-        le-leb most_countries (length firsts) room.firsts,
-      )
-      refl
-
-  pub room-denied : (b : Bool) → b ≡ roomy → not b ≡ true → TableRoom bytes words initials switches keys cells slots started turns firsts → ⊥
+  pub room-denied : (b : Bool) → b ≡ room_of bytes m n → not b ≡ true → TableRoom bytes m n → ⊥
   room-denied b e f room = denied b (e ∙ room-found room) f
     where
       denied : (b : Bool) → b ≡ true → not b ≡ true → ⊥
       denied true h g = true≢false (sym g)
       denied false h g = true≢false (sym h)
 
-  -- And cells that are found to have it do have it.
-  pub room-there : (b : Bool) → b ≡ roomy → not b ≡ false → TableRoom bytes words initials switches keys cells slots started turns firsts
+  -- And where it is found, it is.
+  pub room-there : (b : Bool) → b ≡ room_of bytes m n → not b ≡ false → TableRoom bytes m n
   room-there b e t =
-      let all : roomy ≡ true = sym e ∙ affirmed b t in
-      let a : Bool = leb most_countries (length words) in
-      let i : Bool = leb most_countries (length initials) in
-      let s : Bool = leb (rows_within most_settling bytes) (length switches) in
-      let k : Bool = leb (rows_within most_changes bytes) (length keys) in
-      let c : Bool = leb (rows_within most_changes bytes) (length cells) in
-      let o : Bool = leb most_slots (length slots) in
-      let h : Bool = leb most_countries (length started) in
-      let u : Bool = leb (rows_within most_changes bytes) (length turns) in
-      let f : Bool = leb most_countries (length firsts) in
-      let eight = both (a && i && s && k && c && o && h && u) f all in
-      let seven = both (a && i && s && k && c && o && h) u eight.0 in
-      let six = both (a && i && s && k && c && o) h seven.0 in
-      let five = both (a && i && s && k && c) o six.0 in
-      let four = both (a && i && s && k) c five.0 in
-      let three = both (a && i && s) k four.0 in
-      let two = both (a && i) s three.0 in
-      let one = both a i two.0 in
-      record {
-        words = leb-true most_countries (length words) one.0;
-        initials = leb-true most_countries (length initials) one.1;
-        switches = leb-true (rows_within most_settling bytes) (length switches) two.1;
-        keys = leb-true (rows_within most_changes bytes) (length keys) three.1;
-        cells = leb-true (rows_within most_changes bytes) (length cells) four.1;
-        slots = leb-true most_slots (length slots) five.1;
-        started = leb-true most_countries (length started) six.1;
-        turns = leb-true (rows_within most_changes bytes) (length turns) seven.1;
-        firsts = leb-true most_countries (length firsts) eight.1;
-      }
+      let two = both (leb (rows_within most_settling bytes) m) (leb (rows_within most_changes bytes) n) (sym e ∙ affirmed b t) in
+      record { keys = leb-true (rows_within most_settling bytes) m two.0; changes = leb-true (rows_within most_changes bytes) n two.1 }
     where
       affirmed : (b : Bool) → not b ≡ false → b ≡ true
       affirmed true h = refl

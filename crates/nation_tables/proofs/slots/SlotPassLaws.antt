@@ -1,16 +1,17 @@
--- One pass over the sorted changes that writes the old and the new row of each into a cell, and keeps the cell of each slot. The invariant:
+-- One pass over the sorted changes that writes the old and the new row of each, and keeps the cell of each slot. The invariant:
 -- what is written so far, before what the steps still to come give, is what all steps give.
 use mathlib.Core.Path.{◌≡◌, refl, sym, ap, ap₂, ◌∙◌}
 use mathlib.Core.List.{List, [], ◌∷◌, map}
-use Prim.Native.Nat.{ℕ, suc, ◌+◌, ◌*◌, ◌/◌, ◌%◌, ◌≤◌, ◌<◌}
+use Prim.Native.Nat.{ℕ, suc, ◌+◌, ◌%◌, ◌≤◌, ◌<◌}
 use native.Mathlib.Omega.{arith}
 use lib.ListN.{length, get_or, set, drop, length-set, length-map}
+use Rattle.lists.proofs.ListLaws.{map-then}
 use Rattle.lists.proofs.FillLaws.{Filling, filling-new, filling-put, filling-whole}
-use Rattle.nation_tables.specs.Layout.{half, nobody_cell}
-use Rattle.nation_tables.specs.Turning.{high_halves, low_halves, key_date, Rowed}
+use Rattle.nation_tables.specs.declared.layout.Turn.{Turn}
+use Rattle.nation_tables.specs.Layout.{cell_rows, nobody_cell}
+use Rattle.nation_tables.specs.Turning.{losses, gains, key_date, Rowed}
 use Rattle.nation_tables.specs.Holders.{Step, step_at, steps_of, turns_along, cells_along, turn_cell, Replaced, Passed}
 use Rattle.lists.proofs.StepLaws.{map_next, map-end}
-use Rattle.nation_tables.proofs.slots.ChainLaws.{half_high, half-low}
 
 -- ## Steps in general
 
@@ -28,39 +29,20 @@ turn-dates cells (key ∷ keys) slots =
     ap (λ (l : List _). key_date key ∷ l)
     (turn-dates cells keys (set slots (step_at cells key).slot (step_at cells key).cell))
 
--- The rows of a turn have 16 bits each, so its cell tells both.
-cell-high : (a b : ℕ) → (a % half * half + b % half) / half ≡ a % half
-cell-high a b = half_high (a % half) (b % half) (omega arith)
-
-cell-low : (a b : ℕ) → (a % half * half + b % half) % half ≡ b % half
-cell-low a b = half-low (a % half) (b % half) (omega arith)
-
-old-rows : (slots : List ℕ) (steps : List Step) → high_halves (map turn_cell (turns_along slots steps)) ≡ map (λ x. x.old) (turns_along slots steps)
-unfolding turns_along
-old-rows slots [] = refl
-old-rows slots (x ∷ xs) =
-    ap₂ (λ (r : ℕ) (l : List ℕ). r ∷ l) (cell-high (get_or slots x.slot nobody_cell) x.cell) (old-rows (set slots x.slot x.cell) xs)
-
-new-rows : (slots : List ℕ) (steps : List Step) → low_halves (map turn_cell (turns_along slots steps)) ≡ map (λ x. x.new) (turns_along slots steps)
-unfolding turns_along
-new-rows slots [] = refl
-new-rows slots (x ∷ xs) =
-    ap₂ (λ (r : ℕ) (l : List ℕ). r ∷ l) (cell-low (get_or slots x.slot nobody_cell) x.cell) (new-rows (set slots x.slot x.cell) xs)
-
 -- What the pass leaves are the turns, by keys and rows.
-pub passed-rows : (keys cells slots₀ slots₁ turns : List ℕ) → Passed keys cells slots₀ slots₁ turns
-    → Rowed keys (high_halves turns) (low_halves turns) (turns_along slots₀ (steps_of cells keys))
+pub passed-rows : (keys cells slots₀ slots₁ : List ℕ) (turns : List Turn) → Passed keys cells slots₀ slots₁ turns
+    → Rowed keys (losses turns) (gains turns) (turns_along slots₀ (steps_of cells keys))
 passed-rows keys cells slots₀ slots₁ turns p =
     record {
       dates = turn-dates cells keys slots₀;
-      old_rows = ap high_halves p.turns ∙ old-rows slots₀ (steps_of cells keys);
-      new_rows = ap low_halves p.turns ∙ new-rows slots₀ (steps_of cells keys);
+      old_rows = ap losses p.turns ∙ map-then turn_cell (λ x. x.loss) (turns_along slots₀ (steps_of cells keys));
+      new_rows = ap gains p.turns ∙ map-then turn_cell (λ x. x.gain) (turns_along slots₀ (steps_of cells keys));
     }
 
 -- ## The loop
 
 -- The steps of the keys passed are done.
-pub record PassLoop (keys cells slots₀ turns₀ slots turns : List ℕ) (k : ℕ) : Type 0 where
+pub record PassLoop (keys cells slots₀ : List ℕ) (turns₀ : List Turn) (slots : List ℕ) (turns : List Turn) (k : ℕ) : Type 0 where
   pub inside : k ≤ length keys
   pub long : length slots ≡ length slots₀
   pub told :
@@ -73,7 +55,7 @@ length-told keys cells slots =
     length-map (turns_along slots (steps_of cells keys)) turn_cell ∙ length-along slots (steps_of cells keys) ∙ length-map keys (step_at cells)
 
 -- Nothing is passed yet.
-pub pass-none : (keys cells slots turns : List ℕ) → length turns ≡ length keys → PassLoop keys cells slots turns slots turns 0
+pub pass-none : (keys cells slots : List ℕ) (turns : List Turn) → length turns ≡ length keys → PassLoop keys cells slots turns slots turns 0
 pass-none keys cells slots turns e =
     record {
       inside = omega arith;
@@ -82,13 +64,13 @@ pass-none keys cells slots turns e =
       after = refl;
     }
 
-module _ (keys cells slots₀ turns₀ slots turns : List ℕ) (k : ℕ) (p : PassLoop keys cells slots₀ turns₀ slots turns k) where
+module _ (keys cells slots₀ : List ℕ) (turns₀ : List Turn) (slots : List ℕ) (turns : List Turn) (k : ℕ) (p : PassLoop keys cells slots₀ turns₀ slots turns k) where
   abbrev here : Step
   here = step_at cells (get_or keys k 0)
 
   -- One step more.
   pub pass_step : k < length keys → (slot cell old : ℕ) (slots' : List ℕ) → slot ≡ here.slot → cell ≡ here.cell → Replaced slots slot cell old slots'
-      → PassLoop keys cells slots₀ turns₀ slots' (set turns k (old % half * half + cell % half)) (k + 1)
+      → PassLoop keys cells slots₀ turns₀ slots' (set turns k (record { loss = old % cell_rows; gain = cell % cell_rows })) (k + 1)
   unfolding turns_along cells_along
   pass_step h slot cell old slots' a b r =
       let next : steps_of cells (drop k keys) ≡ here ∷ steps_of cells (drop (k + 1) keys) = map_next (step_at cells) keys k h in
@@ -100,7 +82,7 @@ module _ (keys cells slots₀ turns₀ slots turns : List ℕ) (k : ℕ) (p : Pa
         told =
             rw put
             (filling-put _ _ _ k turns p.told _ _ (ap (λ (l : List Step). map turn_cell (turns_along slots l)) next) _
-            (ap₂ (λ (x y : ℕ). x % half * half + y % half) was b));
+            (ap₂ (λ (x y : ℕ). record { loss = x % cell_rows; gain = y % cell_rows }) was b));
         after = rw put (ap (λ (l : List Step). cells_along l slots) (sym next) ∙ p.after);
       }
 

@@ -19,9 +19,9 @@ use Rattle.format.specs.Campaign.{Campaign, Province}
 use Rattle.format.specs.Rows.{same_id}
 use Rattle.rules.specs.Nations.{maps_to, slots_of, start_tag, start_holder, start_holders}
 use Rattle.nation_tables.specs.Layout.{key_rows}
-use Rattle.nation_tables.specs.Countries.{tag_at_row, initial_words, row_keys, initial_row}
+use Rattle.nation_tables.specs.Countries.{tag_at_row, initial_words, row_keys, initial_number}
 use Rattle.nation_tables.specs.Starting.{owner_in, slot_rows, put_owners, Slotted, Started}
-use Rattle.nation_tables.proofs.tables.MappedLaws.{row-mapped}
+use Rattle.nation_tables.proofs.tables.MappedLaws.{initial-mapped}
 
 -- ## One province more
 
@@ -79,11 +79,11 @@ module _ (f : CountryTag → ℕ) where
 
 module _ (keys : List ℕ) (ps : List Province) (slots : ℕ) (q : Slotted slots ps) where
   length-slot-rows : length (slot_rows keys ps slots) ≡ slots
-  length-slot-rows = length-map (numbers_from 0 slots) (λ n. initial_row keys (owner_in ps (record { 0 = n }))) ∙ length-numbers 0 slots
+  length-slot-rows = length-map (numbers_from 0 slots) (λ n. initial_number keys (owner_in ps (record { 0 = n }))) ∙ length-numbers 0 slots
 
-  all-put : put_owners (initial_row keys) ps (replicate slots (initial_row keys NONE)) ≡ slot_rows keys ps slots
+  all-put : put_owners (initial_number keys) ps (replicate slots (initial_number keys NONE)) ≡ slot_rows keys ps slots
   all-put =
-      let f = initial_row keys in
+      let f = initial_number keys in
       let start = replicate slots (f NONE) in
       let size : length start ≡ slots = length-replicate slots (f NONE) in
       ext_get_or 0 (put_owners f ps start) (slot_rows keys ps slots) (length-put f ps start ∙ size ∙ sym length-slot-rows)
@@ -101,15 +101,15 @@ module _ (keys : List ℕ) (ps : List Province) (slots : ℕ) (q : Slotted slots
   unfolding start_holders slots_of start_holder start_tag
   start-holders c e n few k =
       let ks = c.countries in
-      let held : (i : ℕ) → tag_at_row ks (initial_row keys (owner_in ps (record { 0 = i }))) ≡ start_holder c (record { 0 = i }) =
+      let held : (i : ℕ) → tag_at_row ks (initial_number keys (owner_in ps (record { 0 = i }))) ≡ start_holder c (record { 0 = i }) =
       λ i.
-      sym ((row-mapped keys (owner_in ps (record { 0 = i })) _ (initial_row keys (owner_in ps (record { 0 = i }))) refl refl).holder ks few k)
+      sym ((initial-mapped keys (owner_in ps (record { 0 = i }))).holder ks few k)
       ∙ ap (λ (l : List Province). maps_to ks (owner_in l (record { 0 = i }))) (sym e) in
-      map-then (λ i. initial_row keys (owner_in ps (record { 0 = i }))) (tag_at_row ks) (numbers_from 0 slots)
+      map-then (λ i. initial_number keys (owner_in ps (record { 0 = i }))) (tag_at_row ks) (numbers_from 0 slots)
       ∙ ap (λ (g : ℕ → Option CountryTag). map g (numbers_from 0 slots)) (fun_ext held)
       ∙ ap (λ (m : ℕ). map (λ i. start_holder c (record { 0 = i })) (numbers_from 0 m)) (n ∙ ap (λ (l : List Province). suc (length l)) (sym e))
       ∙ sym (map-then (λ i. record { 0 = i }) (start_holder c) (numbers_from 0 (suc (length c.provinces))))
 
-  pub started : (rows after : List ℕ) (row : ℕ) → row ≡ initial_row keys NONE → rows ≡ replicate slots row → after ≡ put_owners (initial_row keys) ps rows → Started keys ps slots after
+  pub started : (rows after : List ℕ) (row : ℕ) → row ≡ initial_number keys NONE → rows ≡ replicate slots row → after ≡ put_owners (initial_number keys) ps rows → Started keys ps slots after
   started rows after row r e w =
-      record { cells = w ∙ ap (put_owners (initial_row keys) ps) (e ∙ ap (replicate slots) r) ∙ all-put; holders = start-holders }
+      record { cells = w ∙ ap (put_owners (initial_number keys) ps) (e ∙ ap (replicate slots) r) ∙ all-put; holders = start-holders }

@@ -1,7 +1,7 @@
 -- The steps by which the tables are gathered, one after the other.
 use mathlib.Core.Path.{◌≡◌, refl, sym, ap, ◌∙◌}
 use mathlib.Core.List.{List, [], ◌∷◌, map}
-use Prim.Native.Nat.{ℕ, zero, suc, ◌/◌, ◌%◌, ◌≤◌, ◌<◌}
+use Prim.Native.Nat.{ℕ, zero, suc, ◌≤◌, ◌<◌}
 use native.Mathlib.Omega.{arith}
 use lib.Dec.{leb}
 use lib.ListN.{length, get_or, take, drop, length-map}
@@ -9,11 +9,12 @@ use lib.Seq.{take_at}
 use Rattle.sorting.proofs.SortLaws.{length-sort}
 use Rattle.format.specs.Campaign.{Country}
 use Rattle.rules.specs.Lent.{written}
-use Rattle.nation_tables.specs.Layout.{key_rows, key_numbers, half, no_change, no_firsts}
-use Rattle.nation_tables.specs.Countries.{words_of_tags, row_keys, switch_keys_from, settling_keys_from, settling_keys, Keyed, Tabled, Filled}
-use Rattle.nation_tables.specs.Turning.{high_halves, low_halves, Fresh}
+use Rattle.nation_tables.specs.declared.layout.Turn.{Turn}
+use Rattle.nation_tables.specs.Layout.{no_change}
+use Rattle.nation_tables.specs.Countries.{words_of_tags, row_keys, switch_keys_from, settling_keys_from, settling_keys, Tabled, Filled}
+use Rattle.nation_tables.specs.Turning.{losses, gains, Fresh}
 use Rattle.nation_tables.specs.Switches.{runs_from, run_keys, target_words}
-use Rattle.nation_tables.specs.Gathering.{TablesFilled, FewSwitches}
+use Rattle.nation_tables.specs.Gathering.{TablesFilled, SwitchesRoom}
 use Rattle.nation_tables.proofs.tables.CountryLaws.{initial-table, settling-table}
 use Rattle.nation_tables.proofs.tables.SwitchLaws.{length_runs, length-targets}
 
@@ -52,28 +53,26 @@ module _ (ks : List Country) where
       ap (take (length (switch_keys_from 0 ks))) e ∙ take_at (target_words ks) (drop (length (target_words ks)) before) (length (switch_keys_from 0 ks)) targets-count
 
   -- What the functions that make them ask.
-  module _ (runs targets : List ℕ) (few : FewSwitches ks runs targets) where
-    pub runs-asked : Keyed ks → ((length ks ≤ key_rows) × (length (runs_from 0 0 ks) ≤ key_numbers)) × (length (runs_from 0 0 ks) ≤ length runs)
-    runs-asked q =
-        let n = runs-count in
-        let a = few.few in
-        let b = few.runs in
-        ((q.few, omega arith), omega arith)
+  module _ (runs targets : List ℕ) (room : SwitchesRoom ks runs targets) where
+    pub runs-inside : length (runs_from 0 0 ks) ≤ length runs
+    runs-inside = omega (arith, runs-count, room.runs)
 
-    pub targets-asked : (n : ℕ) → n ≡ length targets → length (target_words ks) ≤ n
-    targets-asked n e = let m = targets-count in let a = few.targets in omega arith
+    pub targets-inside : (n : ℕ) → n ≡ length targets → length (target_words ks) ≤ n
+    targets-inside n e = omega (arith, targets-count, room.targets)
 
--- ## Cells that nothing stands in yet
+-- ## Rows with no change yet
 
-pub fresh_set : (f : ℕ → ℕ) (x : ℕ) (cells : List ℕ) → f x ≡ no_change → Fresh (map f (map (λ _. x) cells))
+abbrev pub nothing : Turn
+nothing = record { loss = no_change; gain = no_change }
+
+fresh_set : (f : Turn → ℕ) (x : Turn) (cells : List Turn) → f x ≡ no_change → Fresh (map f (map (λ _. x) cells))
 fresh_set f x cells e = record { none = go cells }
   where
-    go : (l : List ℕ) (r : ℕ) → r < length (map f (map (λ _. x) l)) → get_or (map f (map (λ _. x) l)) r 0 ≡ no_change
+    go : (l : List Turn) (r : ℕ) → r < length (map f (map (λ _. x) l)) → get_or (map f (map (λ _. x) l)) r 0 ≡ no_change
     go [] r h = absurd (omega arith)
     go (y ∷ l) zero h = e
     go (y ∷ l) (suc r) h = go l r (omega arith)
 
 -- So it is with the firsts of all rows.
-pub fresh-firsts : (before after : List ℕ) → after ≡ map (λ _. no_firsts) before → Fresh (high_halves after) × Fresh (low_halves after)
-fresh-firsts before after e =
-    rw e (fresh_set (λ x. x / half) no_firsts before refl, fresh_set (λ x. x % half) no_firsts before refl)
+pub fresh-firsts : (before after : List Turn) → after ≡ map (λ _. nothing) before → Fresh (losses after) × Fresh (gains after)
+fresh-firsts before after e = rw e (fresh_set (λ x. x.loss) nothing before refl, fresh_set (λ x. x.gain) nothing before refl)

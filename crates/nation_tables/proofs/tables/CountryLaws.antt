@@ -1,8 +1,9 @@
 -- The tables of the countries, country by country.
 use mathlib.Core.Path.{◌≡◌, refl, sym, ap, ◌∙◌}
 use mathlib.Core.List.{List, [], ◌∷◌, ◌++◌}
-use Prim.Native.Nat.{ℕ, suc, ◌+◌, ◌-◌, ◌≤◌, ◌<◌}
+use Prim.Native.Nat.{ℕ, suc, ◌+◌, ◌≤◌, ◌<◌}
 use native.Mathlib.Numerals.{add-one}
+use native.Mathlib.Nat.{sub-zero}
 use native.Mathlib.Omega.{arith}
 use lib.Dec.{leb}
 use lib.ListN.{length, get_or, take, drop, drop_of_length-le, length-append, length-map}
@@ -40,10 +41,14 @@ pub filled-inside : (cells before after : List ℕ) (n : ℕ) → Filled cells n
 filled-inside cells before after n f = omega (arith, f.counted, ap length f.filled ∙ length-append cells (drop (length cells) before))
 
 -- After the sort they stand there in order.
-pub sorted-filled : (cells before now sorted : List ℕ) (n : ℕ) → Filled cells n before now → sorted ≡ sort_by leb (take (n - 0) now)
-    → Filled (sort_by leb cells) n before (sorted ++ drop (n - 0) now)
+pub front-sorted : (cells before now sorted : List ℕ) (n : ℕ) → now ≡ written cells before → n ≡ length cells → sorted ≡ sort_by leb (take n now)
+    → sorted ++ drop n now ≡ written (sort_by leb cells) before
+front-sorted cells before now sorted n e l s = rw (sub-zero n) at (sorted_front cells before now sorted n e l (rw (sub-zero n) s))
+
+pub sorted-filled : (cells before now sorted : List ℕ) (n : ℕ) → Filled cells n before now → sorted ≡ sort_by leb (take n now)
+    → Filled (sort_by leb cells) n before (sorted ++ drop n now)
 sorted-filled cells before now sorted n f s =
-    record { counted = f.counted ∙ sym (length-sort leb cells); filled = sorted_front cells before now sorted n f.filled f.counted s }
+    record { counted = f.counted ∙ sym (length-sort leb cells); filled = front-sorted cells before now sorted n f.filled f.counted s }
 
 -- ## The tables that the functions leave, one after the other
 

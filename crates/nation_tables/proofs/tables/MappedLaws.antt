@@ -20,9 +20,9 @@ use Rattle.format.specs.Tags.{same_tag}
 use Rattle.format.specs.Campaign.{Country}
 use Rattle.rules.specs.Nations.{initial_of, maps_to}
 use Rattle.nation_tables.specs.Layout.{key_rows}
-use Rattle.nation_tables.specs.Lookup.{no_row, row_in, in_range, rows_between, last_within}
-use Rattle.nation_tables.proofs.tables.LookupLaws.{begins-with}
-use Rattle.nation_tables.specs.Countries.{tag_at_row, words_of_tags, initial_words, places_of, row_of, mapped_row, word_keys, row_keys, RowMapped}
+use Rattle.nation_tables.specs.Lookup.{no_row, row_in, in_range, rows_between}
+use Rattle.nation_tables.proofs.tables.LookupLaws.{last-number, begins-with}
+use Rattle.nation_tables.specs.Countries.{tag_at_row, words_of_tags, initial_words, places_of, row_of, mapped_row, word_keys, row_keys, initial_number}
 
 -- ## The keys between those of one word
 
@@ -161,15 +161,20 @@ module _ (ks : List Country) (few : length ks ≤ key_rows) (once : twice (words
 
 -- ## What the keys find
 
-module _ (keys : List ℕ) (t : CountryTag) (word row : ℕ) (same : word ≡ t.0) where
-  pub row-mapped : row ≡ last_within (word * key_rows) (word * key_rows + key_rows) keys → RowMapped keys t row
-  unfolding last_within
-  row-mapped e =
-      let mapped : (ks : List Country) → length ks ≤ key_rows → keys ≡ row_keys (initial_words ks) → row ≡ mapped_row ks t =
-      λ ks few q.
-      e ∙ rw (same, q) (ap (last_or no_row) (places-within t.0 (initial_words ks) (omega (arith, length-map ks (λ k. (initial_of k).0))))) in
-      record {
-        key = e ∙ rw same;
-        holder = λ ks few q. mapped-row ks few t ∙ ap (tag_at_row ks) (sym (mapped ks few q));
-        inside = λ ks few q h. rw (mapped ks few q) (mapped-inside ks few t (λ g. h (mapped ks few q ∙ g)));
-      }
+-- The row of the country that an initial maps to, by keys, as it stands in a cell: of any countries whose initials the keys are.
+pub record InitialMapped (keys : List ℕ) (t : CountryTag) : Type 0 where
+  pub holder : (ks : List Country) → length ks ≤ key_rows → keys ≡ row_keys (initial_words ks) → maps_to ks t ≡ tag_at_row ks (initial_number keys t)
+  pub inside : (ks : List Country) → length ks ≤ key_rows → keys ≡ row_keys (initial_words ks)
+      → (initial_number keys t ≡ no_row → ⊥) → initial_number keys t < length ks
+
+pub initial-mapped : (keys : List ℕ) (t : CountryTag) → InitialMapped keys t
+initial-mapped keys t =
+    record {
+      holder = λ ks few q. mapped-row ks few t ∙ ap (tag_at_row ks) (sym (mapped ks few q));
+      inside = λ ks few q h. rw (mapped ks few q) (mapped-inside ks few t (λ g. h (mapped ks few q ∙ g)));
+    }
+  where
+    mapped : (ks : List Country) → length ks ≤ key_rows → keys ≡ row_keys (initial_words ks) → initial_number keys t ≡ mapped_row ks t
+    mapped ks few q =
+        last-number (t.0 * key_rows) (t.0 * key_rows + key_rows) keys
+        ∙ rw q (ap (last_or no_row) (places-within t.0 (initial_words ks) (omega (arith, length-map ks (λ k. (initial_of k).0)))))

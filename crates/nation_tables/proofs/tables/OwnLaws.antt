@@ -25,15 +25,14 @@ use Rattle.format.specs.Dates.{not_after}
 use Rattle.format.specs.Campaign.{Country}
 use Rattle.rules.specs.Chronicle.{Change}
 use Rattle.rules.specs.Nations.{CountrySwitch, own_switches, all_switches, settles}
-use Rattle.nation_tables.specs.Layout.{key_dates, key_tags, last_date}
-use Rattle.nation_tables.specs.Keys.{settling_key}
-use Rattle.nation_tables.specs.Lookup.{no_row, first_within}
+use Rattle.nation_tables.specs.Layout.{key_dates, key_tags, last_date, row_number}
+use Rattle.nation_tables.specs.Lookup.{no_row}
 use Rattle.nation_tables.specs.Countries.{tag_at_row, words_of_tags, places_of, row_of, small_switch, own_switch, with_own, settling_keys, Keyed, OwnLast}
-use Rattle.nation_tables.specs.Settling.{or_tag, settled_row, Settled, RowHolds}
+use Rattle.nation_tables.specs.Settling.{or_tag, settling_row, settled_row, Settled}
 use Rattle.nation_tables.specs.Switches.{PlacedSwitch, placed, own_placed, all_placed}
 use Rattle.nation_tables.proofs.tables.MappedLaws.{row-single}
 use Rattle.nation_tables.proofs.tables.PlacedLaws.{own-append}
-use Rattle.nation_tables.proofs.tables.SettlingLaws.{switch_asked, none-asked, row_settled}
+use Rattle.nation_tables.proofs.tables.SettlingLaws.{switch_asked, none-asked, settled-row}
 
 -- ## The countries with it
 
@@ -189,40 +188,56 @@ module _ (to : CountryTag) (date : Eu4Date) (few : date.0 < key_dates) where
 
 -- ## What the keys find
 
-pub row-holds : (keys : List ℕ) (to : CountryTag) (date : Eu4Date) (low high row : ℕ) → low ≡ settling_key to.0 date.0 0 → high ≡ settling_key (to.0 + 1) 0 0
-    → row ≡ first_within low high keys → RowHolds keys to date row
-row-holds keys to date low high row l h e =
-    record {
-      holds = λ ks x keyed own once q t d few.
-          let k = cases (eqb row no_row) (λ g. none-there ks x keyed own once q t d few (eqb-true row no_row g)) (λ g. one-there ks x keyed own once q t d few (eqb-false row no_row g)) in k;
-      holder = holder;
-    }
-  where
-    told : (ks : List Country) (x : Change) → Keyed ks → OwnLast ks → keys ≡ settling_keys ks → x.to ≡ to → x.date ≡ date → date.0 < key_dates
-        → Settled (map with_own ks) x row
-    told ks x keyed own q t d few = (row_settled keys to date low high row l h e).settled (map with_own ks) x (keyed-own ks keyed own) q t d few
+-- The row of the country that holds the slot after a change, by the keys that changes settle by; the holder is the country in that row, or
+-- where there is none the change's `to`.
+pub record RowHolds (keys : List ℕ) (to : CountryTag) (date : Eu4Date) : Type 0 where
+  pub holds : (ks : List Country) (x : Change) → Keyed ks → OwnLast ks → twice (words_of_tags ks) ≡ false → keys ≡ settling_keys ks
+      → x.to ≡ to → x.date ≡ date → date.0 < key_dates → row_number (settling_row keys to date) ≡ row_of ks (settles (all_switches ks) x)
+  pub holder : (ks : List Country) (x : Change) → Keyed ks → OwnLast ks → twice (words_of_tags ks) ≡ false → keys ≡ settling_keys ks
+      → x.to ≡ to → x.date ≡ date → date.0 < key_dates → settles (all_switches ks) x ≡ or_tag x.to (tag_at_row ks (row_number (settling_row keys to date)))
 
-    holder : (ks : List Country) (x : Change) → Keyed ks → OwnLast ks → twice (words_of_tags ks) ≡ false → keys ≡ settling_keys ks
-        → x.to ≡ to → x.date ≡ date → date.0 < key_dates → settles (all_switches ks) x ≡ or_tag x.to (tag_at_row ks row)
-    holder ks x keyed own once q t d few =
-        sym (settles-own ks own x) ∙ (told ks x keyed own q t d few).holder ∙ ap (or_tag x.to) (own-tags ks row)
+module _ (keys : List ℕ) (to : CountryTag) (date : Eu4Date) where
+  abbrev row : ℕ
+  row = row_number (settling_row keys to date)
 
-    -- the country of a switch, or the own one
-    one-there : (ks : List Country) (x : Change) → Keyed ks → OwnLast ks → twice (words_of_tags ks) ≡ false → keys ≡ settling_keys ks
-        → x.to ≡ to → x.date ≡ date → date.0 < key_dates → (row ≡ no_row → ⊥) → row ≡ row_of ks (settles (all_switches ks) x)
-    one-there ks x keyed own once q t d few there =
-        let inside = (told ks x keyed own q t d few).inside there in
-        let k = at-inside ks row (omega (arith, length-map ks with_own)) in
-        let whom : settles (all_switches ks) x ≡ k.0.tag =
-        holder ks x keyed own once q t d few ∙ ap (λ (o : Option Country). or_tag x.to (Option.map (λ y. y.tag) o)) k.1 in
-        sym (ap (row_of ks) whom ∙ row-single ks keyed.few once row k.0 k.1)
+  told : (ks : List Country) (x : Change) → Keyed ks → OwnLast ks → keys ≡ settling_keys ks → x.to ≡ to → x.date ≡ date → date.0 < key_dates
+      → Settled (map with_own ks) x row
+  told ks x keyed own q t d few =
+      let early : x.date.0 < key_dates = rw d few in
+      let same : row ≡ settled_row (map with_own ks) x.to x.date = rw (q, t, d) refl in
+      rw same (settled-row (map with_own ks) (keyed-own ks keyed own) x early)
 
-    none-there : (ks : List Country) (x : Change) → Keyed ks → OwnLast ks → twice (words_of_tags ks) ≡ false → keys ≡ settling_keys ks
-        → x.to ≡ to → x.date ≡ date → date.0 < key_dates → row ≡ no_row → row ≡ row_of ks (settles (all_switches ks) x)
-    none-there ks x keyed own once q t d few gone =
-        let found : row ≡ settled_row (map with_own ks) to date.0 = e ∙ rw (l, h, q) in
-        let places = none-own to date few 0 0 ks (none-asked to date few (map with_own ks) (keyed-own ks keyed own) (sym found ∙ gone)) in
-        let nobody : get_elem? ks row ≡ none = at-end ks row (let l = keyed.few in omega arith) in
-        let whom : settles (all_switches ks) x ≡ to =
-        holder ks x keyed own once q t d few ∙ ap (λ (o : Option Country). or_tag x.to (Option.map (λ y. y.tag) o)) nobody ∙ t in
-        gone ∙ sym (ap (row_of ks) whom ∙ ap (first_or no_row) places)
+  holder : (ks : List Country) (x : Change) → Keyed ks → OwnLast ks → twice (words_of_tags ks) ≡ false → keys ≡ settling_keys ks
+      → x.to ≡ to → x.date ≡ date → date.0 < key_dates → settles (all_switches ks) x ≡ or_tag x.to (tag_at_row ks row)
+  holder ks x keyed own once q t d few =
+      sym (settles-own ks own x) ∙ (told ks x keyed own q t d few).holder ∙ ap (or_tag x.to) (own-tags ks row)
+
+  -- the country of a switch, or the own one
+  one-there : (ks : List Country) (x : Change) → Keyed ks → OwnLast ks → twice (words_of_tags ks) ≡ false → keys ≡ settling_keys ks
+      → x.to ≡ to → x.date ≡ date → date.0 < key_dates → (row ≡ no_row → ⊥) → row ≡ row_of ks (settles (all_switches ks) x)
+  one-there ks x keyed own once q t d few there =
+      let inside = (told ks x keyed own q t d few).inside there in
+      let k = at-inside ks row (omega (arith, length-map ks with_own)) in
+      let whom : settles (all_switches ks) x ≡ k.0.tag =
+      holder ks x keyed own once q t d few ∙ ap (λ (o : Option Country). or_tag x.to (Option.map (λ y. y.tag) o)) k.1 in
+      sym (ap (row_of ks) whom ∙ row-single ks keyed.few once row k.0 k.1)
+
+  none-there : (ks : List Country) (x : Change) → Keyed ks → OwnLast ks → twice (words_of_tags ks) ≡ false → keys ≡ settling_keys ks
+      → x.to ≡ to → x.date ≡ date → date.0 < key_dates → row ≡ no_row → row ≡ row_of ks (settles (all_switches ks) x)
+  none-there ks x keyed own once q t d few gone =
+      let found : settled_row (map with_own ks) to date ≡ row = rw q refl in
+      let places = none-own to date few 0 0 ks (none-asked to date few (map with_own ks) (keyed-own ks keyed own) (found ∙ gone)) in
+      let nobody : get_elem? ks row ≡ none = at-end ks row (let l = keyed.few in omega arith) in
+      let whom : settles (all_switches ks) x ≡ to =
+      holder ks x keyed own once q t d few ∙ ap (λ (o : Option Country). or_tag x.to (Option.map (λ y. y.tag) o)) nobody ∙ t in
+      gone ∙ sym (ap (row_of ks) whom ∙ ap (first_or no_row) places)
+
+  pub row-holds : RowHolds keys to date
+  row-holds =
+      record {
+        holds = λ ks x keyed own once q t d few.
+            cases (eqb row no_row)
+            (λ g. none-there ks x keyed own once q t d few (eqb-true row no_row g))
+            (λ g. one-there ks x keyed own once q t d few (eqb-false row no_row g));
+        holder = holder;
+      }

@@ -15,7 +15,7 @@ use Rattle.lists.proofs.FillLaws.{Filling, filling-new, filling-more, filling-co
 use Rattle.format.specs.declared.rows.Switch.{Switch}
 use Rattle.format.specs.Campaign.{Country}
 use Rattle.format.specs.Dates.{not_after}
-use Rattle.nation_tables.specs.Layout.{key_rows, key_dates, key_numbers, key_tags}
+use Rattle.nation_tables.specs.Layout.{most_countries, most_switches, key_rows, key_dates, key_numbers, key_tags}
 use Rattle.nation_tables.specs.Countries.{switch_key, switch_keys_from, small_switch, Keyed, Filled, FilledFrom}
 use Rattle.nation_tables.specs.Switches.{PlacedSwitch, placed, own_placed, all_placed, runs_from, from_key, place_key, FromFits, NumberFits}
 use Rattle.lists.proofs.EachLaws.{all-each, all-parts, all_of-all, order-append}
@@ -214,11 +214,12 @@ row-keys row k ks = refl
 pub row-length : (row k : ℕ) (ks : List Country) → length (runs_from row k ks) ≡ length (all_placed row k ks)
 row-length row k ks = ap length (row-keys row k ks) ∙ length-map (all_placed row k ks) place_key
 
-pub row-asked : (ks : List Country) (n : ℕ) → length ks ≤ key_rows → length (runs_from 0 0 ks) ≤ key_numbers → length (runs_from 0 0 ks) ≤ n
+pub row-asked : (ks : List Country) (n : ℕ) → length ks ≤ most_countries → length (switch_keys_from 0 ks) ≤ most_switches → length (runs_from 0 0 ks) ≤ n
     → ((length ks ≤ key_rows) × (length (all_placed 0 0 ks) ≤ n)) × All NumberFits (all_placed 0 0 ks)
 row-asked ks n r f h =
-    let size = row-length 0 0 ks in (
-      (r, omega (arith, size)),
-      placed-all NumberFits (λ x. Unit {0}) (length ks) key_numbers (λ row i x a b s. b) 0 0 ks (omega arith) (omega (arith, size))
+    let size = row-length 0 0 ks in
+    let all = from-length 0 0 ks in (
+      (omega arith, omega (arith, size)),
+      placed-all NumberFits (λ x. Unit {0}) (length ks) key_numbers (λ row i x a b s. b) 0 0 ks (omega arith) (omega (arith, size, all))
           (all-each (λ k. all-each (λ x. tt) k.switches) ks),
     )

@@ -27,9 +27,10 @@ use Rattle.rules.specs.Chronicle.{Change}
 use Rattle.rules.specs.Nations.{CountrySwitch, own_switches, all_switches, settles}
 use Rattle.nation_tables.specs.Layout.{key_rows, key_dates}
 use Rattle.nation_tables.specs.Keys.{row_in, settling_key}
-use Rattle.nation_tables.specs.Lookup.{no_row, in_range, first_within}
+use Rattle.nation_tables.specs.Lookup.{no_row, in_range}
+use Rattle.nation_tables.proofs.tables.LookupLaws.{first-number}
 use Rattle.nation_tables.specs.Countries.{tag_at_row, switch_keys_from, switch_keys, small_switch, Keyed}
-use Rattle.nation_tables.specs.Settling.{or_tag, settled_row, Settled, RowSettled}
+use Rattle.nation_tables.specs.Settling.{or_tag, settled_row, Settled}
 use Rattle.nation_tables.specs.Switches.{PlacedSwitch, own_placed, all_placed, from_key}
 use Rattle.sorting.proofs.AgreeLaws.{agrees-in-order}
 use Rattle.nation_tables.proofs.tables.PlacedLaws.{placed_by_date, small-date, switches-small, placed-all, rows-rise, from-keys}
@@ -132,10 +133,10 @@ module _ (to : CountryTag) (date : Eu4Date) (early : date.0 < key_dates) where
     sorted-fit : All (Fit key_rows) first-ones
     sorted-fit = all-sort placed_by_date (Fit key_rows) fitting (all_keep (Fit key_rows) switch_asked rows fit)
 
-    settled-first : settled_row ks to date.0 ≡ first_or no_row (map (λ r. r.row) first-ones)
-    unfolding first_within
+    settled-first : settled_row ks to date ≡ first_or no_row (map (λ r. r.row) first-ones)
     settled-first =
-        ap (λ (l : List ℕ). first_or no_row (map row_in l)) sorted-keys
+        first-number low high (switch_keys ks)
+        ∙ ap (λ (l : List ℕ). first_or no_row (map row_in l)) sorted-keys
         ∙ ap (first_or no_row)
         (map-then from_key row_in first-ones ∙ map_same (λ r. row_in (from_key r)) (λ r. r.row) first-ones (all_map (λ r h. omega arith) first-ones sorted-fit))
 
@@ -144,7 +145,7 @@ module _ (to : CountryTag) (date : Eu4Date) (early : date.0 < key_dates) where
     no-row [] q h = refl
     no-row (r ∷ l) q h = let few = q.0.1 in absurd (omega arith)
 
-    pub none-asked : settled_row ks to date.0 ≡ no_row → keep switch_asked (all_placed 0 0 ks) ≡ []
+    pub none-asked : settled_row ks to date ≡ no_row → keep switch_asked (all_placed 0 0 ks) ≡ []
     none-asked h =
         let none = no-row first-ones sorted-fit (sym settled-first ∙ h) in
         nothing fitting (sym (length-sort placed_by_date fitting) ∙ ap length none)
@@ -165,7 +166,7 @@ module _ (to : CountryTag) (date : Eu4Date) (early : date.0 < key_dates) where
         ∙ ap (map (with_country ks to)) (keep-sort placed_by_date (λ a b. leb-total a.made.date.0 b.made.date.0) (λ a b c. leb-trans a.made.date.0 b.made.date.0 c.made.date.0) switch_asked rows)
 
     first-country : first_or to (map (λ x. x.country) (keep (λ x. same_tag x.from to && not_after date x.date) (all_switches ks)))
-        ≡ or_tag to (tag_at_row ks (settled_row ks to date.0))
+        ≡ or_tag to (tag_at_row ks (settled_row ks to date))
     first-country =
         let tag : ℕ → CountryTag = λ n. or_tag to (tag_at_row ks n) in
         let nobody : tag no_row ≡ to =
@@ -176,7 +177,7 @@ module _ (to : CountryTag) (date : Eu4Date) (early : date.0 < key_dates) where
         ∙ sym (first-map tag no_row (map (λ r. r.row) first-ones))
         ∙ ap tag (sym settled-first)
 
-    settled-inside : (settled_row ks to date.0 ≡ no_row → ⊥) → settled_row ks to date.0 < length ks
+    settled-inside : (settled_row ks to date ≡ no_row → ⊥) → settled_row ks to date < length ks
     settled-inside h =
         let inside : All (λ n. n < length ks) (map (λ r. r.row) first-ones) =
         all_of_map {P = Fit (length ks)} (λ n. n < length ks) (λ r. r.row) (λ r f. f.1) first-ones
@@ -186,19 +187,7 @@ module _ (to : CountryTag) (date : Eu4Date) (early : date.0 < key_dates) where
 -- ## A change
 
 module _ (ks : List Country) (keyed : Keyed ks) (x : Change) (early : x.date.0 < key_dates) where
-  pub settled-row : Settled ks x (settled_row ks x.to x.date.0)
+  pub settled-row : Settled ks x (settled_row ks x.to x.date)
   unfolding settles
   settled-row =
       record { holder = first-country x.to x.date early ks keyed; inside = settled-inside x.to x.date early ks keyed }
-
--- ## What the keys find
-
-pub row_settled : (keys : List ℕ) (to : CountryTag) (date : Eu4Date) (low high row : ℕ) → low ≡ settling_key to.0 date.0 0 → high ≡ settling_key (to.0 + 1) 0 0
-    → row ≡ first_within low high keys → RowSettled keys to date row
-row_settled keys to date low high row l h e =
-    record {
-      settled = λ ks x keyed q t d early.
-          let early' : x.date.0 < key_dates = rw d early in
-          let same : row ≡ settled_row ks x.to x.date.0 = e ∙ rw (l, h, q, t, d) in
-          rw same (settled-row ks keyed x early');
-    }

@@ -5,12 +5,11 @@ use Rattle.std.specs.Prelude.{Ok, Err}
 use mathlib.Core.Path.{◌≡◌, refl, sym, ap, ap₂, subst, ◌∙◌}
 use mathlib.Core.Bool.{Bool, true, false, not, ◌&&◌}
 use mathlib.Core.List.{List, map}
-use Prim.Native.Nat.{ℕ, suc, ◌*◌, ◌≤◌, ◌<◌}
+use Prim.Native.Nat.{ℕ, suc, ◌*◌, ◌≤◌}
 use native.Mathlib.Omega.{arith}
 use borrow.Author.Tests.{leb-true, not-true, not-false}
 use lib.Dec.{leb}
-use lib.ListN.{length, take, length-map}
-use lib.Seq.{length-take-le}
+use lib.ListN.{length, take, length-map, length-take}
 use Rattle.lists.specs.Lists.{count_of}
 use Rattle.lists.proofs.BoolLaws.{and_left, and_right, and-false}
 use Rattle.record.specs.declared.provinces.Provinces.{Provinces}
@@ -27,7 +26,7 @@ use Rattle.rules.proofs.CampaignLaws.{length-slots}
 use Rattle.rules.specs.NationRows.{nation_words, entry_words, holder_word, nation_width, entry_width}
 use Rattle.rules.specs.Outcomes.{answers_of, NationCells, cells_of, all_fit, all_written, Counts, counts_of, call_nation_events}
 use Rattle.nation_tables.specs.declared.gathering.TableSizes.{TableSizes}
-use Rattle.nation_tables.specs.Layout.{word_span}
+use Rattle.nation_tables.specs.declared.layout.Turn.{Turn}
 use Rattle.nation_tables.specs.Holders.{slot_cells, SlotsRoom}
 use Rattle.nation_tables.specs.Gathering.{Cells, CampaignCells, fronts_of, TableRoom, Gathered}
 use Rattle.nation_tables.proofs.tables.KeyedLaws.{countries-few, provinces-few}
@@ -35,14 +34,13 @@ use Rattle.nation_tables.proofs.tables.OwnKeyLaws.{settling-count}
 use Rattle.nation_tables.proofs.tables.SwitchLaws.{run-entries, targets-small}
 use Rattle.nation_tables.proofs.slots.HoldersLaws.{holder-words, held-counted}
 use Rattle.nation_tables.proofs.slots.RoomLaws.{settling-fit, switches-fit, changes-fit}
-use Rattle.change_keys.proofs.ChangeLaws.{changes-few}
-use Rattle.nation_listing.specs.declared.listing.Listed.{Listed}
+use Rattle.nation_listing.specs.declared.placing.Listed.{Listed}
 use Rattle.chronicle_rows.specs.declared.counts.NationCounts.{NationCounts}
 use Rattle.chronicle_rows.specs.Cases.{counts_in}
 use Rattle.nations.specs.Cases.{nation_cells}
-use Rattle.nation_listing.specs.Listing.{nations_at, listed_of}
+use Rattle.nation_listing.specs.Listing.{nations_at}
 use Rattle.nations.specs.NationSteps.{rest_for, counts_from, RestReady, RestWritten, FrontsInside, fronts_readable, fronts_placed, NationsPlaced, RefusedBy}
-use Rattle.nation_listing.specs.Placing.{nations_for, PlacedRows, NonePlaced, placed_told}
+use Rattle.nation_listing.specs.Placing.{listed_of, nations_for, PlacedRows, NonePlaced, placed_told}
 use Rattle.nations.proofs.answer.NationsLaws.{cells-nations, cells-readable, runs-told}
 use Rattle.nation_listing.proofs.ReadingLaws.{readable-found}
 use Rattle.nation_listing.proofs.PlacingLaws.{short-of-room}
@@ -147,9 +145,9 @@ module _ (xs : List ℕ) (accepted : refusal xs ≡ 0) (z : TableSizes) (countri
 
 -- ## All gathered
 
-module _ (xs : List ℕ) (z : TableSizes) (provinces : Provinces) (words initials runs keys targets slots started turns firsts : List ℕ)
+module _ (xs : List ℕ) (z : TableSizes) (provinces : Provinces) (words initials runs keys targets slots started : List ℕ) (turns firsts : List Turn)
     (q : Gathered xs z provinces words initials runs keys targets slots started turns firsts)
-    (room : TableRoom (length xs) words initials runs keys targets slots started turns firsts) where
+    {m n : ℕ} (room : TableRoom (length xs) m n) where
   abbrev accepted : refusal xs ≡ 0
   accepted = q.ready.accepted
 
@@ -163,11 +161,7 @@ module _ (xs : List ℕ) (z : TableSizes) (provinces : Provinces) (words initial
   told : nations ≡ nations_of (campaign_of xs)
   told = cells_told (campaign_of xs) front q.cells
 
-  -- Few of each.
-  pub changes-small : z.changes < word_span
-  changes-small = omega (arith, changes-few xs accepted, q.changes)
-
-  pub fronts-inside : FrontsInside z words initials runs targets started keys turns
+  pub fronts-inside : FrontsInside z m n
   fronts-inside =
       let a = countries-few xs accepted in
       let b = q.countries in
@@ -175,13 +169,10 @@ module _ (xs : List ℕ) (z : TableSizes) (provinces : Provinces) (words initial
       let e = q.switches in
       let s = settling-count 0 (campaign_of xs).countries in
       record {
-        words = omega (arith, room.words);
-        initials = omega (arith, room.initials);
-        runs = omega (arith, settling-fit xs accepted (length runs) room.switches);
-        targets = omega (arith, switches-fit xs accepted (length targets) room.cells);
-        started = omega (arith, room.started);
-        keys = omega (arith, changes-fit xs accepted (length keys) room.keys);
-        turns = omega (arith, changes-fit xs accepted (length turns) room.turns);
+        countries = omega arith;
+        runs = omega (arith, settling-fit xs accepted m room.keys);
+        targets = omega (arith, switches-fit xs accepted n room.changes);
+        changes = omega (arith, changes-fit xs accepted n room.changes);
       }
 
   -- So they can be read.
@@ -194,14 +185,12 @@ module _ (xs : List ℕ) (z : TableSizes) (provinces : Provinces) (words initial
       z.start (cells-readable (campaign_of xs) front q.cells)
 
   -- What is left for the rest.
-  rest-ready : RestReady xs provinces z slots keys targets
+  rest-ready : RestReady xs provinces z slots keys n
   rest-ready =
-      let f = fronts-inside in
       record {
         ready = q.ready;
-        slots = omega (arith, q.slotted, provinces-few xs accepted, room.slots);
-        keys = f.keys;
-        cells = omega (arith, q.changes, changes-fit xs accepted (length targets) room.cells);
+        slots = omega (arith, q.slotted, provinces-few xs accepted);
+        changes = fronts-inside.changes;
         sorted = q.sorted;
       }
 
@@ -229,7 +218,7 @@ module _ (xs : List ℕ) (z : TableSizes) (provinces : Provinces) (words initial
 
       -- All has room.
       placed-told : not b ≡ false → (r : Listed) → PlacedRows nations r rows₀ rows₁ entries₀ entries₁
-          → NationsPlaced xs holders held changes z provinces r slots keys targets rows₀ rows₁ entries₀ entries₁
+          → NationsPlaced xs holders held changes z provinces r slots keys n rows₀ rows₁ entries₀ entries₁
       placed-told t r p =
           record {
             countries = q.countries;
@@ -247,7 +236,7 @@ module _ (xs : List ℕ) (z : TableSizes) (provinces : Provinces) (words initial
         none-placed {e} w = placed-refused e (subst (λ (x : code.Result Listed Refusal). placed_told readable nations x rows₀ rows₁ entries₀ entries₁) w p)
 
         pub rows-placed : not b ≡ false → {l : Listed} → r ≡ Ok l
-            → NationsPlaced xs holders held changes z provinces l slots keys targets rows₀ rows₁ entries₀ entries₁
+            → NationsPlaced xs holders held changes z provinces l slots keys n rows₀ rows₁ entries₀ entries₁
         rows-placed f {l} w = placed-told f l (subst (λ (x : code.Result Listed Refusal). placed_told readable nations x rows₀ rows₁ entries₀ entries₁) w p).1
 
 -- A record that is refused.
@@ -263,17 +252,17 @@ record-refused xs holders held changes e rows₀ entries₀ h =
 -- ## The nations are written
 
 module _ (xs : List ℕ) (rows₀ entries₀ holders₀ held₀ changes₀ : List ℕ) (z : TableSizes) (provinces : Provinces) (r : Listed)
-    (slots keys cells rows₁ entries₁ : List ℕ)
-    (q : NationsPlaced xs (length holders₀) (length held₀) (length changes₀) z provinces r slots keys cells rows₀ rows₁ entries₀ entries₁) where
+    (slots keys : List ℕ) (n : ℕ) (rows₁ entries₁ : List ℕ)
+    (q : NationsPlaced xs (length holders₀) (length held₀) (length changes₀) z provinces r slots keys n rows₀ rows₁ entries₀ entries₁) where
   -- What the writing of the rest asks.
-  pub rest-asked : RestReady xs provinces z slots keys cells
+  pub rest-asked : RestReady xs provinces z slots keys n
       × (SlotsRoom (take z.slots slots) z.countries holders₀ held₀ × (change_width * z.changes ≤ length changes₀))
   rest-asked =
       let h : Bool = leb z.slots (length holders₀) in
       let d : Bool = leb z.countries (length held₀) in
       let f : Bool = leb (change_width * z.changes) (length changes₀) in
       let two = and_left (h && d) f q.rest in
-      let l = length-take-le z.slots slots q.ready.slots in (
+      let l = length-take z.slots slots in (
         q.ready,
         (
           record {

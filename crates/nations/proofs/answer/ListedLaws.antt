@@ -19,11 +19,13 @@ use Rattle.sorting.specs.Sort.{sort_by}
 use Rattle.sorting.proofs.SortLaws.{Agrees, all-sort, keep-sort, map-sort, leb-total, leb-trans}
 use Rattle.format.specs.Campaign.{Campaign, Country}
 use Rattle.rules.specs.Nations.{initial_of, matches, is_mapped, nation_of, held_ever, listed_countries, nations_of}
-use Rattle.nation_tables.specs.Layout.{key_rows}
+use Rattle.nation_tables.specs.Layout.{key_rows, row_number}
 use Rattle.nation_tables.specs.Lookup.{no_row, row_in, last_within}
 use Rattle.nation_tables.specs.Countries.{tag_at_row, words_of_tags, initial_words, places_of, mapped_row, word_keys, row_keys}
 use Rattle.nation_tables.proofs.tables.MappedLaws.{places-within, mapped-row, row-single, row_same}
+use Rattle.nation_tables.proofs.tables.LookupLaws.{last-number}
 use Rattle.nation_tables.proofs.slots.TurningLaws.{eqb-sym}
+use Rattle.nation_listing.specs.Listing.{is_row}
 
 -- ## The country of a key
 
@@ -143,6 +145,11 @@ module _ (ks : List Country) (few : length ks ≤ key_rows) where
 
 -- ## Mapped countries
 
+-- A row is found if the number of what is found is its own.
+is-row : (o : Option ℕ) (row : ℕ) → row < key_rows → is_row o row ≡ eqb (row_number o) row
+is-row none row h = sym (ne_eqb no_row row (λ e. omega arith))
+is-row (some found) row h = refl
+
 module _ (ks : List Country) (few : length ks ≤ key_rows) (once : twice (words_of_tags ks) ≡ false) where
   -- A row is a country's row if the row's tag is the country's.
   pub place_is : (i : ℕ) (k : Country) → get_elem? ks i ≡ some k → (m : ℕ) → eqb m i ≡ matches k.tag (tag_at_row ks m)
@@ -155,14 +162,16 @@ module _ (ks : List Country) (few : length ks ≤ key_rows) (once : twice (words
 
   -- The key is that of its initial's last row if its country is mapped.
   pub mapped-key : (key : ℕ) → InitialKey ks key
-      → eqb (last_within (key / key_rows * key_rows) (key / key_rows * key_rows + key_rows) (row_keys (initial_words ks))) (row_in key) ≡ is_mapped ks (country_in ks key)
-  unfolding last_within
+      → is_row (last_within (key / key_rows * key_rows) (key / key_rows * key_rows + key_rows) (row_keys (initial_words ks))) (row_in key) ≡ is_mapped ks (country_in ks key)
   mapped-key key q =
       let k : Country = country_in ks key in
-      let last_row : last_within (key / key_rows * key_rows) (key / key_rows * key_rows + key_rows) (row_keys (initial_words ks)) ≡ mapped_row ks (initial_of k) =
-      ap (last_or no_row) (places-within (key / key_rows) (initial_words ks) (omega (arith, length-map ks (λ x. (initial_of x).0))))
+      let found = last_within (key / key_rows * key_rows) (key / key_rows * key_rows + key_rows) (row_keys (initial_words ks)) in
+      let last_row : row_number found ≡ mapped_row ks (initial_of k) =
+      last-number _ _ _
+      ∙ ap (last_or no_row) (places-within (key / key_rows) (initial_words ks) (omega (arith, length-map ks (λ x. (initial_of x).0))))
       ∙ ap (λ (w : ℕ). last_or no_row (places_of w 0 (initial_words ks))) q.initial in
-      ap (λ (r : ℕ). eqb r (row_in key)) last_row
+      is-row found (row_in key) (omega arith)
+      ∙ ap (λ (r : ℕ). eqb r (row_in key)) last_row
       ∙ place_is (row_in key) k q.there (mapped_row ks (initial_of k))
       ∙ ap (matches k.tag) (sym (mapped-row ks few (initial_of k)))
 

@@ -6,11 +6,11 @@ use mathlib.Core.List.{List, [], ◌∷◌, ◌++◌, map}
 use mathlib.Core.Option.{some}
 use Prim.Native.Nat.{ℕ, ◌*◌, ◌/◌, ◌+◌, ◌≤◌, ◌<◌}
 use native.Mathlib.Omega.{arith}
-use lib.Dec.{leb, ltb, eqb}
+use lib.Dec.{leb, ltb}
 use lib.ListN.{length, get_or, get_elem?, length-map}
 use Rattle.lists.specs.Lists.{All, count_of, join_of, last_or}
 use Rattle.lists.proofs.BoolLaws.{cases}
-use Rattle.lists.proofs.ElementLaws.{at-within, cell_at}
+use Rattle.lists.proofs.ElementLaws.{at-within, all-inside, cell_at}
 use Rattle.lists.proofs.ListLaws.{all_append, all_map, all-images, all-at, join-none, count-le, join-same}
 use Rattle.sorting.specs.Sort.{sort_by}
 use Rattle.sorting.specs.Steps.{into, merge_by}
@@ -23,7 +23,7 @@ use Rattle.format.specs.Campaign.{Campaign, Country}
 use Rattle.format.specs.Sound.{GoodCountry}
 use Rattle.rules.specs.Chronicle.{Entry, Nation}
 use Rattle.rules.specs.Nations.{initial_of, switch_entries, matches, is_mapped, start_holders, Turn, turns_of, turn_entries, turn_count, lives_from, lives_of, entries_of, kind_target, targets, nation_of, held_ever, nations_of}
-use Rattle.nation_tables.specs.Layout.{key_rows, key_tags, row_key_span, half, no_change}
+use Rattle.nation_tables.specs.Layout.{key_rows, key_tags, row_key_span, short_span, no_change}
 use Rattle.nation_tables.specs.Lookup.{row_in, last_within}
 use Rattle.nation_tables.specs.Countries.{words_of_tags, initial_words, word_keys, row_keys}
 use Rattle.nation_tables.specs.Switches.{runs_from, run_keys, target_words, switch_in}
@@ -31,7 +31,8 @@ use Rattle.nation_listing.specs.Entries.{latest_tag}
 use Rattle.nation_tables.specs.Turning.{by_date, first_at, row_tag, row_turns_of, Lived}
 use Rattle.nation_listing.specs.Walks.{lived_left, first_lives}
 use Rattle.nation_tables.specs.Gathering.{Cells, CampaignCells}
-use Rattle.nation_listing.specs.Listing.{run_of, lived_of, row_entries, nation_of_key, key_nations, nations_at, Readable}
+use Rattle.nation_listing.specs.Tables.{KeyInside, Readable}
+use Rattle.nation_listing.specs.Listing.{run_of, lived_of, row_entries, is_row, nation_of_key, key_nations, nations_at}
 use Rattle.rules.proofs.CampaignLaws.{length-start}
 use Rattle.nation_tables.proofs.tables.CountryLaws.{length-word-keys}
 use Rattle.nations.proofs.answer.EntryLaws.{turn-all, entries-merge}
@@ -174,9 +175,9 @@ module _ (c : Campaign) (w : Cells) (q : CampaignCells c w) (run : RunEntries c 
       ap₂ (λ (i l : CountryTag). tag_nation i l (get_or w.tags row 0) (row_entries w row)) initial-here latest-here
       ∙ ap₂ (λ (s : ℕ) (es : List Entry). tag_nation (initial_of k) (nation_of c k).latest s es) stored_here entries-here
 
-  mapped-here : eqb (last_within (key / key_rows * key_rows) (key / key_rows * key_rows + key_rows) w.initials) row ≡ is_mapped c.countries k
+  mapped-here : is_row (last_within (key / key_rows * key_rows) (key / key_rows * key_rows + key_rows) w.initials) row ≡ is_mapped c.countries k
   mapped-here =
-      ap (λ (l : List ℕ). eqb (last_within (key / key_rows * key_rows) (key / key_rows * key_rows + key_rows) l) row) q.initials
+      ap (λ (l : List ℕ). is_row (last_within (key / key_rows * key_rows) (key / key_rows * key_rows + key_rows) l) row) q.initials
       ∙ mapped-key c.countries q.keyed.few q.once key here
 
   key_here : key_nations w key ≡ cond (listed c k) (nation_of c k ∷ []) []
@@ -201,13 +202,12 @@ small-key : (n i : ℕ) → n / key_rows ≡ i → i < key_tags → n < row_key_
 small-key n i e h = omega arith
 
 module _ (c : Campaign) (w : Cells) (q : CampaignCells c w) where
-  -- The keys are those of initials, and their rows are below any number of rows that covers the countries.
+  -- The keys are those of initials, and their rows are countries'.
   keys-all : All (InitialKey c.countries) w.initials
   keys-all = rw q.initials (initial-keys c.countries q.keyed.few)
 
-  rows-in : (n : ℕ) → length c.countries ≤ n → All (λ key. row_in key < n) w.initials
-  rows-in n h =
-      all_map (λ key here. omega (arith, at-within c.countries (row_in key) (country_in c.countries key) here.there)) w.initials keys-all
+  row-inside : (key : ℕ) → InitialKey c.countries key → row_in key < length c.countries
+  row-inside key here = at-within c.countries (row_in key) (country_in c.countries key) here.there
 
   -- The initial of a key is a tag.
   key-small : (key : ℕ) → InitialKey c.countries key → key < row_key_span
@@ -230,6 +230,19 @@ cells-readable c w q =
     ∙ length-sort leb (word_keys 0 (initial_words ks))
     ∙ length-word-keys 0 (initial_words ks)
     ∙ length-map ks (λ k. (initial_of k).0) in
+    let inside : (key : ℕ) → InitialKey ks key → KeyInside w key =
+    λ key here.
+    let row = row-inside c w q key here in
+    record {
+      tagged = omega (arith, row, all-tags);
+      started = omega (arith, row, all-started);
+      loses = omega (arith, row, q.loss_rows);
+      gains = omega (arith, row, q.gain_rows);
+      narrow = key-small c w q key here;
+    } in
+    let few-slots : All (λ n. n ≤ short_span) w.started =
+    rw q.started
+    (all-images (λ n. n ≤ short_span) count (λ k. omega (arith, count-le (matches k.tag) (start_holders c), length-start c, q.slots)) ks) in
     record {
       chained =
           chained w.keys q.old_rows q.new_rows w.olds w.news w.losses w.gains (row_turns_of c) q.rowed few q.losses q.gains;
@@ -237,12 +250,6 @@ cells-readable c w q =
       initials = ap (sort_by leb) q.initials ∙ sort-again (word_keys 0 (initial_words ks)) ∙ sym q.initials;
       few = omega (arith, all-initials, q.keyed.few);
       few_runs = omega (arith, q.few_runs);
-      tag_rows = rows-in c w q (length w.tags) (omega (arith, all-tags));
-      start_rows = rows-in c w q (length w.started) (omega (arith, all-started));
-      loss_rows = rows-in c w q (length w.losses) q.loss_rows;
-      gain_rows = rows-in c w q (length w.gains) q.gain_rows;
-      words = all_map (key-small c w q) w.initials (keys-all c w q);
-      started =
-          rw q.started
-          (all-images (λ n. n ≤ half) count (λ k. omega (arith, count-le (matches k.tag) (start_holders c), length-start c, q.slots)) ks);
+      inside = λ i d h. all-inside (KeyInside w) w.initials i d (all_map inside w.initials (keys-all c w q)) h;
+      started = λ i d h. all-inside (λ n. n ≤ short_span) w.started i d few-slots h;
     }

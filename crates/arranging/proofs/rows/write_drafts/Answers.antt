@@ -4,7 +4,7 @@ use Rattle.std.proofs.Common.{rules}
 use Rattle.std.proofs.lemmas.Iterator.{YieldsList}
 use Rattle.std.proofs.lemmas.Iterator.Consumers.{YieldsList-at, YieldsList-end}
 use Rattle.lists.proofs.ListLaws.{map-append}
-use Rattle.history_rows.specs.Cases.{history_told}
+use Rattle.arranging.specs.declared.drafts.Draft.{Draft}
 use Rattle.arranging.proofs.DraftLaws.{Placed, placed}
 use Rattle.arranging.proofs.ArrangeStepLaws.{wrote-none, next_named, next-wrote, wrote-all}
 use Rattle.arranging.proofs.rows.write_drafts.Given.{Over}
@@ -12,9 +12,9 @@ use Rattle.arranging.proofs.rows.write_drafts.Goals.{In-Some}
 use Rattle.arranging.proofs.rows.write_drafts.Goals as goal
 
 -- The draft is the next of all.
-next : (g : Over) (c : In-Some g) → Placed c.requires.ready.0 (map history_told c.loop-draft.yielded) (history_told c.in-Some.draft)
+next : (g : Over) (c : In-Some g) → Placed c.requires.ready.0 (map (λ (d : Draft). d) c.loop-draft.yielded) c.in-Some.draft
 next g c =
-    let road : YieldsList g.I.Iterator.next_gives history_told c.args.drafts c.requires.ready.0 = record { runs = c.requires.ready.1 } in
+    let road : YieldsList g.I.Iterator.next_gives (λ (d : Draft). d) c.args.drafts c.requires.ready.0 = record { runs = c.requires.ready.1 } in
     placed (YieldsList-at c.into_iter-draft-iterator.ensures.into_iter_gives road) c.loop-draft.yielded _ c.loop-draft.yielded_by _ _ c.in-Some.draft c.in-Some.is c.next.ensures.steps
 
 pub loop-draft-init : goal.loop-draft-init
@@ -27,11 +27,11 @@ overflow_add-first g c =
 
 pub loop-draft-preserved : goal.loop-draft-preserved
 loop-draft-preserved g c =
-    let wrote = next-wrote _ _ _ _ _ _ _ c.loop-draft.invariant.2 _ c.requires.ready.2 (next g (goal.at.loop-draft-preserved g c).In-Some) _ c.put_history.new.out c.finish.ensures c.put_history.ensures in
-    (search rules, search rules, rw (map-append history_told c.loop-draft.yielded (c.in-Some.draft ∷ [])) wrote)
+    let wrote = next-wrote _ _ _ _ _ _ _ c.loop-draft.invariant.2 _ c.requires.ready.2 (next g (goal.at.loop-draft-preserved g c).In-Some) _ _ c.put.new.out c.finish.ensures c.into.ensures c.put.ensures.cells in
+    (search rules, search rules, rw (map-append (λ (d : Draft). d) c.loop-draft.yielded (c.in-Some.draft ∷ [])) wrote)
 
 pub returns : goal.returns
 returns g c all y =
-    let road : YieldsList g.I.Iterator.next_gives history_told c.args.drafts all = record { runs = y } in
+    let road : YieldsList g.I.Iterator.next_gives (λ (d : Draft). d) c.args.drafts all = record { runs = y } in
     let done = YieldsList-end (YieldsList-at c.into_iter-draft-iterator.ensures.into_iter_gives road) c.loop-draft.yielded _ c.loop-draft.yielded_by _ _ c.in-None.is c.next.ensures.steps in
     wrote-all _ _ _ _ _ _ _ c.loop-draft.invariant.2 done.0

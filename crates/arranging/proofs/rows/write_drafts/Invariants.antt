@@ -1,6 +1,5 @@
 -- The invariant: the histories of the drafts passed stand at the front.
 use mathlib.Core.List.{map}
-use Rattle.history_rows.specs.Cases.{history_told}
 use Rattle.arranging.proofs.ArrangeStepLaws.{Wrote}
 use Rattle.arranging.proofs.rows.write_drafts.Given as goal
 
@@ -8,4 +7,4 @@ abbrev pub invariant-loop-draft : goal.invariant-loop-draft
 invariant-loop-draft g l =
     (goal.iterator-loop-draft g).can_next l.draft-iterator
     × (goal.iterator-loop-draft g).is_finite l.draft-iterator
-    × Wrote (map history_told l.yielded) l.fn.names l.fn.out l.first l.at l.out
+    × Wrote (map (λ d. d) l.yielded) l.fn.names l.fn.out l.first l.at l.out

@@ -1,16 +1,17 @@
-use mathlib.Core.Path.{◌≡◌}
+use mathlib.Core.Path.{◌≡◌, ap}
 use borrow.Author.Rules.{rules}
 use lib.ListN.{length}
+use Rattle.chronicle_rows.specs.Cases.{nation_told}
 use Rattle.chronicle_rows.proofs.LentShapeLaws.{follow_pass, follow_stop, follow_end}
 use Rattle.chronicle_rows.proofs.shape.nations_shaped.Goals as goal
 
 pub returns-then-not-follows : goal.returns-then-not-follows
 returns-then-not-follows c =
-    follow_stop _ _ _ _ _ c.from-nation.ensures (search rules) c.loop-row.invariant _ c.tags_shaped.ensures c.if-not-follows.true-raw
+    follow_stop _ _ _ _ _ (ap nation_told c.from-nation.ensures) (search rules) c.loop-row.invariant _ c.tags_shaped.ensures c.if-not-follows.true-raw
 
 pub loop-row-preserved : goal.loop-row-preserved
 loop-row-preserved c =
-    follow_pass _ _ _ _ _ c.from-nation.ensures (search rules) c.loop-row.invariant _ c.tags_shaped.ensures c.if-not-follows.false-raw
+    follow_pass _ _ _ _ _ (ap nation_told c.from-nation.ensures) (search rules) c.loop-row.invariant _ c.tags_shaped.ensures c.if-not-follows.false-raw
 
 pub returns : goal.returns
 returns c =

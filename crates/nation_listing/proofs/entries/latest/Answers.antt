@@ -1,12 +1,10 @@
--- The last key tells the latest target; without keys it is the given tag.
-use native.Mathlib.Omega.{arith}
-use Rattle.nation_listing.proofs.MergeEntryLaws.{latest-none, latest-some}
+-- The last key tells the latest target.
+use mathlib.Core.Path.{ap, ◌∙◌}
+use Rattle.nation_tables.specs.Switches.{target_in}
+use Rattle.nation_listing.proofs.MergeEntryLaws.{latest-some}
 use Rattle.nation_listing.proofs.entries.latest.Goals as goal
 
-pub returns-then-n-eq0 : goal.returns-then-n-eq0
-returns-then-n-eq0 c =
-    latest-none c.args.targets.now c.args.run.now c.args.initial (omega arith)
-
-pub returns : goal.returns
-returns c =
-    latest-some c.args.targets.now c.args.run.now c.args.initial _ (omega arith) c.switch_target.ensures
+pub returns-in-Some : goal.returns-in-Some
+returns-in-Some c =
+    let found = c.in-Some.ensures.item.3 in
+    latest-some c.args.targets.now c.args.run.now c.args.initial _ found.0 (c.switch_target.ensures ∙ ap (target_in c.args.targets.now) (found.1 0))

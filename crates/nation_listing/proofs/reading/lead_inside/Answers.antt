@@ -1,13 +1,17 @@
-use mathlib.Core.Path.{refl}
+-- The fold of the test is the test of all.
+use mathlib.Core.Path.{◌∙◌}
+use mathlib.Core.Bool.{Bool, true, ◌&&◌}
+use Prim.Native.Nat.{ℕ}
+use borrow.Author.Rules.{rules}
+use borrow.Author.Tests.{tests}
+use Rattle.std.proofs.lemmas.Iterator.{YieldsList-from_slice}
+use Rattle.std.proofs.lemmas.Iterator.Consumers.{fold_from_yields_List}
 use Rattle.nation_listing.specs.Reading.{leads_inside}
-use Rattle.nation_listing.proofs.ReadingLaws.{each_more, each-end}
+use Rattle.nation_listing.proofs.ReadingLaws.{all_by_fold}
 use Rattle.nation_listing.proofs.reading.lead_inside.Goals as goal
 
-pub loop-key-init : goal.loop-key-init
-loop-key-init c = refl
-
-pub loop-key-preserved : goal.loop-key-preserved
-loop-key-preserved c = each_more (leads_inside c.args.rows) _ c.loop-key.good c.loop-key.key-index c.loop-key.invariant c.loop-key-test.true
-
 pub returns : goal.returns
-returns c = each-end (leads_inside c.args.rows) _ c.loop-key.good c.loop-key.key-index c.loop-key.invariant c.loop-key-test.false
+returns c =
+    fold_from_yields_List _ (λ (good : Bool) (x : ℕ). good && (leads_inside c.args.rows) x) true c.fold.result c.fold.ensures.ran
+    (YieldsList-from_slice c.args.keys.now c.iter.ensures.rest) (λ a x b q k. search (rules, tests))
+    ∙ all_by_fold (leads_inside c.args.rows) c.args.keys.now

@@ -1,5 +1,4 @@
 use mathlib.Core.Path.{◌≡◌}
-use Prim.Native.Nat.{◌-◌}
 use native.Mathlib.Omega.{arith}
 use borrow.Author.Rules.{rules}
 use Rattle.nation_tables.proofs.slots.ChainLaws.{both-none, both-step, both-done}
@@ -11,14 +10,8 @@ loop-k-init c = both-none _ _ c.requires.turns_len_bound c.requires.fresh.0 c.re
 pub bounds-turns-k : goal.bounds-turns-k
 bounds-turns-k c = omega (arith, c.loop-k.invariant.inside, c.loop-k.invariant.long)
 
-pub overflow_cast-turn : goal.overflow_cast-turn
-overflow_cast-turn c = omega (arith, c.slice_known-in-loop-k-1.given (c.loop-k.k - 1))
-
-pub bounds-turns-k-in-loop-k : goal.bounds-turns-k-in-loop-k
-bounds-turns-k-in-loop-k c = omega (arith, c.loop-k.invariant.inside, c.loop-k.invariant.long)
-
 pub loop-k-preserved : goal.loop-k-preserved
-loop-k-preserved c = both-step _ _ _ _ _ c.loop-k.invariant (search rules) _ _ _ _ c.push_loss-loss.ensures c.push_gain-gain.ensures
+loop-k-preserved c = both-step _ _ _ _ _ c.loop-k.invariant (search rules) _ _ _ _ c.push_loss.ensures c.push_gain.ensures
 
 pub shape_of-turns : goal.shape_of-turns
 shape_of-turns c = c.loop-k.invariant.long

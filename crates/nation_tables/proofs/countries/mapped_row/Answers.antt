@@ -3,11 +3,11 @@ use mathlib.Core.Path.{◌≡◌, ◌∙◌}
 use Prim.Native.Nat.{◌+◌, ◌*◌, ◌/◌}
 use native.Mathlib.Omega.{arith}
 use Rattle.nation_tables.specs.Layout.{key_rows}
-use Rattle.nation_tables.proofs.tables.MappedLaws.{row-mapped}
 use Rattle.nation_tables.proofs.countries.mapped_row.Goals as goal
 
 pub returns : goal.returns
 returns c =
-    let w = c.from-low.result in
+    let w = c.args.tag.0 in
+    let low : c.from-low.result ≡ w = c.from-low.ensures ∙ c.from.ensures in
     let even : (w * key_rows + key_rows) / 2 * 2 ≡ w * key_rows + key_rows = omega arith in
-    row-mapped _ c.args.tag _ _ (c.from-low.ensures ∙ c.from.ensures) (rw even at (c.last_within.ensures c.requires))
+    rw (low, even) at c.last_within.ensures

@@ -1,8 +1,7 @@
 use mathlib.Core.Path.{sym}
 use native.Mathlib.Omega.{arith}
 use Rattle.lists.proofs.FillLaws.{filling-new, filling-put, filling-written}
-use Rattle.sorting.proofs.SortedKeyLaws.{sorted_front}
-use Rattle.nation_tables.proofs.tables.CountryLaws.{length-word-keys, keys-next, keys-end}
+use Rattle.nation_tables.proofs.tables.CountryLaws.{length-word-keys, keys-next, keys-end, front-sorted}
 use Rattle.nation_tables.proofs.countries.row_keys.Goals as goal
 
 pub loop-i-init : goal.loop-i-init
@@ -16,4 +15,4 @@ loop-i-preserved c =
 pub returns : goal.returns
 returns c =
     let none = keys-end c.args.words.now c.loop-i.i c.loop-i-test.false in
-    sorted_front _ _ _ _ _ (filling-written _ _ _ _ _ c.loop-i.invariant none) (sym (length-word-keys 0 c.args.words.now)) c.sort_keys.ensures.keys
+    front-sorted _ _ _ _ _ (filling-written _ _ _ _ _ c.loop-i.invariant none) (sym (length-word-keys 0 c.args.words.now)) c.sort_keys.ensures.keys

@@ -2,81 +2,74 @@
 -- cells, and what they leave is gathered.
 use mathlib.Core.Path.{refl, ◌∙◌}
 use mathlib.Core.List.{List}
-use Prim.Native.Nat.{ℕ}
+use Prim.Native.Nat.{ℕ, ◌+◌}
+use lib.ListN.{length, take}
 use native.Mathlib.Omega.{arith}
+use Rattle.record.specs.Cursors.{provinces_left}
 use Rattle.nation_tables.specs.Layout.{most_slots}
 use Rattle.nation_tables.specs.Holders.{Held}
 use Rattle.nation_tables.specs.Gathering.{FillAsked}
-use Rattle.nation_tables.proofs.slots.GatheringLaws.{tables-asked, countries-within, settling-within, slots-within, holding-asked, changes-within, own-within, arrange-asked, gathered}
-use Rattle.nation_tables.proofs.gathering.fill_all.Goals.{After-hold_slots-n}
+use Rattle.nation_tables.proofs.slots.ChangeCellLaws.{all-sorted}
+use Rattle.nation_tables.proofs.slots.RoomLaws.{CellsRoom, cells-room}
+use Rattle.nation_tables.proofs.slots.GatheringLaws.{own-keyed, told-few, told-switches-few, tables-asked, settling-within, slots-within, holding-asked, changes-within, own-within, arrange-asked, gathered}
+use Rattle.nation_tables.proofs.gathering.fill_all.Goals.{After-len-p, After-hold_fronts-n}
 use Rattle.nation_tables.proofs.gathering.fill_all.Goals as goal
 
+-- The arrays have room.
+roomy : (g : _) (c : After-len-p g) (xs : List ℕ) → FillAsked xs c.args.opened g.row.KEYS g.row.CHANGES → CellsRoom (length xs) c.args.tables.now.tag_words c.args.tables.now.initial_keys c.args.tables.now.runs c.args.tables.now.keys c.args.tables.now.cells c.args.tables.now.slots c.args.tables.now.started c.args.tables.now.turns
+roomy g c xs asked =
+    cells-room asked.room _ _ _ _ _ _ _ _ (omega arith) (omega arith) (omega arith) (omega arith) (omega arith) (omega arith) (omega arith) (omega arith)
+
 pub overflow_add-p : goal.overflow_add-p
-overflow_add-p c = let few = slots-within _ _ c.requires.1.begun _ _ _ _ _ _ _ _ _ c.requires.1.room _ most_slots c.len-p.ensures (omega arith) in omega (arith, few)
+overflow_add-p g c = let few = slots-within _ _ c.requires.1.begun _ most_slots c.len-p.ensures (omega arith) in omega (arith, few)
+
+-- The countries of an accepted record and their switches have room in keys.
+pub invariant_of-all : goal.invariant_of-all
+invariant_of-all g c = let b = c.requires.1.begun in record { keyed = own-keyed _ _ b; few = told-few _ _ b; few_switches = told-switches-few _ _ b }
 
 pub fill_tables-sizes-requires : goal.fill_tables-sizes-requires
-fill_tables-sizes-requires c = let asked = tables-asked _ _ c.requires.1.begun _ _ _ _ _ _ _ _ _ c.requires.1.room in record { keyed = asked.0; tables_room = asked.1 }
+fill_tables-sizes-requires g c =
+    tables-asked _ _ c.requires.1.begun _ _ _ _ _ _ _ _ (roomy g (goal.at.fill_tables-sizes-requires g c).After-len-p _ c.requires.1)
 
-pub slice_bounds-hold_slots-end : goal.slice_bounds-hold_slots-end
-slice_bounds-hold_slots-end c = countries-within _ _ c.requires.1.begun _ _ _ _ _ _ _ _ _ c.requires.1.room _ _ _ c.fill_tables-sizes.ensures.countries c.fill_tables-sizes.auto.tag_words c.requires.1.room.words
+-- The parts that the slots are held by are within their arrays.
+pub shared_whole_as_front-hold_fronts : goal.shared_whole_as_front-hold_fronts
+shared_whole_as_front-hold_fronts g c = (settling-within _ _ c.requires.1.begun _ _ _ c.fill_tables-sizes.ensures.keyed refl c.requires.1.room.keys, omega (arith, g.KEYS.fits))
 
-pub slice_bounds-hold_slots-end-2 : goal.slice_bounds-hold_slots-end-2
-slice_bounds-hold_slots-end-2 c = countries-within _ _ c.requires.1.begun _ _ _ _ _ _ _ _ _ c.requires.1.room _ _ _ c.fill_tables-sizes.ensures.countries c.fill_tables-sizes.auto.initial_keys c.requires.1.room.initials
+-- The keys of initials are in order, and so are those that changes settle by.
+pub invariant_of-hold_fronts : goal.invariant_of-hold_fronts
+invariant_of-hold_fronts g c = record { sorted = all-sorted _ _ c.fill_tables-sizes.ensures.initials }
 
-pub slice_bounds-hold_slots-end-3 : goal.slice_bounds-hold_slots-end-3
-slice_bounds-hold_slots-end-3 c = settling-within _ _ c.requires.1.begun _ _ _ _ _ _ _ _ _ c.requires.1.room _ _ _ c.fill_tables-sizes.ensures.keyed c.fill_tables-sizes.auto.settling_keys c.requires.1.room.switches
+pub invariant_of-hold_fronts-2 : goal.invariant_of-hold_fronts-2
+invariant_of-hold_fronts-2 g c = record { sorted = all-sorted _ _ c.fill_tables-sizes.ensures.switches }
 
-pub slice_bounds-hold_slots-end-4 : goal.slice_bounds-hold_slots-end-4
-slice_bounds-hold_slots-end-4 c = slots-within _ _ c.requires.1.begun _ _ _ _ _ _ _ _ _ c.requires.1.room _ _ c.len-p.ensures c.requires.1.room.slots
-
-pub slice_bounds-hold_slots-end-5 : goal.slice_bounds-hold_slots-end-5
-slice_bounds-hold_slots-end-5 c = countries-within _ _ c.requires.1.begun _ _ _ _ _ _ _ _ _ c.requires.1.room _ _ _ c.fill_tables-sizes.ensures.countries refl c.requires.1.room.started
-
-pub hold_slots-n-requires : goal.hold_slots-n-requires
-hold_slots-n-requires c = (c.requires.0, holding-asked _ _ c.requires.1.begun _ _ _ _ _ _ _ _ _ c.requires.1.room _ _ _ _ _ c.fill_tables-sizes.ensures c.len-p.ensures _ c.fill_tables-sizes.auto.scratch)
+pub hold_fronts-n-requires : goal.hold_fronts-n-requires
+hold_fronts-n-requires g c =
+    (c.requires.0, holding-asked _ _ c.requires.1.begun _ _ _ _ _ _ _ _ (roomy g (goal.at.hold_fronts-n-requires g c).After-len-p _ c.requires.1) _ _ _ _ _ c.fill_tables-sizes.ensures c.len-p.ensures _ c.fill_tables-sizes.auto.scratch)
 
 -- All changes are settled.
-settled : (c : After-hold_slots-n) (xs : List ℕ)
-    → FillAsked xs c.args.opened c.args.tag_words.now c.args.initial_keys.now c.args.switch_keys.now c.args.keys.now c.args.cells.now c.args.slots.now c.args.started.now c.args.turns.now c.args.firsts.now
-    → Held xs c.hold_slots-n.result c.hold_slots-n.new.keys c.hold_slots-n.new.slots c.hold_slots-n.new.started c.hold_slots-n.new.turns
-settled c xs asked =
-    c.hold_slots-n.ensures xs (holding-asked xs _ asked.begun _ _ _ _ _ _ _ _ _ asked.room _ _ _ _ _ c.fill_tables-sizes.ensures c.len-p.ensures _ c.fill_tables-sizes.auto.scratch)
-
-pub slice_bounds-arrange-end : goal.slice_bounds-arrange-end
-slice_bounds-arrange-end c = changes-within _ _ c.requires.1.begun _ _ _ _ _ _ _ _ _ c.requires.1.room _ _ _ _ _ c.fill_tables-sizes.ensures c.len-p.ensures _ _ _ _ _ (settled (goal.at.slice_bounds-arrange-end c).After-hold_slots-n _ c.requires.1) _ _ c.hold_slots-n.auto.turns c.requires.1.room.turns
+settled : (g : _) (c : After-hold_fronts-n g) (xs : List ℕ) (asked : FillAsked xs c.args.opened g.row.KEYS g.row.CHANGES)
+    → CellsRoom (length xs) c.args.tables.now.tag_words c.args.tables.now.initial_keys c.args.tables.now.runs c.args.tables.now.keys c.args.tables.now.cells c.args.tables.now.slots c.args.tables.now.started c.args.tables.now.turns
+    → Held xs c.hold_fronts-n.result c.hold_fronts-n.new.keys (take (length (provinces_left c.args.opened.provinces) + 1) c.hold_fronts-n.new.slots) (take (length (take c.fill_tables-sizes.result.countries c.fill_tables-sizes.new.tag_words)) c.hold_fronts-n.new.started) c.hold_fronts-n.new.turns
+settled g c xs asked room =
+    c.hold_fronts-n.ensures xs (holding-asked xs _ asked.begun _ _ _ _ _ _ _ _ room _ _ _ _ _ c.fill_tables-sizes.ensures c.len-p.ensures _ c.fill_tables-sizes.auto.scratch)
 
 pub arrange-requires : goal.arrange-requires
-arrange-requires c = let asked = arrange-asked _ _ c.requires.1.begun _ _ _ _ _ _ _ _ _ c.requires.1.room _ _ _ _ _ c.fill_tables-sizes.ensures c.len-p.ensures _ _ _ _ _ (settled (goal.at.arrange-requires c).After-hold_slots-n _ c.requires.1) _ (c.hold_slots-n.auto.cells ∙ c.fill_tables-sizes.auto.scratch) c.fill_tables-sizes.auto.settling_keys in record { keyed = asked.0; turns_len_bound = asked.1 }
+arrange-requires g c =
+    let room = roomy g (goal.at.arrange-requires g c).After-len-p _ c.requires.1 in
+    let held = settled g (goal.at.arrange-requires g c).After-hold_fronts-n _ c.requires.1 room in
+    let asked = arrange-asked _ _ c.requires.1.begun _ _ _ _ _ _ _ _ room _ _ _ _ _ c.fill_tables-sizes.ensures c.len-p.ensures _ _ _ _ _ held _ (c.hold_fronts-n.auto.cells ∙ c.fill_tables-sizes.auto.scratch) c.fill_tables-sizes.auto.settling_keys in
+    record {
+      switches_room = asked.0;
+      turns_inside = changes-within _ _ c.requires.1.begun _ _ _ _ _ _ _ _ room _ _ _ _ _ c.fill_tables-sizes.ensures c.len-p.ensures _ _ _ _ _ held _ _ c.hold_fronts-n.auto.turns room.turns;
+      turns_len_bound = asked.1;
+    }
 
 pub overflow_sub-result : goal.overflow_sub-result
-overflow_sub-result c = own-within _ _ c.requires.1.begun _ _ _ _ _ _ _ _ _ c.requires.1.room _ _ _ _ _ c.fill_tables-sizes.ensures c.len-p.ensures
-
-pub shape_of-tag_words : goal.shape_of-tag_words
-shape_of-tag_words c = c.fill_tables-sizes.auto.tag_words
-
-pub shape_of-initial_keys : goal.shape_of-initial_keys
-shape_of-initial_keys c = c.fill_tables-sizes.auto.initial_keys
-
-pub shape_of-switch_keys : goal.shape_of-switch_keys
-shape_of-switch_keys c = c.arrange.auto.runs ∙ c.fill_tables-sizes.auto.settling_keys
-
-pub shape_of-keys : goal.shape_of-keys
-shape_of-keys c = c.hold_slots-n.auto.keys
-
-pub shape_of-cells : goal.shape_of-cells
-shape_of-cells c = c.arrange.auto.targets ∙ c.hold_slots-n.auto.cells ∙ c.fill_tables-sizes.auto.scratch
-
-pub shape_of-slots : goal.shape_of-slots
-shape_of-slots c = c.slots-1.given.1
-
-pub shape_of-started : goal.shape_of-started
-shape_of-started c = c.started-1.given.1
-
-pub shape_of-turns : goal.shape_of-turns
-shape_of-turns c = c.turns-2-1.given.1 ∙ c.hold_slots-n.auto.turns
-
-pub shape_of-firsts : goal.shape_of-firsts
-shape_of-firsts c = c.arrange.auto.firsts
+overflow_sub-result g c =
+    own-within _ _ c.requires.1.begun _ _ _ _ _ _ _ _ (roomy g (goal.at.overflow_sub-result g c).After-len-p _ c.requires.1) _ _ _ _ _ c.fill_tables-sizes.ensures c.len-p.ensures
 
 pub returns : goal.returns
-returns c = λ xs asked. gathered xs _ asked.begun _ _ _ _ _ _ _ _ _ asked.room _ _ _ _ _ c.fill_tables-sizes.ensures c.len-p.ensures _ _ _ _ _ (settled (goal.at.returns c).After-hold_slots-n xs asked) _ _ _ _ c.arrange.ensures c.arrange.auto.firsts c.hold_slots-n.auto.turns c.arrange.auto.turns _ _ _
+returns g c = λ xs asked.
+    let room = roomy g (goal.at.returns g c).After-len-p xs asked in
+    gathered xs _ asked.begun _ _ _ _ _ _ _ _ room _ _ _ _ _ c.fill_tables-sizes.ensures c.len-p.ensures _ _ _ _ _
+    (settled g (goal.at.returns g c).After-hold_fronts-n xs asked room) _ _ _ _ c.arrange.ensures (omega (arith, c.arrange.auto.firsts))

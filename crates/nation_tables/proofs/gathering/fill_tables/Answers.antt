@@ -17,24 +17,24 @@ pub slice_bounds-country_words-end : goal.slice_bounds-country_words-end
 slice_bounds-country_words-end c = sym (made most_countries)
 
 pub country_words-c-requires : goal.country_words-c-requires
-country_words-c-requires c = let p = c.requires.tables_room in (p.words, omega (arith, p.few, made most_countries))
+country_words-c-requires c = (c.requires.words, omega (arith, c.args.all.few, made most_countries))
 
 -- There are no more countries than initial words.
 inside : (c : After-country_words-c) → c.country_words-c.result ≤ length c.country_words-c.new.initials
-inside c = omega (arith, c.country_words-c.ensures.counted, c.requires.tables_room.few, c.country_words-c.auto.initials, made most_countries)
+inside c = omega (arith, c.country_words-c.ensures.counted, c.args.all.few, c.country_words-c.auto.initials, made most_countries)
 
 pub slice_bounds-row_keys-end : goal.slice_bounds-row_keys-end
 slice_bounds-row_keys-end c = sym (length-take-le _ _ (inside (goal.at.slice_bounds-row_keys-end c).After-country_words-c))
 
 pub row_keys-requires : goal.row_keys-requires
 row_keys-requires c =
-    let p = c.requires.tables_room in
+    let p = c.requires in
     let n = c.country_words-c.ensures.counted in
     let l = length-take-le _ _ (inside (goal.at.row_keys-requires c).After-country_words-c) in
-    (omega (arith, n, l, p.few), omega (arith, n, l, p.initials))
+    (omega (arith, n, l, c.args.all.few), omega (arith, n, l, p.initials))
 
 pub settling_keys-m-requires : goal.settling_keys-m-requires
-settling_keys-m-requires c = (c.requires.keyed, c.requires.tables_room.switches)
+settling_keys-m-requires c = c.requires.switches
 
 pub shape_of-tag_words : goal.shape_of-tag_words
 shape_of-tag_words c = c.country_words-c.auto.tags

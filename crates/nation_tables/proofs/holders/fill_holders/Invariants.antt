@@ -11,9 +11,9 @@ use Rattle.change_keys.specs.ChangeSteps.{changes_left}
 use Rattle.nation_tables.specs.Holders.{holder_cell, Settler, Small}
 use Rattle.nation_tables.proofs.holders.fill_holders.Given as goal
 
-abbrev pub invariant-loop-x : goal.invariant-loop-x
-invariant-loop-x l =
-    ((ks : List Country) → Settler ks l.tag_words l.settling_keys
-    → Filling (map (holder_cell ks) (changes_left l.fn.changes)) (map (holder_cell ks) (changes_left l.x-iterator)) l.initial.cells l.n l.cells)
-    × All Small (changes_left l.x-iterator)
-    × (l.n + length (changes_left l.x-iterator) ≡ length l.initial.cells)
+abbrev pub invariant-loop-n : goal.invariant-loop-n
+invariant-loop-n l =
+    ((ks : List Country) → Settler ks l.tag_words l.settling.keys.now
+    → Filling (map (holder_cell ks) (changes_left l.fn.changes)) (map (holder_cell ks) (changes_left l.n-iterator.iter)) l.initial.cells l.n-iterator.count l.cells)
+    × All Small (changes_left l.n-iterator.iter)
+    × (l.n-iterator.count + length (changes_left l.n-iterator.iter) ≡ length l.initial.cells)

@@ -1,17 +1,19 @@
 -- The start, then the steps, then the pass over them. There is room for as many changes as there are.
-use mathlib.Core.Path.{◌≡◌, ◌∙◌}
+use mathlib.Core.Path.{◌≡◌, sym, ◌∙◌}
 use mathlib.Core.List.{List}
-use Prim.Native.Nat.{ℕ}
+use Prim.Native.Nat.{ℕ, ◌≤◌}
 use native.Mathlib.Omega.{arith}
-use lib.ListN.{length, length-take}
+use lib.ListN.{length}
+use lib.Seq.{length-take-le}
 use Rattle.record.specs.declared.provinces.Provinces.{Provinces}
 use Rattle.change_keys.specs.ChangeSteps.{entered}
+use Rattle.nation_tables.specs.declared.layout.Turn.{Turn}
 use Rattle.nation_tables.specs.Holders.{StartAsked, StepsAsked, HoldingAsked}
 use Rattle.nation_tables.proofs.slots.HoldersLaws.{held}
 use Rattle.nation_tables.proofs.holders.hold_slots.Goals.{After-sort_steps-n}
 use Rattle.nation_tables.proofs.holders.hold_slots.Goals as goal
 
-module _ {xs : List ℕ} {provinces : Provinces} {ws is ss keys cells slots started turns : List ℕ}
+module _ {xs : List ℕ} {provinces : Provinces} {ws is ss keys cells slots started : List ℕ} {turns : List Turn}
     (asked : HoldingAsked xs provinces ws is ss keys cells slots started turns) where
   -- What the start and the changes ask.
   start-asked : StartAsked xs provinces ws is slots started
@@ -30,22 +32,38 @@ start_slots-requires c = (c.requires.0, start-asked c.requires.1)
 pub sort_steps-n-requires : goal.sort_steps-n-requires
 sort_steps-n-requires c = (c.requires.0, steps-asked c.requires.1)
 
+-- Of the keys, the cells and the turns.
+keys-long : (c : After-sort_steps-n) → c.sort_steps-n.result ≤ length c.sort_steps-n.new.keys
+keys-long c = omega (arith, count c, c.sort_steps-n.auto.keys, c.requires.1.room.keys)
+
+cells-long : (c : After-sort_steps-n) → c.sort_steps-n.result ≤ length c.sort_steps-n.new.cells
+cells-long c = omega (arith, count c, c.sort_steps-n.auto.cells, c.requires.1.room.cells)
+
+turns-long : (c : After-sort_steps-n) → c.sort_steps-n.result ≤ length c.args.turns.now
+turns-long c = omega (arith, count c, c.requires.1.room.turns)
+
 pub slice_bounds-pass-end : goal.slice_bounds-pass-end
-slice_bounds-pass-end c =
-    omega (arith, count (goal.at.slice_bounds-pass-end c).After-sort_steps-n, c.sort_steps-n.auto.keys, c.requires.1.room.keys)
+slice_bounds-pass-end c = keys-long (goal.at.slice_bounds-pass-end c).After-sort_steps-n
 
 pub slice_bounds-pass-end-2 : goal.slice_bounds-pass-end-2
-slice_bounds-pass-end-2 c =
-    omega (arith, count (goal.at.slice_bounds-pass-end-2 c).After-sort_steps-n, c.sort_steps-n.auto.cells, c.requires.1.room.cells)
+slice_bounds-pass-end-2 c = sym (length-take-le _ _ (keys-long (goal.at.slice_bounds-pass-end-2 c).After-sort_steps-n))
 
 pub slice_bounds-pass-end-3 : goal.slice_bounds-pass-end-3
-slice_bounds-pass-end-3 c =
-    omega (arith, count (goal.at.slice_bounds-pass-end-3 c).After-sort_steps-n, c.requires.1.room.turns)
+slice_bounds-pass-end-3 c = cells-long (goal.at.slice_bounds-pass-end-3 c).After-sort_steps-n
+
+pub slice_bounds-pass-end-4 : goal.slice_bounds-pass-end-4
+slice_bounds-pass-end-4 c = sym (length-take-le _ _ (cells-long (goal.at.slice_bounds-pass-end-4 c).After-sort_steps-n))
+
+pub slice_bounds-pass-end-5 : goal.slice_bounds-pass-end-5
+slice_bounds-pass-end-5 c = turns-long (goal.at.slice_bounds-pass-end-5 c).After-sort_steps-n
+
+pub slice_bounds-pass-end-6 : goal.slice_bounds-pass-end-6
+slice_bounds-pass-end-6 c = sym (length-take-le _ _ (turns-long (goal.at.slice_bounds-pass-end-6 c).After-sort_steps-n))
 
 pub pass-requires : goal.pass-requires
 pass-requires c =
-    let room = c.requires.1.room in
-    simp length-take (omega (arith, count (goal.at.pass-requires c).After-sort_steps-n, c.sort_steps-n.auto.keys, room.keys, room.turns))
+    let here = (goal.at.pass-requires c).After-sort_steps-n in
+    length-take-le _ _ (turns-long here) ∙ sym (length-take-le _ _ (keys-long here))
 
 pub shape_of-keys : goal.shape_of-keys
 shape_of-keys c = c.sort_steps-n.auto.keys

@@ -10,20 +10,19 @@ use Rattle.rules.specs.Chronicle.{Change}
 use Rattle.change_keys.specs.ChangeSteps.{entered, changes_left, KeysFilled}
 use Rattle.change_keys.proofs.EnteringLaws.{all-entered}
 use Rattle.change_keys.proofs.WrittenLaws.{keys_filled}
-use Rattle.nation_tables.specs.Countries.{settling_keys_from}
 use Rattle.nation_tables.specs.Holders.{Small, StepsAsked, holder_cell}
-use Rattle.nation_tables.proofs.slots.ChangeCellLaws.{entered-small, all-sorted}
+use Rattle.nation_tables.proofs.slots.ChangeCellLaws.{entered-small}
 use Rattle.nation_tables.proofs.slots.CellLaws.{front-is}
 use Rattle.nation_tables.proofs.slots.HoldersLaws.{stepped}
 use Rattle.nation_tables.proofs.holders.sort_steps.Goals.{After-fill_keys-n}
 use Rattle.nation_tables.proofs.holders.sort_steps.Goals as goal
 
 -- The changes ahead are all changes of the record.
-all : (c : After-fill_keys-n) (xs : List ℕ) → StepsAsked xs c.args.provinces c.args.tag_words.now c.args.settling_keys.now c.args.keys.now c.args.cells.now → changes_left c.of-changes.result ≡ entered xs
+all : (c : After-fill_keys-n) (xs : List ℕ) → StepsAsked xs c.args.provinces c.args.tag_words.now c.args.settling.keys.now c.args.keys.now c.args.cells.now → changes_left c.of-changes.result ≡ entered xs
 all c xs asked = all-entered xs c.args.provinces c.of-changes.result asked.ready c.of-changes.ensures
 
 -- The keys of all changes are filled in.
-filled-all : (c : After-fill_keys-n) (xs : List ℕ) → StepsAsked xs c.args.provinces c.args.tag_words.now c.args.settling_keys.now c.args.keys.now c.args.cells.now → KeysFilled xs c.fill_keys-n.result c.fill_keys-n.new.keys
+filled-all : (c : After-fill_keys-n) (xs : List ℕ) → StepsAsked xs c.args.provinces c.args.tag_words.now c.args.settling.keys.now c.args.keys.now c.args.cells.now → KeysFilled xs c.fill_keys-n.result c.fill_keys-n.new.keys
 filled-all c xs asked = keys_filled xs _ (all c xs asked) _ _ _ asked.keys c.fill_keys-n.ensures
 
 pub slice_bounds-spread_sort-end : goal.slice_bounds-spread_sort-end
@@ -44,7 +43,6 @@ settle_changes-requires c =
     record {
       small = subst (λ (cs : List Change). All Small cs) (sym every) (entered-small _ asked.ready.accepted);
       changes_len = simp length-take (omega (arith, ap length every, (filled-all here _ asked).counted, c.spread_sort.auto.scratch, asked.cells));
-      sorted = all-sorted (settling_keys_from 0 (campaign_of c.requires.0).countries) _ asked.settler.keys;
     }
 
 pub returns : goal.returns

@@ -4,7 +4,7 @@ use native.Mathlib.Omega.{arith}
 use lib.ListN.{length-map}
 use Rattle.lists.proofs.FillLaws.{filling-new, filling-put, filling-whole}
 use Rattle.lists.proofs.ListLaws.{map-then}
-use Rattle.nation_tables.specs.Layout.{half}
+use Rattle.nation_tables.specs.Layout.{cell_rows}
 use Rattle.nation_tables.specs.Holders.{row_cell}
 use Rattle.lists.proofs.StepLaws.{map_next, map-end}
 use Rattle.nation_tables.proofs.slots.CellLaws.{filling-kept}
@@ -29,4 +29,4 @@ pub returns : goal.returns
 returns c =
     let f = made c.args.tags.now in
     let none = map-end f c.args.slots.now c.loop-slot.slot-index (omega (arith, c.loop-slot.invariant.long, c.loop-slot-test.false)) in
-    filling-whole _ _ _ _ _ c.loop-slot.invariant none (sym (length-map c.args.slots.now f)) ∙ sym (map-then (λ x. x % half) (row_cell c.args.tags.now) c.args.slots.now)
+    filling-whole _ _ _ _ _ c.loop-slot.invariant none (sym (length-map c.args.slots.now f)) ∙ sym (map-then (λ x. x % cell_rows) (row_cell c.args.tags.now) c.args.slots.now)

@@ -1,17 +1,12 @@
 -- The rows of the start holders, then the cells of these rows, and how many slots have each.
 use native.Mathlib.Omega.{arith}
-use Rattle.format.specs.Campaign.{campaign_of}
-use Rattle.nation_tables.specs.Countries.{initial_words, word_keys}
 use Rattle.nation_tables.proofs.tables.KeyedLaws.{provinces-few}
-use Rattle.nation_tables.proofs.slots.ChangeCellLaws.{all-sorted}
 use Rattle.nation_tables.proofs.slots.HoldersLaws.{slots-there, began}
 use Rattle.nation_tables.proofs.holders.start_slots.Goals as goal
 
 pub start_rows-requires : goal.start_rows-requires
 start_rows-requires c =
-    let asked = c.requires.1 in
-    let ks = (campaign_of c.requires.0).countries in
-    (all-sorted (word_keys 0 (initial_words ks)) _ asked.initials, slots-there _ _ asked.ready _ asked.slots)
+    let asked = c.requires.1 in slots-there _ _ asked.ready _ asked.slots
 
 pub count_slots-requires : goal.count_slots-requires
 count_slots-requires c =

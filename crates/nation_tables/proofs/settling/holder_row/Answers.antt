@@ -1,15 +1,13 @@
--- The keys from `to` and `date` on, below those of the next tag: the first of them is of the switch that the definition asks, or else the own
--- key of the country with that tag.
+-- The keys from `to` and `date` on, below those of the next tag.
 use mathlib.Core.Path.{◌≡◌}
 use Prim.Native.Nat.{◌+◌, ◌*◌, ◌/◌}
 use native.Mathlib.Omega.{arith}
 use Rattle.nation_tables.specs.Keys.{settling_key}
 use Rattle.nation_tables.specs.Layout.{tag_span}
-use Rattle.nation_tables.proofs.tables.OwnLaws.{row-holds}
 use Rattle.nation_tables.proofs.settling.holder_row.Goals as goal
 
 pub returns : goal.returns
 returns c =
     let low : c.settling_key-low.result / 2 * 2 ≡ settling_key c.args.to.0 c.args.date.0 0 = omega (arith, c.settling_key-low.ensures) in
     let high : (c.from-word.result + 1) * tag_span ≡ settling_key (c.args.to.0 + 1) 0 0 = omega (arith, c.from-word.ensures) in
-    row-holds _ _ _ _ _ _ low high c.first_within.ensures
+    rw (low, high) at c.first_within.ensures

@@ -5,5 +5,5 @@ use Rattle.nation_tables.specs.Switches.{place_key, NumberFits}
 use Rattle.nation_tables.proofs.tables.PlacedLaws.{Keying}
 use Rattle.nation_tables.proofs.switches.all_run_keys.Given as goal
 
-abbrev pub invariant-loop-country : goal.invariant-loop-country
-invariant-loop-country l = Keying place_key NumberFits (countries_left l.fn.countries) (countries_left l.country-iterator) l.initial.cells l.row l.k l.cells
+abbrev pub invariant-loop-row : goal.invariant-loop-row
+invariant-loop-row l = Keying place_key NumberFits (countries_left l.fn.all.countries) (countries_left l.row-iterator.iter) l.initial.cells l.row-iterator.count l.k l.cells

@@ -4,6 +4,6 @@ use Rattle.record.specs.Cursors.{countries_left}
 use Rattle.nation_tables.proofs.tables.OwnKeyLaws.{SettlingWalk}
 use Rattle.nation_tables.proofs.switches.all_settling_keys.Given as goal
 
-abbrev pub invariant-loop-country : goal.invariant-loop-country
-invariant-loop-country l =
-    SettlingWalk (countries_left l.fn.countries) (countries_left l.country-iterator) l.initial.cells l.row l.k l.cells
+abbrev pub invariant-loop-row : goal.invariant-loop-row
+invariant-loop-row l =
+    SettlingWalk (countries_left l.fn.all.countries) (countries_left l.row-iterator.iter) l.initial.cells l.row-iterator.count l.k l.cells

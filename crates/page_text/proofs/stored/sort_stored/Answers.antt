@@ -1,14 +1,20 @@
--- The keys of all rows are sorted in their place.
-use Rattle.page_text.proofs.StoredLaws.{stored-inside, stored-sorted}
+-- There are as many keys as rows, and they are sorted in their place.
+use native.Mathlib.Omega.{arith}
+use Rattle.std.proofs.Common.{sym, ◌∙◌}
+use Rattle.std.proofs.lemmas.List.{length-map}
+use Rattle.page_text.proofs.StoredLaws.{tags-left, count-left, count-tags, keys-sorted, sorted-again}
 use Rattle.page_text.proofs.stored.sort_stored.Goals as goal
 
 pub fill_stored-requires : goal.fill_stored-requires
-fill_stored-requires c = c.requires
+fill_stored-requires c = omega (arith, c.requires, count-tags c.args.nations.now _ c.of-nations.ensures)
 
-pub slice_bounds-sort_keys-end : goal.slice_bounds-sort_keys-end
-slice_bounds-sort_keys-end c =
-    stored-inside _ _ c.nation_count-n.ensures _ _ c.fill_stored.ensures
+pub slice_bounds-keys-end : goal.slice_bounds-keys-end
+slice_bounds-keys-end c = omega (arith, c.len.ensures, c.requires, count-left c.args.nations.now _ c.of-nations.ensures)
+
+pub invariant_of-result : goal.invariant_of-result
+invariant_of-result c = record { sorted = sorted-again _ _ c.sort_keys.ensures.keys }
 
 pub returns : goal.returns
 returns c =
-    stored-sorted _ _ c.nation_count-n.ensures c.args.keys.now _ _ _ _ c.requires.0 c.requires.1 c.fill_stored.ensures c.sort_keys.ensures
+    keys-sorted c.args.nations.now _ _ _ _ _ (tags-left c.args.nations.now _ c.of-nations.ensures)
+    (c.len.ensures ∙ sym (length-map _ _)) c.fill_stored.ensures c.sort_keys.ensures.keys

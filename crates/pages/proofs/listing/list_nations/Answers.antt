@@ -1,12 +1,10 @@
 -- Nations answer if the record is within the page's limits; then their words stand at the front of the slices, and the cells are filled.
-use Rattle.std.proofs.Common.{◌≡◌, ℕ, ◌*◌, ◌≤◌, List, length, arith}
-use lib.ListN.{replicate, length-replicate}
-use Rattle.rules.specs.NationRows.{nation_width}
+use Rattle.std.proofs.Common.{◌≡◌, ℕ, ◌≤◌, List, length, arith}
+use lib.ListN.{take, replicate, length-take, length-replicate}
 use Rattle.rules.specs.Outcomes.{NationCells}
-use Rattle.chronicle_rows.specs.Cases.{counts_in}
 use Rattle.nations.specs.Cases.{nation_cells}
 use Rattle.pages.proofs.RoomLaws.{LentFor, over, nations-inside, entries-inside, limits-kept, nation-front, entry-front, counts-short}
-use Rattle.pages.proofs.TextLaws.{rows_few, cells-listed, listed-front}
+use Rattle.pages.proofs.TextLaws.{rows_few, cells-listed}
 use Rattle.pages.proofs.listing.list_nations.Goals as goal
 
 -- The cells that nations were lent.
@@ -32,11 +30,21 @@ overflow_mul-n c = omega (arith, (counts-short _ (new _ c.requires.1) _ c.requir
 pub overflow_mul-m : goal.overflow_mul-m
 overflow_mul-m c = omega (arith, (counts-short _ (new _ c.requires.1) _ c.requires.0 c.in-Ok.ensures).1)
 
+-- A part of as many cells has as many.
+part-long : {n : ℕ} (cells : List ℕ) → n ≤ length cells → n ≡ length (take n cells)
+part-long {n} cells h = omega (arith, h, length-take n cells)
+
 pub slice_bounds-fill_living-end : goal.slice_bounds-fill_living-end
 slice_bounds-fill_living-end c = nations-inside _ (new _ c.requires.1) _ c.requires.0 c.in-Ok.ensures
 
 pub slice_bounds-fill_living-end-2 : goal.slice_bounds-fill_living-end-2
-slice_bounds-fill_living-end-2 c = entries-inside _ (new _ c.requires.1) _ c.requires.0 c.in-Ok.ensures
+slice_bounds-fill_living-end-2 c = part-long _ (nations-inside _ (new _ c.requires.1) _ c.requires.0 c.in-Ok.ensures)
+
+pub slice_bounds-entries-end : goal.slice_bounds-entries-end
+slice_bounds-entries-end c = entries-inside _ (new _ c.requires.1) _ c.requires.0 c.in-Ok.ensures
+
+pub slice_bounds-fill_living-end-3 : goal.slice_bounds-fill_living-end-3
+slice_bounds-fill_living-end-3 c = part-long _ (entries-inside _ (new _ c.requires.1) _ c.requires.0 c.in-Ok.ensures)
 
 pub fill_living-requires : goal.fill_living-requires
 fill_living-requires c =
@@ -52,5 +60,5 @@ returns c =
     let n = new _ c.requires.1 in
     let rows = c.in-Ok.ensures in (
       nations-inside _ n _ z rows,
-      listed-front (nation_width * (counts_in c.in-Ok.counts).nations) c.nation_events-listed.new.nations (cells-listed _ z (nation-front _ n _ z rows) (entry-front _ n _ z rows) (limits-kept _ n _ z rows) _ _ c.fill_living.ensures),
+      cells-listed _ z (nation-front _ n _ z rows) (entry-front _ n _ z rows) (limits-kept _ n _ z rows) _ _ c.fill_living.ensures,
     )

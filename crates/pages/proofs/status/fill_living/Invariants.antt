@@ -1,8 +1,14 @@
--- Invariant: the cells of the rows passed stand at the front, and those of the others are left.
-use Prim.Native.Nat.{◌-◌}
+-- Invariant: the cells of the rows passed stand at the front.
+use mathlib.Core.List.{map}
+use Rattle.std.specs.Iterator.Adapters.{enumerate_source, enumerate_count}
 use Rattle.lists.proofs.FillLaws.{Filling}
+use Rattle.rules.specs.Page.{is_living}
+use Rattle.chronicle_rows.specs.RowAt.{nations_left}
+use Rattle.page_text.specs.Status.{nation_with}
 use Rattle.pages.specs.LivingCells.{living_cells}
 use Rattle.pages.proofs.status.fill_living.Given as goal
 
 abbrev pub invariant-loop-i : goal.invariant-loop-i
-invariant-loop-i l = Filling (living_cells l.nations l.entries 0 l.n) (living_cells l.nations l.entries l.i (l.n - l.i)) l.initial.cells l.i l.cells
+invariant-loop-i l =
+    let n = enumerate_count l.i-iterator in
+    Filling (living_cells l.nations l.entries) (map (λ r. is_living (nation_with l.entries r)) (nations_left (enumerate_source l.i-iterator))) l.fn.cells n l.cells

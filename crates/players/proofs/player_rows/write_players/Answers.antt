@@ -1,9 +1,9 @@
-use Rattle.std.proofs.Common.{◌+◌, ◌≤◌, length, ap, ◌∙◌, arith, length-take, length-drop}
+use Rattle.std.proofs.Common.{◌+◌, ◌≤◌, length, ap, ◌∙◌, arith}
 use Rattle.lists.proofs.FillLaws.{filling-written}
 use Rattle.lists.proofs.WriteLaws.{behind, writing-none, writing_more}
 use Rattle.rules.specs.Players.{player_words, player_rows}
 use Rattle.players.specs.PlayerSteps.{player_in, players_left}
-use Rattle.players.proofs.PlayerLaws.{length-player_rows, rows_next, rows_none}
+use Rattle.players.proofs.PlayerLaws.{put-tail, length-player_rows, rows_next, rows_none}
 use Rattle.players.proofs.player_rows.write_players.Goals.{In-Some}
 use Rattle.players.proofs.player_rows.write_players.Goals as goal
 
@@ -23,14 +23,11 @@ loop-player-init c =
     rw c.into_iter-player-iterator.ensures.into_iter_gives
     (writing-none _ _ (omega (arith, length-player_rows (players_left c.args.players), c.requires)))
 
-pub put_player-requires : goal.put_player-requires
-put_player-requires c =
-    simp (length-take, length-drop) (omega (arith, room (goal.at.put_player-requires c).In-Some))
-
 pub loop-player-preserved : goal.loop-player-preserved
 loop-player-preserved c =
     let row = player_words (player_in c.in-Some.player) in
-    let wrote = behind c.loop-player.out row c.put_player.new.out c.loop-player.at (room (goal.at.loop-player-preserved c).In-Some) c.put_player.ensures in
+    let fits = room (goal.at.loop-player-preserved c).In-Some in
+    let wrote = behind c.loop-player.out row c.put.new.out c.loop-player.at fits (put-tail row _ _ _ _ fits c.into.ensures c.put.ensures.cells) in
     writing_more _ _ _ _ row c.loop-player.out _ c.loop-player.at (ap player_rows c.in-Some.ensures.steps ∙ rows_next _ _) c.loop-player.invariant wrote
 
 pub returns : goal.returns

@@ -1,3 +1,4 @@
+use mathlib.Core.Path.{refl}
 use Prim.Native.Nat.{◌/◌}
 use borrow.Author.Rules.{rules}
 use lib.ListN.{length}
@@ -11,8 +12,8 @@ loop-i-init c = (search rules, passing-start _ _)
 pub loop-i-preserved : goal.loop-i-preserved
 loop-i-preserved c = (
   search rules,
-  passing-put _ _ _ _ c.loop-i.invariant.1 _ _ (search rules) c.put_row.ensures (search rules)
-      (finished-row c.args.nations.now c.args.out.now c.loop-i.i _ _ c.finished_row.ensures (second-still _ _ _ _ c.loop-i.invariant.1)),
+  passing-put _ _ _ _ c.loop-i.invariant.1 _ _ _ refl (search rules) c.put_row.ensures (search rules)
+      (finished-row c.args.nations.now c.args.out.now c.loop-i.i _ _ _ c.answer_row.ensures c.row_owner-owner.ensures (second-still _ _ _ _ c.loop-i.invariant.1 _ refl)),
 )
 
 pub shape_of-out : goal.shape_of-out

@@ -8,11 +8,11 @@ use Rattle.questions.proofs.holding.hold_blocks.Goals as goal
 
 pub loop-taken-init : goal.loop-taken-init
 loop-taken-init g c =
-    between-first _ _ (claims_in c.args.nations.now c.args.entries.now) c.args.out.now _ _ _ _ c.of-claims.ensures
+    between-first _ _ (claims_in c.args.chronicle.nations.now c.args.chronicle.entries.now) c.args.out.now _ _ _ _ c.of-claims.ensures
     (length-replicate {A = ℕ} 24576 0) (length-replicate {A = ℕ} 24576 0) (length-replicate {A = ℕ} 24576 0)
 
-pub invariant_of-block : goal.invariant_of-block
-invariant_of-block g c = record { sorted = part-in-order _ _ _ _ _ _ _ _ _ _ c.in-Some.ensures.sorts }
+pub invariant_of-sorted : goal.invariant_of-sorted
+invariant_of-sorted g c = record { sorted = part-in-order _ _ _ _ _ _ _ _ _ _ c.in-Some.ensures.sorts }
 
 pub loop-taken-smaller : goal.loop-taken-smaller
 loop-taken-smaller g c = fewer-left _ _ _ _ _ _ _ _ _ _ c.in-Some.ensures.sorts c.in-Some.ensures.some

@@ -19,7 +19,7 @@ word row = (province_at row 0).id.0
 pub loop-row-init : goal.loop-row-init
 loop-row-init c =
     let ids = map word c.args.rows.now in
-    record { size = refl; same = ap (λ b. b || any_of (ltb (length c.args.rows.now)) ids) (repeats-start (id_seen (replicate 8192 false)) (λ y. blank false 8192 y) ids) }
+    record { size = refl; same = ap (λ b. b || any_of (ltb (length c.args.rows.now)) ids) (repeats-start (id_seen (replicate 8001 false)) (λ y. blank false 8001 y) ids) }
 
 pub returns-then-seen-id : goal.returns-then-seen-id
 returns-then-seen-id c =

@@ -12,7 +12,7 @@ use Rattle.record_check.proofs.repeats.id_twice_or_above.Given as goal
 abbrev pub invariant-loop-row : goal.invariant-loop-row
 invariant-loop-row l =
     record {
-      size : length l.seen ≡ 8192;
+      size : length l.seen ≡ 8001;
       same :
           ids_bad (length l.rows) l.seen (map (λ row. (province_at row 0).id.0) (drop l.row-index l.rows))
           ≡ twice (map (λ row. (province_at row 0).id.0) l.rows) || any_of (ltb (length l.rows)) (map (λ row. (province_at row 0).id.0) l.rows);

@@ -5,4 +5,4 @@ use Rattle.record_check.proofs.RepeatLaws.{repeats-told}
 use Rattle.record_check.proofs.repeats.repeated.Goals as goal
 
 pub returns : goal.returns
-returns c = λ xs e s. ap₂ ◌||◌ c.tag_twice.ensures c.id_twice_or_above.ensures ∙ repeats-told xs c.args.head c.args.sections e s
+returns c = let p = c.args.parsed in ap₂ ◌||◌ c.tag_twice.ensures c.id_twice_or_above.ensures ∙ repeats-told p.bytes.now p.head p.sections p.head_read p.rows_read

@@ -4,7 +4,8 @@ use Rattle.record_check.proofs.sizes.totals_agree.Goals as goal
 
 pub returns : goal.returns
 returns c =
-    λ xs e s. totals-told xs c.args.head c.args.sections c.total.result c.total-2.result c.total-3.result c.total-4.result c.total-5.result e s
+    let p = c.args.parsed in
+    totals-told p.bytes.now p.head p.sections c.total.result c.total-2.result c.total-3.result c.total-4.result c.total-5.result p.head_read p.rows_read
     (c.total.ensures (λ r. r.previous) (λ row n p. search rules))
     (c.total-2.ensures (λ r. r.switches) (λ row n p. search rules))
     (c.total-3.ensures (λ r. r.events) (λ row n p. search rules))

@@ -1,43 +1,51 @@
 -- The tests in the order of the numbers: the first that refuses gives its number, and those before it passed.
-use mathlib.Core.Path.{◌≡◌, refl, sym, ap, ◌∙◌}
+use mathlib.Core.Path.{◌≡◌, refl, sym, ap, subst, ◌∙◌}
+use mathlib.Core.Bool.{◌||◌}
+use native.Mathlib.Omega.{arith}
 use lib.Dec.{eqb, ltb}
 use Rattle.format.specs.declared.refused.Refusal.TheVariants.{NoRecord, UnknownVersion, Repeated, EndsEarly}
 use Rattle.format.specs.Head.{head_of}
-use Rattle.format.specs.Refused.{refusal_number}
-use Rattle.format.specs.Refusal.{refusal, first_of, opening_number, version_number, sizes_number, fields_number, repeats_number}
+use Rattle.format.specs.Refusal.{refusal, first_of, sizes_agree, opening_number, version_number, sizes_number, fields_number, repeats_number, tag_twice, id_twice_or_above}
+use Rattle.format.proofs.AcceptLaws.{number-true}
 use Rattle.format.proofs.RefusedLaws.{pass, stop}
 use Rattle.format.proofs.SizeLaws.{laid}
+use Rattle.record_head.specs.Sections.{SectionsOf}
 use Rattle.record_check.proofs.RepeatLaws.{countries-good}
 use Rattle.record_check.proofs.TotalLaws.{few-rows}
 use Rattle.record_check.proofs.VerdictLaws.{zero-if, number-if, zero-unless, number-unless, refused, refused-on}
-use Rattle.record_check.proofs.verdict.accept.Goals.{After-read_head-head, After-version_known, After-sections_agreeing, In_ok-sections, In_ok-fields_checked, After-ends_early}
+use Rattle.record_check.proofs.verdict.accept.Goals.{After-read_head, After-version_known, After-sizes_checked, In_ok-parsed, In_ok-check_fields, After-ends_early}
 use Rattle.record_check.proofs.verdict.accept.Goals as goal
 
 -- Each test, told of the record.
-opened : (c : After-read_head-head) → 0 ≡ opening_number c.args.s.now
+opened : (c : After-read_head) → 0 ≡ opening_number c.args.s.now
 opened c = zero-if 1 (sym c.opens_record.ensures ∙ c.if-not-opens_record.false)
 
 version : (c : After-version_known) → eqb (head_of c.args.s.now).version 1 ≡ c.version_known.result
-version c = sym (c.version_known.ensures ∙ ap (λ h. eqb h.version 1) c.read_head-head.ensures)
+version c = sym (c.version_known.ensures ∙ ap (λ h. eqb h.version 1) c.read_head.ensures)
 
-known : (c : After-sections_agreeing) → 0 ≡ version_number c.args.s.now
-known c = zero-if 2 (version (goal.at.After-sections_agreeing c).After-version_known ∙ c.if-not-version_known.false)
+known : (c : After-sizes_checked) → 0 ≡ version_number c.args.s.now
+known c = zero-if 2 (version (goal.at.After-sizes_checked c).After-version_known ∙ c.if-not-version_known.false)
 
-fit : (c : In_ok-sections) → 0 ≡ sizes_number c.args.s.now
-fit c = zero-if 3 (c.in_ok-sections.ensures.agreeing c.read_head-head.ensures).0
+fit : (c : In_ok-parsed) → 0 ≡ sizes_number c.args.s.now
+fit c = c.in_ok-parsed.ensures.number
 
-clean : (c : In_ok-fields_checked) → 0 ≡ fields_number c.args.s.now
-clean c =
-    let d = c.read_head-head.ensures in
-    c.in_ok-fields_checked.ensures c.args.s.now d (c.in_ok-sections.ensures.agreeing d).1
+head : (c : In_ok-parsed) → c.in_ok-parsed.parsed.head ≡ head_of c.args.s.now
+head c = c.in_ok-parsed.parsed.head_read ∙ ap head_of c.in_ok-parsed.ensures.bytes
+
+rows : (c : In_ok-parsed) → SectionsOf c.args.s.now c.in_ok-parsed.parsed.head c.in_ok-parsed.parsed.sections
+rows c =
+    let p = c.in_ok-parsed.parsed in
+    subst (λ xs. SectionsOf xs p.head p.sections) c.in_ok-parsed.ensures.bytes p.rows_read
+
+clean : (c : In_ok-check_fields) → 0 ≡ fields_number c.args.s.now
+clean c = c.in_ok-check_fields.ensures ∙ ap fields_number c.in_ok-parsed.ensures.bytes
 
 once : (c : After-ends_early) → 0 ≡ repeats_number c.args.s.now
 once c =
-    let d = c.read_head-head.ensures in
-    zero-unless 7 (sym (c.repeated.ensures c.args.s.now d (c.in_ok-sections.ensures.agreeing d).1) ∙ c.if-repeated.false)
+    zero-unless 7 (ap (λ xs. tag_twice xs || id_twice_or_above xs) (sym c.in_ok-parsed.ensures.bytes) ∙ sym c.repeated.ensures ∙ c.if-repeated.false)
 
 early : (c : After-ends_early) → ltb (head_of c.args.s.now).current.0 (head_of c.args.s.now).start.0 ≡ c.ends_early.result
-early c = sym (c.ends_early.ensures ∙ ap (λ h. ltb h.current.0 h.start.0) c.read_head-head.ensures)
+early c = sym (c.ends_early.ensures ∙ ap (λ h. ltb h.current.0 h.start.0) (head (goal.at.After-ends_early c).In_ok-parsed))
 
 pub returns-then-not-opens_record : goal.returns-then-not-opens_record
 unfolding refusal
@@ -48,47 +56,45 @@ unfolding refusal
 returns-then-not-version_known c =
     let at = goal.at.returns-then-not-version_known c in
     refused c.args.s.now UnknownVersion
-    (pass _ (opened at.After-read_head-head) (stop _ UnknownVersion (number-if 2 (version at.After-version_known ∙ c.if-not-version_known.true))))
+    (pass _ (opened at.After-read_head) (stop _ UnknownVersion (number-if 2 (version at.After-version_known ∙ c.if-not-version_known.true))))
 
-pub returns-in_err-sections : goal.returns-in_err-sections
+pub returns-in_err-parsed : goal.returns-in_err-parsed
 unfolding refusal
-returns-in_err-sections c =
-    let at = goal.at.returns-in_err-sections c in
-    let wrong = c.in_err-sections.ensures.wrong c.read_head-head.ensures in
-    refused-on c.args.s.now c.from_residual.result c.in_err-sections.field-0.0 c.from_residual.ensures
-    (pass _ (opened at.After-read_head-head) (pass _ (known at.After-sections_agreeing)
-    (stop _ c.in_err-sections.field-0.0 (ap refusal_number wrong.0 ∙ number-if 3 wrong.1))))
+returns-in_err-parsed c =
+    let at = goal.at.returns-in_err-parsed c in
+    refused-on c.args.s.now c.from_residual.result c.in_err-parsed.field-0.0 c.from_residual.ensures
+    (pass _ (opened at.After-read_head) (pass _ (known at.After-sizes_checked) (stop _ c.in_err-parsed.field-0.0 c.in_err-parsed.ensures.number)))
 
-pub returns-in_err-fields_checked : goal.returns-in_err-fields_checked
+pub returns-in_err-check_fields : goal.returns-in_err-check_fields
 unfolding refusal
-returns-in_err-fields_checked c =
-    let at = goal.at.returns-in_err-fields_checked c in
-    let d = c.read_head-head.ensures in
-    let bad = c.in_err-fields_checked.ensures c.args.s.now d (c.in_ok-sections.ensures.agreeing d).1 in
-    refused-on c.args.s.now c.from_residual-in_err-fields_checked.result c.in_err-fields_checked.field-0.0 c.from_residual-in_err-fields_checked.ensures
-    (pass _ (opened at.After-read_head-head) (pass _ (known at.After-sections_agreeing) (pass _ (fit at.In_ok-sections)
-    (stop _ c.in_err-fields_checked.field-0.0 bad))))
+returns-in_err-check_fields c =
+    let at = goal.at.returns-in_err-check_fields c in
+    let bad = c.in_err-check_fields.ensures ∙ ap fields_number c.in_ok-parsed.ensures.bytes in
+    refused-on c.args.s.now c.from_residual-in_err-check_fields.result c.in_err-check_fields.field-0.0 c.from_residual-in_err-check_fields.ensures
+    (pass _ (opened at.After-read_head) (pass _ (known at.After-sizes_checked) (pass _ (fit at.In_ok-parsed)
+    (stop _ c.in_err-check_fields.field-0.0 bad))))
 
 pub repeated-requires-clause-few : goal.repeated-requires-clause-few
 repeated-requires-clause-few c =
-    let d = c.read_head-head.ensures in
-    let z = c.in_ok-sections.ensures.agreeing d in
-    few-rows c.args.s.now c.read_head-head.result c.in_ok-sections.sections (laid c.args.s.now c.read_head-head.result d z.0).limits z.1
+    let at = (goal.at.repeated-requires-clause-few c).In_ok-parsed in
+    let s = c.args.s.now in
+    let p = c.in_ok-parsed.parsed in
+    let sizes = number-true (sizes_agree s) 3 (omega arith) (sym (fit at)) in
+    few-rows s p.head p.sections (laid s p.head (head at) sizes).limits (rows at)
 
 pub repeated-requires-clause-good_tags : goal.repeated-requires-clause-good_tags
 repeated-requires-clause-good_tags c =
-    let d = c.read_head-head.ensures in
-    countries-good c.args.s.now c.read_head-head.result c.in_ok-sections.sections d (c.in_ok-sections.ensures.agreeing d).1
-    (clean (goal.at.repeated-requires-clause-good_tags c).In_ok-fields_checked)
+    let at = goal.at.repeated-requires-clause-good_tags c in
+    let p = c.in_ok-parsed.parsed in
+    countries-good c.args.s.now p.head p.sections (head at.In_ok-parsed) (rows at.In_ok-parsed) (clean at.In_ok-check_fields)
 
 pub returns-then-repeated : goal.returns-then-repeated
 unfolding refusal
 returns-then-repeated c =
     let at = goal.at.returns-then-repeated c in
-    let d = c.read_head-head.ensures in
-    let found = sym (c.repeated.ensures c.args.s.now d (c.in_ok-sections.ensures.agreeing d).1) ∙ c.if-repeated.true in
+    let found = ap (λ xs. tag_twice xs || id_twice_or_above xs) (sym c.in_ok-parsed.ensures.bytes) ∙ sym c.repeated.ensures ∙ c.if-repeated.true in
     refused c.args.s.now Repeated
-    (pass _ (opened at.After-read_head-head) (pass _ (known at.After-sections_agreeing) (pass _ (fit at.In_ok-sections) (pass _ (clean at.In_ok-fields_checked)
+    (pass _ (opened at.After-read_head) (pass _ (known at.After-sizes_checked) (pass _ (fit at.In_ok-parsed) (pass _ (clean at.In_ok-check_fields)
     (stop _ Repeated (number-unless 7 found))))))
 
 pub returns-then-ends_early : goal.returns-then-ends_early
@@ -96,17 +102,16 @@ unfolding refusal
 returns-then-ends_early c =
     let at = goal.at.returns-then-ends_early c in
     refused c.args.s.now EndsEarly
-    (pass _ (opened at.After-read_head-head) (pass _ (known at.After-sections_agreeing) (pass _ (fit at.In_ok-sections) (pass _ (clean at.In_ok-fields_checked)
+    (pass _ (opened at.After-read_head) (pass _ (known at.After-sizes_checked) (pass _ (fit at.In_ok-parsed) (pass _ (clean at.In_ok-check_fields)
     (pass _ (once at.After-ends_early) (stop _ EndsEarly (number-unless 8 (early at.After-ends_early ∙ c.if-ends_early.true))))))))
 
 pub returns : goal.returns
 unfolding refusal first_of
 returns c =
     let at = goal.at.returns c in
-    let d = c.read_head-head.ensures in
     record {
       number =
-          pass _ (opened at.After-read_head-head) (pass _ (known at.After-sections_agreeing) (pass _ (fit at.In_ok-sections) (pass _ (clean at.In_ok-fields_checked)
+          pass _ (opened at.After-read_head) (pass _ (known at.After-sizes_checked) (pass _ (fit at.In_ok-parsed) (pass _ (clean at.In_ok-check_fields)
           (pass _ (once at.After-ends_early) (pass _ (zero-unless 8 (early at.After-ends_early ∙ c.if-ends_early.false)) refl)))));
-      rows = (d, (c.in_ok-sections.ensures.agreeing d).1);
+      rows = (head at.In_ok-parsed, rows at.In_ok-parsed);
     }

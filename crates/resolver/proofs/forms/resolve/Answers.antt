@@ -1,13 +1,15 @@
--- The tests, then the best claim.
+-- The tests, then the best claim of the chronicle that was opened, which is what was lent.
 use mathlib.Core.Path.{ap, ◌∙◌}
 use Rattle.rules.specs.Lent.{gives}
 use Rattle.rules.specs.Outcomes.{call_resolve}
 use Rattle.resolver.proofs.ResolverAnswerLaws.{question-refused, resolve-gives}
 use Rattle.resolver.proofs.forms.resolve.Goals as goal
 
-pub returns-in_err-test_question : goal.returns-in_err-test_question
+pub returns-in_err-chronicle : goal.returns-in_err-chronicle
 unfolding call_resolve
-returns-in_err-test_question c = question-refused _ _ _ _ c.from_residual.ensures (c.in_err-test_question.ensures)
+returns-in_err-chronicle c = question-refused _ _ _ _ c.from_residual.ensures (c.in_err-chronicle.ensures.number)
 
 pub returns : goal.returns
-returns c = ap gives c.plain_answer.ensures ∙ resolve-gives c.args.nations.now c.args.entries.now _ c.args.tag c.args.date c.best_claim.ensures c.in_ok-test_question.ensures
+returns c =
+    let p = c.in_ok-chronicle.ensures.chronicle in
+    ap gives (rw p.0 at c.plain_answer.ensures) ∙ resolve-gives c.args.nations.now c.args.entries.now _ c.args.tag c.args.date (rw (p.0, p.1) at c.best_claim-best.ensures) c.in_ok-chronicle.ensures.number

@@ -1,14 +1,10 @@
 -- Past the last nation, or its first claim.
-use mathlib.Core.Path.{refl, ◌∙◌}
-use borrow.Author.Rules.{rules}
-use Rattle.claims.proofs.ClaimLaws.{claims-end, claims_coming, claims-initial}
+use Rattle.claims.proofs.ClaimLaws.{claims-end, claims-initial}
 use Rattle.claims.proofs.claims.Claims.next_initial.Goals as goal
 
-pub returns-then-past_all : goal.returns-then-past_all
-returns-then-past_all c =
-    let none_left = claims_coming c.args.self.now c.requires ∙ claims-end _ _ _ (search rules) in (none_left, none_left)
+pub returns-in_err-row : goal.returns-in_err-row
+returns-in_err-row c =
+    let none_left = claims-end _ _ _ _ _ _ c.requires c.in_err-row.ensures.steps.0 in rw c.from_residual.ensures (none_left, none_left)
 
 pub returns : goal.returns
-returns c =
-    claims_coming c.args.self.now c.requires
-    ∙ claims-initial c.args.self.now _ _ _ (search rules) c.nation_at-row.ensures c.kept.ensures refl
+returns c = claims-initial _ _ _ _ _ _ _ _ c.requires c.in_ok-row.ensures.steps

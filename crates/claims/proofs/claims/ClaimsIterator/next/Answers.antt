@@ -12,7 +12,7 @@ loop-number-init c = (refl, refl)
 pub returns-in-Switch-clause-steps : goal.returns-in-Switch-clause-steps
 returns-in-Switch-clause-steps c =
     sym c.loop-number.invariant.1
-    ∙ rw c.in-Switch.is at (claims_read (record (c.loop-number.self) { entry = c.loop-number.number }) _ _ _ (omega (arith, c.loop-number-test.true, ap (λ s. s.end) c.loop-number.invariant.0)) c.entry_at-kind.ensures refl)
+    ∙ rw c.in-Switch.is at (claims_read c.loop-number.self c.loop-number.number _ _ (omega (arith, c.loop-number-test.true, ap (λ s. s.end) c.loop-number.invariant.0)) c.entry_at-kind.ensures)
 
 pub returns-in-Switch-clause-goes : goal.returns-in-Switch-clause-goes
 returns-in-Switch-clause-goes c = progress (λ x. x) claims_left {r = Some _} (returns-in-Switch-clause-steps c)
@@ -20,16 +20,16 @@ returns-in-Switch-clause-goes c = progress (λ x. x) claims_left {r = Some _} (r
 pub loop-number-preserved : goal.loop-number-preserved
 loop-number-preserved c = (
   c.loop-number.invariant.0,
-  sym (claims_read (record (c.loop-number.self) { entry = c.loop-number.number }) _ _ _ (omega (arith, c.loop-number-test.true, ap (λ s. s.end) c.loop-number.invariant.0)) c.entry_at-kind.ensures refl
+  sym (claims_read c.loop-number.self c.loop-number.number _ _ (omega (arith, c.loop-number-test.true, ap (λ s. s.end) c.loop-number.invariant.0)) c.entry_at-kind.ensures
       ∙ kind-passed _ _ _ _ c.in_default.not-Switch)
       ∙ c.loop-number.invariant.1,
 )
 
 pub returns-clause-steps : goal.returns-clause-steps
 returns-clause-steps c =
-    left-goes _ _
-    (claims_passed c.loop-number.self c.loop-number.number (omega (arith, c.loop-number-test.false, ap (λ s. s.end) c.loop-number.invariant.0)) ∙ c.loop-number.invariant.1)
-    _ _ c.next_initial.ensures
+    left-goes _ _ _ _
+    (claims_passed _ _ c.loop-number.number c.loop-number.self.end _ _ (omega (arith, c.loop-number-test.false, ap (λ s. s.end) c.loop-number.invariant.0)) ∙ c.loop-number.invariant.1)
+    c.next_initial.ensures
 
 pub returns-clause-goes : goal.returns-clause-goes
 returns-clause-goes c = progress (λ x. x) claims_left (returns-clause-steps c)

@@ -1,13 +1,23 @@
-use Rattle.ledger.proofs.LedgerLaws.{count-start, count-end}
-use Rattle.ledger.proofs.NationLaws.{nations-all, nations-none, nation-counted}
+use Rattle.std.proofs.Common.{ap, ◌∙◌}
+use Rattle.lists.specs.Lists.{join_of}
+use mathlib.Core.List.{map}
+use Rattle.chronicle_rows.specs.Cases.{nation_told}
+use Rattle.chronicle_rows.specs.RowAt.{nations_left}
+use Rattle.chronicle_rows.proofs.RowAtLaws.{nations_told}
+use Rattle.ledger.specs.Ledgers.{row_ledger}
+use Rattle.ledger.proofs.LedgerLaws.{count-start, count-more, count-end}
 use Rattle.ledger.proofs.index.LedgerIndex.count_all.Goals as goal
 
-pub loop-i-init : goal.loop-i-init
-loop-i-init c = count-start _ _ _ (nations-all c.args.self.now.frame c.args.nations.now c.args.entries.now c.nation_count-i-end.ensures)
+pub loop-nation-init : goal.loop-nation-init
+loop-nation-init c =
+    count-start _ _ _
+    (ap (λ w. join_of (row_ledger c.args.self.now.frame c.args.chronicle.entries.now) (nations_left w)) c.into_iter-nation-iterator.ensures.into_iter_gives
+    ∙ ap (λ rows. join_of (row_ledger c.args.self.now.frame c.args.chronicle.entries.now) (map nation_told rows)) c.of-nation-items.ensures
+    ∙ ap (join_of (row_ledger c.args.self.now.frame c.args.chronicle.entries.now)) (nations_told c.args.chronicle.nations.now))
 
-pub loop-i-preserved : goal.loop-i-preserved
-loop-i-preserved c =
-    nation-counted c.args.self.now.frame c.args.nations.now c.args.entries.now c.loop-i.i _ c.nation_at.result c.nation_at.ensures c.loop-i-test.true c.loop-i.invariant c.count-n.result c.count-n.ensures
+pub loop-nation-preserved : goal.loop-nation-preserved
+loop-nation-preserved c =
+    count-more c.loop-nation.invariant _ _ _ (ap (λ rows. join_of (row_ledger c.args.self.now.frame c.args.chronicle.entries.now) (map nation_told rows)) c.in-Some.ensures.steps) c.count-n.ensures
 
 pub returns : goal.returns
-returns c = count-end c.loop-i.invariant (nations-none c.args.self.now.frame c.args.nations.now c.args.entries.now c.loop-i.i _ c.loop-i-test.false)
+returns c = count-end c.loop-nation.invariant (ap (λ rows. join_of (row_ledger c.args.self.now.frame c.args.chronicle.entries.now) (map nation_told rows)) c.in-None.ensures.steps.0)

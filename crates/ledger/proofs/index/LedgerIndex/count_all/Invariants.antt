@@ -1,8 +1,10 @@
 -- The invariant: the points of the nations passed are counted, held to the most.
-use Rattle.std.proofs.Common.{◌-◌}
-use Rattle.ledger.specs.Ledgers.{ledgers_from, row_ledgers}
+use Rattle.lists.specs.Lists.{join_of}
+use Rattle.chronicle_rows.specs.RowAt.{nations_left}
+use Rattle.ledger.specs.Ledgers.{row_ledger, row_ledgers}
 use Rattle.ledger.proofs.LedgerLaws.{PointsCounted}
 use Rattle.ledger.proofs.index.LedgerIndex.count_all.Given as goal
 
-abbrev pub invariant-loop-i : goal.invariant-loop-i
-invariant-loop-i l = PointsCounted (row_ledgers l.self.frame l.nations l.entries) (ledgers_from l.self.frame l.nations l.entries l.i (l.i-end - l.i)) l.most l.n
+abbrev pub invariant-loop-nation : goal.invariant-loop-nation
+invariant-loop-nation l =
+    PointsCounted (row_ledgers l.self.frame l.chronicle.nations.now l.chronicle.entries.now) (join_of (row_ledger l.self.frame l.chronicle.entries.now) (nations_left l.nation-iterator)) l.most l.n

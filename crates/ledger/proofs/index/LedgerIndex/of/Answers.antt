@@ -1,27 +1,25 @@
-use mathlib.Core.Path.{ap}
-use Prim.Native.Nat.{ℕ}
-use native.Mathlib.Omega.{arith}
-use lib.ListN.{length-replicate}
+use mathlib.Core.Path.{refl, sym, ap, ◌∙◌}
+use lib.Dec.{leb}
+use Rattle.sorting.specs.Sort.{sort_by}
 use Rattle.record.specs.Cursors.{ledgers_left}
-use Rattle.format.specs.declared.rows.Point.{Point}
-use Rattle.record.specs.declared.rows.Rows.{Rows}
-use Rattle.ledger.proofs.IndexLaws.{naming-start, naming-room, naming-next, names-inside, names-indexed}
+use Rattle.sorting.proofs.SortedKeyLaws.{sort-again}
+use Rattle.ledger.proofs.IndexLaws.{naming-start, naming-next, names-sorted, names-indexed}
 use Rattle.ledger.proofs.index.LedgerIndex.of.Goals as goal
 
 pub loop-row-init : goal.loop-row-init
-loop-row-init c = naming-start _ _ _ _ (ap ledgers_left c.into_iter-row-iterator.ensures.into_iter_gives) c.args.frame.few (length-replicate {A = ℕ} 2000 0) (length-replicate {A = Rows Point 6} 2000 c.points_from-points.result)
-
-pub bounds-keys-count : goal.bounds-keys-count
-bounds-keys-count c = let k = (naming-room c.loop-row.invariant c.in-Some.row c.in-Some.ensures.steps).0 in omega arith
-
-pub bounds-points-count : goal.bounds-points-count
-bounds-points-count c = let k = (naming-room c.loop-row.invariant c.in-Some.row c.in-Some.ensures.steps).1 in omega arith
+loop-row-init g c =
+    naming-start _ _ _ _ _ (ap ledgers_left c.into_iter-row-iterator.ensures.into_iter_gives) c.args.frame.few c.args.frame.few_points c.requires c.told-keys c.told-places
 
 pub loop-row-preserved : goal.loop-row-preserved
-loop-row-preserved c = naming-next c.loop-row.invariant c.in-Some.row c.in-Some.ensures.steps _ c.tag_key.ensures
-
-pub slice_bounds-sort_keys-end : goal.slice_bounds-sort_keys-end
-slice_bounds-sort_keys-end c = names-inside c.args.frame.ledgers c.loop-row.invariant c.in-None.ensures.steps.0
+loop-row-preserved g c = naming-next c.loop-row.invariant c.in-Some.row c.in-Some.ensures.steps _ c.tag_key.ensures _ c.len-count.ensures _ refl refl
 
 pub invariant_of-result : goal.invariant_of-result
-invariant_of-result c = record { indexed = names-indexed c.args.frame.ledgers c.loop-row.invariant c.in-None.ensures.steps.0 _ _ _ c.sort_keys.ensures }
+invariant_of-result g c =
+    let s = names-sorted c.loop-row.invariant c.in-None.ensures.steps.0 _ _ _ c.sort_keys.ensures in
+    record { sorted = ap (sort_by leb) s ∙ (sort-again _ ∙ sym s) }
+
+pub invariant_of-result-2 : goal.invariant_of-result-2
+invariant_of-result-2 g c =
+    let n = c.loop-row.invariant in
+    let none = c.in-None.ensures.steps.0 in
+    record { indexed = names-indexed n none _ (names-sorted n none _ _ _ c.sort_keys.ensures) }

@@ -1,15 +1,23 @@
-use Rattle.ledger.proofs.NationLaws.{ledgers-start, ledgers-more, counts-room, ledgers-done}
+use Rattle.std.proofs.Common.{ap, sym, subst, ◌∙◌}
+use mathlib.Core.List.{map}
+use Rattle.chronicle_rows.specs.Cases.{nation_told}
+use Rattle.chronicle_rows.proofs.RowAtLaws.{nations_told}
+use Rattle.std.proofs.lemmas.List.{set-get_or}
+use Rattle.ledger.specs.Ledgers.{WritesLedgers}
+use Rattle.ledger.proofs.NationLaws.{ledgers-start, ledgers-more, ledgers-done, ledgers-full}
 use Rattle.ledger.proofs.index.LedgerIndex.write_all.Goals as goal
 
-pub loop-i-init : goal.loop-i-init
-loop-i-init c = ledgers-start _ _ _ _ _ _ c.nation_count-i-end.ensures c.requires.rows_in_bounds c.requires.counts_in_bounds
+pub loop-count-init : goal.loop-count-init
+loop-count-init c =
+    ledgers-start _ _ _ _ _ _ (ap (map nation_told) c.of-left.ensures ∙ nations_told c.args.chronicle.nations.now) c.requires.rows_in_bounds c.requires.counts_in_bounds
 
-pub loop-i-preserved : goal.loop-i-preserved
-loop-i-preserved c =
-    ledgers-more _ _ _ _ _ _ c.loop-i.invariant c.nation_at-row.result c.nation_at-row.ensures c.loop-i-test.true c.write-n.result _ c.write-n.ensures
+pub returns-in_default : goal.returns-in_default
+returns-in_default c =
+    subst (WritesLedgers _ _ _ _ _ _) (sym (set-get_or c.loop-count.counts c.loop-count.count-index 0))
+    (ledgers-done _ _ _ _ _ c.loop-count.invariant (ap (map nation_told) c.in_default.ensures.steps.0))
 
-pub bounds-counts-i : goal.bounds-counts-i
-bounds-counts-i c = counts-room _ _ _ _ _ _ c.loop-i.invariant c.loop-i-test.true
+pub loop-count-preserved : goal.loop-count-preserved
+loop-count-preserved c = ledgers-more _ _ _ _ _ c.loop-count.invariant (ap (map nation_told) c.in-Some.ensures.steps) c.write-n.result _ c.write-n.ensures
 
 pub returns : goal.returns
-returns c = ledgers-done _ _ _ _ _ _ c.loop-i.invariant c.nation_count-i-end.ensures c.loop-i-test.false
+returns c = ledgers-done _ _ _ _ _ c.loop-count.invariant (ledgers-full _ _ _ _ _ c.loop-count.invariant c.loop-count-test.false)

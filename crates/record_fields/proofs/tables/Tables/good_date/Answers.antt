@@ -10,5 +10,5 @@ use Rattle.record_fields.proofs.tables.Tables.good_date.Goals as goal
 pub returns : goal.returns
 returns c =
     let t = c.args.self.now in
-    ap₂ ◌&&◌ c.in_years.ensures (ap (λ (k : ℕ). get_or t.days k false) c.month_day.ensures ∙ t.day_rule.rule (month_day c.args.date))
+    ap₂ ◌&&◌ c.in_years.ensures (ap (λ (k : ℕ). get_or t.days.now k false) c.month_day.ensures ∙ t.day_rule.rule (month_day c.args.date))
     ∙ good-in-parts c.args.date

@@ -1,0 +1,5 @@
+use Rattle.claims.proofs.ClaimLaws.{claims_all}
+use Rattle.claims.proofs.claims.Claims.of.Goals as goal
+
+pub returns : goal.returns
+returns c = claims_all c.args.chronicle.nations.now _ _ _ c.of.ensures

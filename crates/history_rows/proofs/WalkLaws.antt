@@ -1,0 +1,71 @@
+-- What iterators over history rows give, and what is known of a list once the first of it were asked for.
+use mathlib.Core.Path.{◌≡◌, refl, sym, ap, subst, ◌∙◌}
+use mathlib.Core.Bool.{Bool, cond}
+use mathlib.Core.List.{List, [], ◌∷◌, map}
+use denote.Param.Members.{Mut}
+use denote.Ref.{Bor}
+use lib.ListN.{length}
+use Rattle.std.specs.Prelude as code
+use Rattle.std.specs.Prelude.{Some, None}
+use Rattle.std.specs.Fn.{CalledAt}
+use Rattle.std.specs.Iterator.{YieldsFirst}
+use Rattle.std.specs.Iterator.Adapters.{filter_source, filter_callee, filter_steps}
+use Rattle.std.specs.List.{filter}
+use Rattle.std.specs.declared.iter.Filter.{Filter}
+use Rattle.std.proofs.lemmas.Iterator.{YieldsList}
+use Rattle.std.proofs.lemmas.Iterator.Consumers.{YieldsList-at, YieldsList-from_shown, YieldsList-from_filter}
+use Rattle.lists.specs.Lists.{keep}
+use Rattle.chronicle_rows.specs.declared.rows.LentRows.{LentRows}
+use Rattle.rules.specs.HistoryRows.{HistoryRow}
+use Rattle.history_rows.specs.declared.rows.History.{History}
+use Rattle.history_rows.specs.Cases.{history_told, history_in}
+use Rattle.history_rows.specs.HistoryAt.{histories_left}
+
+pub filter_keep : {A : Type 0} (p : A → Bool) (xs : List A) → filter p xs ≡ keep p xs
+filter_keep p [] = refl
+filter_keep p (x ∷ xs) = ap (λ (l : List _). cond (p x) (x ∷ l) l) (filter_keep p xs)
+
+-- The rows of a walk.
+abbrev pub walk_steps : LentRows History 7 → code.Option History → LentRows History 7 → Type 0
+walk_steps = YieldsFirst (λ rows. map history_in rows.rows.now)
+
+pub rows-walked : {s : LentRows History 7} (ds : List HistoryRow) → histories_left s ≡ ds → YieldsList walk_steps history_told s ds
+rows-walked {s} ds e =
+    subst (YieldsList walk_steps history_told s) e
+    (YieldsList-from_shown walk_steps history_told histories_left (λ t u h. ap length (ap (map history_told) h.0)) (λ t x u h. ap (map history_told) h) s)
+
+-- Those that pass a test.
+pub rows-kept : {F : Type 0} {s : Filter (LentRows History 7) F} (g : Mut F (Bor History × Unit {0}) Bool) (p : HistoryRow → Bool) {f : F} (rows : LentRows History 7)
+    (ds : List HistoryRow) → histories_left rows ≡ ds → filter_source s ≡ rows → filter_callee s ≡ f → ((x : History) (b : Bool) (q : F) → CalledAt g f x b q → (q ≡ f) × (b ≡ p (history_told x)))
+    → YieldsList (filter_steps walk_steps g) history_told s (keep p ds)
+rows-kept g p rows ds told source callee called =
+    rw (← filter_keep p ds) (YieldsList-from_filter g p (YieldsList-at source (rows-walked ds told)) callee called)
+
+-- ## One or two elements were asked for
+
+module _ {S A B : Type 0} {steps : S → code.Option A → S → Type 0} {v : A → B} where
+  -- None came.
+  pub none-left : {s : S} (all : List B) → YieldsList steps v s all → (t : S) (r : code.Option A) → r ≡ None → steps s r t → all ≡ []
+  none-left [] road t r is p = refl
+  none-left {s} (x ∷ xs) road t r is p = absurd (road.runs.0 t (subst (λ o. steps s o t) is p))
+
+  -- One came.
+  first-left : {s : S} (all : List B) → YieldsList steps v s all → (t : S) (r : code.Option A) (x : A) → r ≡ Some x → steps s r t
+      → (rest : List B) × (all ≡ v x ∷ rest) × YieldsList steps v t rest
+  first-left {s} [] road t r x is p = absurd (road.runs x t (subst (λ o. steps s o t) is p))
+  first-left {s} (z ∷ zs) road t r x is p =
+      let q = road.runs.1 x t (subst (λ o. steps s o t) is p) in
+      (zs, ap (λ w. w ∷ zs) (sym q.0), record { runs = q.1 })
+
+  -- Behind the first that came none did, or a second one.
+  module _ {s : S} {all : List B} (road : YieldsList steps v s all) (t : S) (r : code.Option A) (x : A) (is : r ≡ Some x) (p : steps s r t) where
+    pub one-left : (u : S) (q : code.Option A) → q ≡ None → steps t q u → all ≡ v x ∷ []
+    one-left u q none n =
+        let f = first-left all road t r x is p in
+        f.1 ∙ ap (λ (l : List B). v x ∷ l) (none-left f.0 f.2 u q none n)
+
+    pub two-left : (u : S) (q : code.Option A) (y : A) → q ≡ Some y → steps t q u → (rest : List B) × (all ≡ v x ∷ v y ∷ rest)
+    two-left u q y some n =
+        let f = first-left all road t r x is p in
+        let g = first-left f.0 f.2 u q y some n in
+        (g.0, f.1 ∙ ap (λ (l : List B). v x ∷ l) g.1)
