@@ -125,13 +125,13 @@ def crates(paths):
 
 
 def grouped(fs):
+    """Groups of parameters that stand together in two functions or more."""
     lent = [f for f in fs if any(n in ("s", "xs") for n, _ in f.params)]
     own = [f for f in lent if re.match(rf"({CURSORS})::", f.name) or any(re.search(rf"\b({CURSORS})\b", t) for _, t in f.params)]
-    found = [f"{len(own)} s and a cursor: {crates(f.path for f in own)}"]
+    found = [(own, "s and a cursor")]
     for group in GROUPS.replace("\n", " ").split("; "):
-        those = [f for f in fs if set(group.split()) <= {n for n, _ in f.params}]
-        found.append(f"{len(those)} {group}: {crates(f.path for f in those)}")
-    return found
+        found.append(([f for f in fs if set(group.split()) <= {n for n, _ in f.params}], group))
+    return [f"{len(those)} {group}: {crates(f.path for f in those)}" for those, group in found if len(those) > 1]
 
 
 def with_length(f):

@@ -23,11 +23,12 @@ use Rattle.rules.specs.PlayerOutcomes.{HistoryCells, both_fit, both_written}
 use Rattle.rules.specs.HistoryRows.{HistoryRow, history_row_words}
 use Rattle.rules.proofs.LentLaws.{outcome-refused, outcome-gives}
 use Rattle.format.specs.declared.tag.CountryTag.{CountryTag}
+use Rattle.lists.proofs.CodeLaws.{some_same}
 use Rattle.arranging.specs.declared.drafts.Draft.{Draft}
 use Rattle.arranging.proofs.PutLaws.{length-rows}
 use Rattle.arranging.specs.Arranging.{last_initial, leads_within, is_ready, arranged_outcome, is_popped, histories_from, names_at, kept_words, kept_of, draft_words, Vanishes, HistoriesReady, ArrangeReady, drafted_cells, drafted_counts, drafted_outcome}
 use Rattle.arranging.specs.Drafts.{is_played, is_leftover}
-use Rattle.arranging.proofs.DraftLaws.{last-some}
+use Rattle.lists.proofs.CodeLaws.{last-some}
 use Rattle.arranging.proofs.ArrangeStepLaws.{length-finished, length-all-names, sum-few}
 
 -- ## Two parts, one behind the other
@@ -132,10 +133,6 @@ module _ (ds : List Draft) (popped : Bool) (kept : ℕ) (k : kept ≡ kept_of po
       ∙ ap (λ (x : ℕ). written (set (kept_words ds (kept_of true ds)) 0 x) before) w)
 
 -- ## The leftover that vanishes
-
-some_same : {A : Type 0} (p : A → Bool) (xs : List A) → list_any p xs ≡ any_of p xs
-some_same p [] = refl
-some_same p (x ∷ xs) = ap (λ b. p x || b) (some_same p xs)
 
 -- The last that came is there if any came, and is the last of all.
 last-held : (ts : List CountryTag) → (is_some (code-last None ts) ≡ ltb 0 (length ts)) × IfSome (code-last None ts) (λ t. t ≡ last_or (record { 0 = 0 }) ts)

@@ -18,10 +18,9 @@ use Rattle.std.specs.declared.iter.Filter.{Filter}
 use Rattle.std.specs.declared.slice.Iter.{Iter}
 use Rattle.std.proofs.lemmas.Iterator.{YieldsList, YieldsList-from_slice}
 use Rattle.std.proofs.lemmas.Iterator.Consumers.{YieldsList-at, YieldsList-from_filter, YieldsList-from_copied, YieldsList-so_far, YieldsList-turn, YieldsList-end}
-use Rattle.std.specs.List.{last_or as code-last}
 use Rattle.std.specs.List.{list_all, fold, sum_by}
-use Rattle.lists.specs.Lists.{keep, all_of, last_or, sum_of}
-use Rattle.history_rows.proofs.WalkLaws.{filter_keep}
+use Rattle.lists.specs.Lists.{keep, all_of, sum_of}
+use Rattle.lists.proofs.CodeLaws.{filter_keep}
 use Rattle.arranging.specs.declared.drafts.Draft.{Draft}
 
 module _ {A : Type 0} where
@@ -68,9 +67,3 @@ placed {v} road xs t y r u x is step =
     let place = YieldsList-turn road xs t y r u x is step in
     let size : length (map v xs) ≡ length xs = length-map xs v in
     record { front = rw size (YieldsList-so_far road xs t y); inside = rw size place.0; here = rw size place.1 }
-
--- ## The last that came
-
-pub last-some : {A : Type 0} (x : A) (xs : List A) → code-last (Some x) xs ≡ Some (last_or x xs)
-last-some x [] = refl
-last-some x (y ∷ xs) = last-some y xs

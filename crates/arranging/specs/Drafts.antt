@@ -1,6 +1,20 @@
--- Which drafts have players: inner steps, which no promise of a call of 01 cites.
-use Rattle.std.specs.Prelude.{Bool, not, ltb}
+-- Drafts, and which of them have players: inner steps, which no promise of a call of 01 cites.
+use Rattle.std.specs.Prelude.{Bool, false, not, ltb}
 use Rattle.arranging.specs.declared.drafts.Draft.{Draft}
+
+-- The draft that stands where none was written.
+abbrev pub blank : Draft
+blank =
+    record {
+      initial = record { 0 = 0 };
+      latest = record { 0 = 0 };
+      stored = record { 0 = 0 };
+      nation = 0;
+      human = false;
+      released = false;
+      first = 0;
+      count = 0;
+    }
 
 -- A draft has players, or it is a leftover.
 abbrev pub is_played : Draft → Bool

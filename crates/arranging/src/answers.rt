@@ -15,7 +15,7 @@ pub struct HistoryCounts {
     pub names: usize,
 }
 
-// Whether drafts and keys are no more than a record's countries and strings, and each draft leads to keys.
+// Whether drafts and keys are no more than a record's countries and strings, and the players of each draft stand among the keys.
 fn is_ready(drafts: &[Draft], keys: &[u64]) -> bool
     ensures { result ≡ is_ready drafts.now keys.now }
 {
@@ -24,8 +24,7 @@ fn is_ready(drafts: &[Draft], keys: &[u64]) -> bool
         && names::lead_within(drafts, keys.len())
 }
 
-// Drafts and keys are no type with a ghost field: no other function asks for what stands in this condition.
-// Counts histories and names before the first cell is written.
+// Counts histories and names before the first cell is written. What it asks of drafts and keys is asked nowhere else, so no type has it.
 fn put_drafts(
     ironman: bool,
     drafts: &[Draft],

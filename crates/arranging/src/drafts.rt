@@ -1,12 +1,12 @@
 // Drafts of histories, and which of them have players.
 ghost use Rattle.std.specs.Prelude.{◌≡◌};
-ghost use Rattle.arranging.specs.Drafts.{is_played, is_leftover};
+ghost use Rattle.arranging.specs.Drafts.{blank, is_played, is_leftover};
 
 use format::CountryTag;
 
 // A history before its place among the others is known: three tags; its nation; whether a human plays its country, and whether that was released and
-// is played on; and where its players stand among the sorted keys of all, and how many they are. Its nation counts from 1, and 0 is none, as in the row
-// of the C interface: an Option of the number has no word for the row of a lent draft's last number.
+// is played on; and its players, by the first of their keys among the sorted ones of all, and how many they are. Its nation is numbered from 1, and 0
+// is none, as in the row that is written of it.
 #[derive(Clone, Copy, Debug, PartialEq, Eq)]
 pub struct Draft {
     pub initial: CountryTag,
@@ -20,17 +20,22 @@ pub struct Draft {
 }
 
 impl Draft {
-    // A draft that stands where none was written yet.
-    pub const NONE: Draft = Draft {
-        initial: CountryTag::NONE,
-        latest: CountryTag::NONE,
-        stored: CountryTag::NONE,
-        nation: 0,
-        human: false,
-        released: false,
-        first: 0,
-        count: 0,
-    };
+    // What stands where no draft was written yet. All zeros, its tags too, which are no country's: so an array of it is cleared at once, where tags of
+    // `CountryTag::NONE` would be stored one by one. A function, for a constant may not call `kept`.
+    pub fn blank() -> Draft
+        ensures { result ≡ blank }
+    {
+        Draft {
+            initial: CountryTag::kept(0),
+            latest: CountryTag::kept(0),
+            stored: CountryTag::kept(0),
+            nation: 0,
+            human: false,
+            released: false,
+            first: 0,
+            count: 0,
+        }
+    }
 
     // Whether it has players.
     pub(crate) fn is_played(&self) -> bool

@@ -1,4 +1,4 @@
-// Histories from their drafts, which lead to the countries' players among their sorted keys.
+// Histories from their drafts, which say where the players of a country stand among sorted keys.
 #![tactic(auto)]
 
 mod answers;

@@ -1,4 +1,4 @@
-// The list of names: the low halves of players' keys, draft by draft.
+// The list of names, draft by draft: of each player's key the lowest 16 bits.
 ghost use Rattle.std.specs.Prelude.{◌≡◌, map, ◌≤◌, length};
 ghost use Rattle.lists.specs.Lists.{all_of, sum_of, join_of};
 ghost use Rattle.rules.specs.Lent.{written};
@@ -7,7 +7,7 @@ ghost use Rattle.arranging.specs.Arranging.{name_in, names_at, NamesFit, leads_w
 use crate::drafts::Draft;
 use search::KEYS_PER_TAG;
 
-// Whether each draft leads to keys that there are.
+// Whether the players of each draft stand among so many keys.
 pub(crate) fn lead_within(drafts: &[Draft], keys: usize) -> bool
     ensures { result ≡ all_of (leads_within keys) drafts.now }
 {
@@ -22,8 +22,8 @@ pub(crate) fn count_names(drafts: &[Draft]) -> usize
     drafts.iter().map(|draft| draft.count as usize).sum()
 }
 
-// Writes the name of each key. By its index: a proof knows no cell that is written through a `zip` with `iter_mut`. The one loop of this crate that
-// fills cells from an iterator, so no `fill` stands beside it.
+// Writes the name of each key. By its index: a proof knows no cell that is written through a `zip` with `iter_mut`. `put_holders` (nation_tables) is a
+// loop like it over words of another kind; a trait for both would be longer than the two.
 fn copy_names(keys: &[u64], out: &mut [u32])
     requires { length keys.now ≤ length out.old }
     ensures { out.new ≡ written (map name_in keys.now) out.old }

@@ -4,12 +4,11 @@ ghost use Rattle.std.specs.Prelude.{◌≡◌, List, ℕ};
 ghost use Rattle.lists.specs.Options.{option_of};
 ghost use Rattle.rules.specs.Bookings.{Joining as RulesJoining};
 ghost use Rattle.bookings.specs.Walking.{joining_of};
-ghost use Rattle.bookings.specs.Passes.{held_row, stored_tag, final_row, claimed_row};
+ghost use Rattle.bookings.specs.Passes.{held_row, stored_tag, row_with, final_row, claimed_row};
 
 use crate::joinings::Joining;
 use chronicle_rows::{Chronicle, nation_at};
 use claims::best_claim;
-use format::CountryTag;
 use questions::{ClaimBlock, row_owner};
 
 // How many words a row has.
@@ -41,14 +40,15 @@ impl Pass for HoldBlock<'_> {
     }
 }
 
-// The stored tag of a nation by its number; for none the tag itself.
-fn stored_tag(nations: &[u32], nation: Option<usize>, tag: CountryTag) -> CountryTag
-    ensures { result ≡ stored_tag nations.now tag (option_of nation) }
+// The booking of a joining: its war, its tag, and the stored tag of the nation of that number; for none the tag itself.
+fn booking(nations: &[u32], joining: Joining, nation: Option<usize>) -> [u32; BOOKING_WIDTH]
+    ensures { result ≡ row_with (joining_of joining) (stored_tag nations.now joining.tag (option_of nation)) }
 {
-    match nation {
+    let stored = match nation {
         Some(number) => nation_at(nations, number).stored,
-        None => tag,
-    }
+        None => joining.tag,
+    };
+    [joining.war, joining.tag.into(), stored.into()]
 }
 
 // Turns a row from its best claim into the booking.
@@ -62,8 +62,7 @@ impl Pass for Finish<'_> {
 
     fn row(&self, joining: Joining, before: [u32; BOOKING_WIDTH]) -> [u32; BOOKING_WIDTH] {
         let [_, _, owner] = before;
-        let stored = stored_tag(self.nations, row_owner(owner), joining.tag);
-        [joining.war, joining.tag.into(), stored.into()]
+        booking(self.nations, joining, row_owner(owner))
     }
 }
 
@@ -79,7 +78,6 @@ impl Pass for BookEach<'_> {
     fn row(&self, joining: Joining, _before: [u32; BOOKING_WIDTH]) -> [u32; BOOKING_WIDTH] {
         let best = best_claim(self.chronicle, joining.tag, joining.date);
         let nation = best.map(|claim| claim.nation);
-        let stored = stored_tag(self.chronicle.nations, nation, joining.tag);
-        [joining.war, joining.tag.into(), stored.into()]
+        booking(self.chronicle.nations, joining, nation)
     }
 }

@@ -1,17 +1,18 @@
 -- A row by its number, from its words; and the rows from a number on.
 use mathlib.Core.Path.{◌≡◌, refl, sym, ap, ◌∙◌}
 use mathlib.Core.List.{List, [], ◌∷◌, map}
-use Prim.Native.Nat.{ℕ, zero, suc, ◌+◌, ◌/◌, ◌<◌}
+use Prim.Native.Nat.{ℕ, zero, suc, ◌+◌, ◌-◌, ◌/◌, ◌<◌, ◌≤◌}
 use native.Mathlib.Numerals.{add-one}
+use native.Mathlib.Omega.{arith}
 use lib.ListN.{length, get_or, take, drop, length-map}
 use lib.Seq.{drop-cons}
 use Rattle.std.specs.Simd.{first_chunks}
 use Rattle.lists.specs.Lists.{rows_in, whole_rows}
 use Rattle.lists.proofs.ListLaws.{map-then}
-use Rattle.chronicle_rows.specs.Cases.{nation_told, nation_of}
+use Rattle.chronicle_rows.specs.Cases.{nation_told, nation_in}
 use Rattle.format.specs.declared.date.Eu4Date.{Eu4Date}
 use Rattle.rules.specs.NationRows.{nation_width, nation_row_of, entry_width, entry_row_of, nation_rows_in, entry_rows_in}
-use Rattle.chronicle_rows.specs.RowAt.{nation_row_at, entry_row_at}
+use Rattle.chronicle_rows.specs.RowAt.{nation_row_at, entry_row_at, entry_at, entries_at}
 
 -- ## Rows of any width
 
@@ -67,9 +68,9 @@ module _ (ws : List ℕ) where
     nations-next h = rows_next nation_width nation_row_of ws i h
 
 -- The rows that an iterator over the words has left are what the words make.
-pub nations_told : (ws : List ℕ) → map nation_told (map nation_of (first_chunks nation_width (length ws / nation_width) ws)) ≡ nation_rows_in ws
+pub nations_told : (ws : List ℕ) → map nation_told (map nation_in (first_chunks nation_width (length ws / nation_width) ws)) ≡ nation_rows_in ws
 unfolding nation_rows_in
-nations_told ws = map-then nation_of nation_told (first_chunks nation_width (length ws / nation_width) ws) ∙ ap (map nation_row_of) (chunks-rows nation_width (length ws / nation_width) ws)
+nations_told ws = map-then nation_in nation_told (first_chunks nation_width (length ws / nation_width) ws) ∙ ap (map nation_row_of) (chunks-rows nation_width (length ws / nation_width) ws)
 
 -- ## Entry rows
 
@@ -86,3 +87,18 @@ module _ (es : List ℕ) where
     pub entries_next : i < length (entry_rows_in es) → drop i (entry_rows_in es) ≡ entry_row_at es i ∷ drop (i + 1) (entry_rows_in es)
     unfolding entry_row_at entry_rows_in
     entries_next h = rows_next entry_width entry_row_of es i h
+
+-- ## The entries that a nation's row counts
+
+module _ (es : List ℕ) where
+  pub counted_all : (first count : ℕ) → entries_at es first (first + count - first) ≡ entries_at es first count
+  counted_all first count = let e : first + count - first ≡ count = omega arith in rw e refl
+
+  module _ (at end : ℕ) where
+    pub counted_next : at < end → entries_at es at (end - at) ≡ entry_at es at ∷ entries_at es (at + 1) (end - (at + 1))
+    counted_next h = let e : end - at ≡ suc (end - (at + 1)) = omega arith in rw (e, add-one at)
+
+    pub counted_end : end ≤ at → entries_at es at (end - at) ≡ []
+    counted_end h = let e : end - at ≡ 0 = omega arith in rw e
+
+pub ruleset counted = (counted_all, counted_next, counted_end)

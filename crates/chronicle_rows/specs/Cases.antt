@@ -13,8 +13,8 @@ abbrev pub nation_told : Nation.Nation → N.NationRow
 nation_told n = record { initial = n.initial; latest = n.latest; stored = n.stored; first = n.first; count = n.count }
 
 -- The nation row that words tell.
-abbrev pub nation_of : List ℕ → Nation.Nation
-nation_of ws =
+abbrev pub nation_in : List ℕ → Nation.Nation
+nation_in ws =
     record {
       initial = record { 0 = get_or ws 0 0 };
       latest = record { 0 = get_or ws 1 0 };

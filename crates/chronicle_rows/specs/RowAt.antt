@@ -1,11 +1,12 @@
 -- The rows of lent words by their number, from 0. Past the last one stands the row of no words, all zeros.
-use Rattle.std.specs.Prelude.{cond, List, [], ◌++◌, map, ℕ, leb, length, get_or, drop}
+use Rattle.std.specs.Prelude.{cond, List, [], ◌++◌, map, ℕ, ◌-◌, leb, length, get_or, drop}
 use Rattle.lists.specs.Lists.{numbers_from}
 use Rattle.format.specs.declared.tag.CountryTag.{CountryTag}
 use Rattle.rules.specs.Chronicle.{Entry, Nation}
+use Rattle.chronicle_rows.specs.declared.entries.NationEntries.{NationEntries}
 use Rattle.chronicle_rows.specs.declared.rows.LentRows.{LentRows}
 use Rattle.chronicle_rows.specs.declared.rows.Nation as Nation
-use Rattle.chronicle_rows.specs.Cases.{nation_told, nation_of}
+use Rattle.chronicle_rows.specs.Cases.{nation_told, nation_in}
 use Rattle.rules.specs.NationRows.{NationRow, nation_row_of, EntryRow, entry_row_of, entry_of, nation_rows_in, entry_rows_in}
 
 -- Nation row number i.
@@ -14,7 +15,7 @@ nation_row_at ws i = get_or (nation_rows_in ws) i (nation_row_of [])
 
 -- The nation rows that an iterator has left.
 abbrev pub nations_left : LentRows Nation.Nation 5 → List NationRow
-nations_left rows = map nation_told (map nation_of rows.rows.now)
+nations_left rows = map nation_told (map nation_in rows.rows.now)
 
 -- Entry row number i.
 unfoldable pub entry_row_at : List ℕ → ℕ → EntryRow
@@ -27,6 +28,10 @@ entry_at es i = entry_of (entry_row_at es i)
 -- So many entries from a number on.
 abbrev pub entries_at : List ℕ → ℕ → ℕ → List Entry
 entries_at es first count = map (entry_at es) (numbers_from first count)
+
+-- Those that an iterator over the entries which a nation's row counts has left.
+abbrev pub counted_left : NationEntries → List Entry
+counted_left it = entries_at it.words.now it.next (it.end - it.next)
 
 -- Nation number i, with the entries that its row points at.
 abbrev pub nation_numbered : List ℕ → List ℕ → ℕ → Nation

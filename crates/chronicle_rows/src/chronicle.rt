@@ -6,7 +6,8 @@ ghost use Rattle.rules.specs.NationRows.{well_shaped};
 use crate::shape::is_well_shaped;
 use format::Refusal;
 
-// Nation words and entry words, which anybody may have written.
+// Nation words and entry words, which anybody may have written. That they are well shaped is no fact of this type: `best_claim` (claims) promises its
+// answer of any words, and `open` alone tells who asks for it.
 #[derive(Clone, Copy)]
 pub struct Chronicle<'a> {
     pub nations: &'a [u32],

@@ -4,12 +4,14 @@
 
 mod chronicle;
 mod counts;
+mod entries;
 mod rows;
 mod shape;
 
 pub use chronicle::Chronicle;
 pub use counts::NationCounts;
+pub use entries::NationEntries;
 pub use rows::{
-    ENTRY_WIDTH, Entry, Kind, LentRows, NATION_WIDTH, Nation, Nations, Row, entry_at, nation_at,
+    ENTRY_WIDTH, Entry, Kind, LentRows, NATION_WIDTH, Nation, Nations, Row, nation_at,
     nation_count, put, row_at,
 };

@@ -5,7 +5,7 @@ ghost use Rattle.std.specs.Iterator.{YieldsFirst, item_count};
 ghost use Rattle.std.specs.Simd.{first_chunks};
 ghost use Rattle.std.proofs.Common.{lit<};
 ghost use Rattle.rules.specs.NationRows.{nation_rows_in, nation_row_words, entry_row, entry_row_words};
-ghost use Rattle.chronicle_rows.specs.Cases.{nation_told, nation_of, entry_told, entry_in, kind_in};
+ghost use Rattle.chronicle_rows.specs.Cases.{nation_told, nation_in, entry_told, entry_in, kind_in};
 ghost use Rattle.chronicle_rows.specs.RowAt.{nation_row_at, entry_at, row_put};
 
 use format::{CountryTag, Eu4Date};
@@ -90,7 +90,8 @@ pub fn put<const WIDTH: usize>(row: [u32; WIDTH], out: &mut [u32]) -> bool
     true
 }
 
-// A nation row: three tags, the number of its first entry row, and how many it has.
+// A nation row: three tags, the number of its first entry row, and how many it has. The three are fields of their own, here, in a history and in a
+// draft: whoever reads a row asks for one of them, and `nation.tags.initial` everywhere would spare two tests of all three a line or two.
 #[derive(Clone, Copy, Debug, PartialEq, Eq)]
 pub struct Nation {
     pub initial: CountryTag,
@@ -118,7 +119,8 @@ pub struct Entry {
     pub kind: Kind,
 }
 
-// How many nation rows the words make. Words behind the last whole row count for nothing.
+// How many nation rows the words make. Words behind the last whole row count for nothing. One such line stands beside each kind of row: the count of
+// `LentRows`, without making them.
 #[tactic(auto, using(crate::proofs::RowAtLaws::nation_rows_count))]
 pub fn nation_count(nations: &[u32]) -> usize
     ensures { result ≡ length (nation_rows_in nations.now) }
@@ -128,7 +130,7 @@ pub fn nation_count(nations: &[u32]) -> usize
 
 // What a nation row's words tell. Anybody may have written them, and reading refuses none: `is_well_shaped` tests every tag.
 impl From<[u32; NATION_WIDTH]> for Nation {
-    ghost from_gives = { λ row nation. nation ≡ nation_of row };
+    ghost from_gives = { λ row nation. nation ≡ nation_in row };
 
     fn from(row: [u32; NATION_WIDTH]) -> Nation {
         let [initial, latest, stored, first, count] = row;
@@ -185,7 +187,7 @@ impl From<Entry> for [u32; ENTRY_WIDTH] {
 }
 
 impl Row<NATION_WIDTH> for Nation {
-    ghost told = { nation_of };
+    ghost told = { nation_in };
 
     ghost read = { λ words row e. e };
 
@@ -227,7 +229,7 @@ pub fn nation_at(nations: &[u32], i: usize) -> Nation
 
 // Entry number i.
 #[tactic(auto, using(crate::proofs::RowAtLaws::entry_here))]
-pub fn entry_at(entries: &[u32], i: usize) -> Entry
+pub(crate) fn entry_at(entries: &[u32], i: usize) -> Entry
     ensures { entry_told result ≡ entry_at entries.now i }
 {
     row_at(entries, i)

@@ -1,108 +1,89 @@
--- A walk over the claims, step by step, and the best claim so far.
-use mathlib.Core.Path.{◌≡◌, refl, sym, ap, ◌∙◌}
-use mathlib.Core.Bool.{Bool, true, false, not, ◌&&◌}
-use mathlib.Core.List.{List, [], ◌∷◌, ◌++◌, map, append_assoc}
-use mathlib.Core.Option.{Option, some, none}
-use Prim.Native.Nat.{ℕ, zero, suc, ◌+◌, ◌-◌, ◌/◌, ◌<◌, ◌≤◌}
+-- A walk over the claims, step by step, the last to an initial, and the best of those that a question asks about.
+use mathlib.Core.Path.{◌≡◌, refl, sym, ap, ◌∙◌, subst}
+use mathlib.Core.Bool.{Bool, cond}
+use mathlib.Core.List.{List, [], ◌∷◌, ◌++◌, map, map-id}
+use mathlib.Core.Option.{Option, some}
+use Prim.Native.Nat.{ℕ, zero, suc, ◌+◌, ◌/◌}
 use native.Mathlib.Numerals.{add-one}
 use native.Mathlib.Omega.{arith}
-use borrow.Author.Tests.{not-true}
 use lib.ListN.{length}
-use Rattle.std.specs.Prelude as code
-use Rattle.std.specs.Prelude.{Some, None}
-use Rattle.std.specs.Iterator.{YieldsFirst}
 use Rattle.std.specs.Simd.{first_chunks}
-use Rattle.lists.specs.Lists.{keep, join_of, last, or_else, numbers_from}
+use Rattle.lists.specs.Lists.{keep, join_of, last, numbers_from, last_or, greatest}
 use Rattle.lists.proofs.BoolLaws.{cases}
-use Rattle.lists.proofs.ScanLaws.{better, scan}
+use Rattle.lists.proofs.ScanLaws.{better, scan, scan-greatest}
 use Rattle.format.specs.declared.tag.CountryTag.{CountryTag}
 use Rattle.format.specs.declared.date.Eu4Date.{Eu4Date}
 use Rattle.format.specs.Tags.{same_tag}
-use Rattle.format.specs.Dates.{not_after}
-use Rattle.rules.specs.Chronicle.{Kind, Entry}
+use Rattle.rules.specs.Chronicle.{Entry}
 use Rattle.rules.specs.NationRows.{NationRow, nation_width, nation_rows_in}
-use Rattle.chronicle_rows.specs.RowAt.{nation_row_at, nations_left, entry_at}
+use Rattle.chronicle_rows.specs.RowAt.{counted_left, nation_row_at, entries_at, nations_left}
 use Rattle.chronicle_rows.specs.declared.rows.Nation as Row
 use Rattle.chronicle_rows.specs.declared.rows.Kind as Code
-use Rattle.chronicle_rows.specs.Cases.{nation_told, nation_of, kind_told}
+use Rattle.chronicle_rows.specs.Cases.{nation_told, nation_in, kind_told}
 use Rattle.chronicle_rows.proofs.RowAtLaws.{nations-next, nations_told}
 use Rattle.chronicle_rows.proofs.NumberedLaws.{dropped-numbers}
 use Rattle.claims.specs.declared.claims.Claim.{Claim}
+use Rattle.claims.specs.Claims.{switch_claims, initial_claim, initials_from, initial_claims, nation_claims, claims_from, claims_in, left_of, claim_day, last_to, claims_left}
+use denote.Param.Members.{Mut, Called}
+use denote.Ref.{Bor}
+use lib.Dec.{leb}
+use Rattle.std.specs.Prelude as code
+use Rattle.std.specs.Prelude.{Some, None, IsSomeAnd, MatchOption}
+use Rattle.std.specs.Fn.{CalledAt}
+use Rattle.std.specs.List.{filter, enumerate_from, FoldsTo, last_or as code-last}
+use Rattle.std.specs.Option.{option_map}
+use Rattle.std.specs.Iterator.{YieldsFirst, Drains, FoldTurn, ReducesItems}
+use Rattle.std.specs.Iterator.Adapters.{enumerate_source, enumerate_count, enumerate_steps, filter_source, filter_callee, filter_steps}
+use Rattle.std.specs.declared.iter.Enumerate.{Enumerate}
+use Rattle.chronicle_rows.specs.declared.rows.LentRows.{LentRows}
+use Rattle.std.specs.declared.iter.Filter.{Filter}
+use Rattle.std.proofs.lemmas.Iterator.{YieldsList}
+use Rattle.std.proofs.lemmas.Iterator.Consumers.{YieldsList-at, YieldsList-from_first, YieldsList-from_filter, YieldsList-from_enumerate, YieldsList-end}
+use Rattle.lists.specs.Options.{option_of}
+use Rattle.lists.proofs.CodeLaws.{filter_keep, last-some}
 use Rattle.claims.specs.declared.claims.Claims.{Claims}
-use Rattle.claims.specs.Claims.{kind_claims, switches_in, initial_claim, initials_from, initial_claims, nation_claims, claims_from, claims_in, left_of, claims_left, is_asked, claim_day, last_to}
-
-pub numbers_more : (a n : ℕ) → 0 < n → numbers_from a n ≡ a ∷ numbers_from (a + 1) (n - 1)
-numbers_more a n h = let e : n ≡ suc (n - 1) = omega arith in rw e (let f : suc (n - 1) - 1 ≡ n - 1 = omega arith in simp (f, add-one))
-
--- ## A nation's switches, entry by entry
-
-module _ (es : List ℕ) (i : ℕ) where
-  pub switches-end : (at end : ℕ) → end ≤ at → switches_in es i at end ≡ []
-  switches-end at end h = let e : end - at ≡ 0 = omega arith in rw e
-
-  -- The entry, as the code has read it.
-  pub switches-read : (at end : ℕ) (date : Eu4Date) (kind : Kind) → at < end → record { date = date; kind = kind } ≡ entry_at es at
-      → switches_in es i at end ≡ kind_claims i date kind ++ switches_in es i (at + 1) end
-  switches-read at end date kind inside e =
-      let f : end - at - 1 ≡ end - (at + 1) = omega arith in
-      let d : date ≡ (entry_at es at).date = ap (λ (x : Entry). x.date) e in
-      let k : kind ≡ (entry_at es at).kind = ap (λ (x : Entry). x.kind) e in
-      rw (numbers_more at (end - at) (omega arith), f, d, k)
 
 -- ## Step by step
 
--- Before the first nation: its row and those behind it, as the code has divided the words.
-pub claims_all : (ws es : List ℕ) (owner : ℕ) (rows : List Row.Nation) → rows ≡ map nation_of (first_chunks nation_width (length ws / nation_width) ws) → left_of es owner 0 0 0 (map nation_told rows) ≡ claims_in ws es
+-- Before the first nation: no entries are left, but all rows, as the code has divided the words.
+pub claims_all : (ws es : List ℕ) (owner : ℕ) (own : List Entry) (rows : List Row.Nation) → own ≡ [] → rows ≡ map nation_in (first_chunks nation_width (length ws / nation_width) ws)
+    → left_of es owner own 0 (map nation_told rows) ≡ claims_in ws es
 unfolding left_of claims_in
-claims_all ws es owner rows e = rw (e, nations_told) refl
+claims_all ws es owner own rows n e = rw (n, e, nations_told) refl
 
 -- What is left of a walk that begins is all claims.
-pub walk-start : (ws : List ℕ) (c : Claims) → c.entry ≡ 0 → c.end ≡ 0 → c.coming ≡ 0 → nations_left c.nations ≡ nation_rows_in ws → claims_left c ≡ claims_in ws c.entries.now
+pub walk-start : (ws : List ℕ) (c : Claims) → counted_left c.own ≡ [] → c.coming ≡ 0 → nations_left c.nations ≡ nation_rows_in ws → claims_left c ≡ claims_in ws c.entries.now
 unfolding left_of claims_in
-walk-start ws c a b d e = rw (a, b, d, e) refl
+walk-start ws c a b d = rw (a, b, d) refl
 
-module _ (es : List ℕ) (owner entry end i : ℕ) where
-  -- Past the owner's entries the nations behind it are left.
-  pub claims_coming : (rows : List NationRow) → end ≤ entry → left_of es owner entry end i rows ≡ claims_from es i rows
+module _ (es : List ℕ) (owner i : ℕ) (own : List Entry) where
+  -- Where no entry is left and no nation, no claim is.
+  pub claims-end : (rows : List Row.Nation) → own ≡ [] → rows ≡ [] → left_of es owner own i (map nation_told rows) ≡ []
   unfolding left_of
-  claims_coming rows h = rw (switches-end es owner entry end h)
-
-  -- So they are wherever a walk stands that is past them.
-  pub claims_passed : (rows : List NationRow) → end ≤ entry → left_of es owner end end i rows ≡ left_of es owner entry end i rows
-  unfolding left_of
-  claims_passed rows h = rw (switches-end es owner entry end h, switches-end es owner end end (omega arith))
-
-  -- Where no nation is left, no claim is.
-  pub claims-end : (rows : List Row.Nation) → end ≤ entry → rows ≡ [] → left_of es owner entry end i (map nation_told rows) ≡ []
-  claims-end rows h e = claims_coming (map nation_told rows) h ∙ rw e
+  claims-end rows h e = rw (h, e)
 
   -- The row of the nation that comes has been read.
-  pub claims-initial : (row : Row.Nation) (left rest : List Row.Nation) → end ≤ entry → left ≡ row ∷ rest
-      → left_of es owner entry end i (map nation_told left) ≡ initial_claim i (nation_told row) ∷ left_of es i row.first (row.first + row.count) (i + 1) (map nation_told rest)
+  pub claims-initial : (row : Row.Nation) (left rest : List Row.Nation) (coming : List Entry) → own ≡ [] → left ≡ row ∷ rest → coming ≡ entries_at es row.first row.count
+      → left_of es owner own i (map nation_told left) ≡ initial_claim i (nation_told row) ∷ left_of es i coming (i + 1) (map nation_told rest)
   unfolding left_of
-  claims-initial row left rest h e =
-      let f : row.first + row.count - row.first ≡ row.count = omega arith in
-      rw (switches-end es owner entry end h, e, f) refl
+  claims-initial row left rest coming h e f = rw (h, e, f) refl
 
--- The entry at hand has been read.
-pub claims_read : (c : Claims) (at : ℕ) (date : Eu4Date) (kind : Kind) → at < c.end → record { date = date; kind = kind } ≡ entry_at c.entries.now at
-    → claims_left (record c { entry = at }) ≡ kind_claims c.owner date kind ++ claims_left (record c { entry = at + 1 })
-unfolding left_of
-claims_read c at date kind inside e =
-    let behind : List Claim = claims_from c.entries.now c.coming (nations_left c.nations) in
-    ap (λ (cs : List Claim). cs ++ behind) (switches-read c.entries.now c.owner at c.end date kind inside e)
-    ∙ append_assoc (kind_claims c.owner date kind) (switches_in c.entries.now c.owner (at + 1) c.end) behind
+  -- The next entry has been read: one that is no switch has no claim.
+  module _ (rows : List NationRow) (rest : List Entry) (date : Eu4Date) (kind : Code.Kind) (e : own ≡ record { date = date; kind = kind_told kind } ∷ rest) where
+    pub claims-switch : (tag : CountryTag) → kind ≡ Code.TheVariants.Switch tag
+        → left_of es owner own i rows ≡ record { tag = tag; date = date; nation = owner } ∷ left_of es owner rest i rows
+    unfolding left_of
+    claims-switch tag k = rw (e, k) refl
 
--- An entry that is no switch has no claim.
-pub kind-passed : (i : ℕ) (date : Eu4Date) (kind : Code.Kind) (cs : List Claim) → ((tag : CountryTag) → kind ≡ Code.TheVariants.Switch tag → ⊥) → kind_claims i date (kind_told kind) ++ cs ≡ cs
-kind-passed i date (Code.TheVariants.Switch tag) cs h = absurd (h tag refl)
-kind-passed i date Code.TheVariants.Appeared cs h = refl
-kind-passed i date Code.TheVariants.Annexed cs h = refl
-
--- A step from where the same is left.
-pub left-goes : (cs ds after : List Claim) (r : code.Option Claim) → cs ≡ ds → YieldsFirst (λ (l : List Claim). l) cs r after → YieldsFirst (λ (l : List Claim). l) ds r after
-left-goes cs ds after (Some c) e y = sym e ∙ y
-left-goes cs ds after None e y = (sym e ∙ y.0, y.1)
+    pub claims-silent : ((tag : CountryTag) → kind ≡ Code.TheVariants.Switch tag → ⊥) → left_of es owner own i rows ≡ left_of es owner rest i rows
+    unfolding left_of
+    claims-silent h = rw e (go kind h)
+      where
+        go : (k : Code.Kind) → ((tag : CountryTag) → k ≡ Code.TheVariants.Switch tag → ⊥)
+            → switch_claims owner (record { date = date; kind = kind_told k } ∷ rest) ++ claims_from es i rows ≡ switch_claims owner rest ++ claims_from es i rows
+        go (Code.TheVariants.Switch tag) n = absurd (n tag refl)
+        go Code.TheVariants.Appeared n = refl
+        go Code.TheVariants.Annexed n = refl
 
 -- ## By the numbers of nations
 
@@ -134,27 +115,57 @@ module _ (ws : List ℕ) where
         go i zero = refl
         go i (suc n) = rw add-one (ap (λ (cs : List Claim). claims_at i ++ cs) (go (suc i) n))
 
--- ## The last initial so far
+-- ## The last initial
 
-pub or-none : (a : Option Claim) → or_else a none ≡ a
-or-none (some c) = refl
-or-none none = refl
+abbrev pub nation_steps : LentRows Row.Nation 5 → code.Option Row.Nation → LentRows Row.Nation 5 → Type 0
+nation_steps = YieldsFirst (λ rows. map nation_in rows.rows.now)
 
--- Claims behind a first one have a last.
-last_behind : (x : Claim) (cs : List Claim) (so_far : Option Claim) → or_else (last (x ∷ cs)) so_far ≡ or_else (last cs) (some x)
-last_behind x [] so_far = refl
-last_behind x (c ∷ cs) so_far = refl
+-- The claim of a nation's number and its row.
+abbrev pub numbered-claim : ℕ × Row.Nation → Claim
+numbered-claim p = initial_claim p.0 (nation_told p.1)
 
--- The code has read the row of nation number i, and whether it has the initial.
-module _ (tag : CountryTag) (i : ℕ) (row : Row.Nation) (left rest : List Row.Nation) (best all : Option Claim) (next : left ≡ row ∷ rest)
-    (so_far : or_else (last_to tag (initials_from i (map nation_told left))) best ≡ all) where
-  pub initial_passed : same_tag row.initial tag ≡ false → or_else (last_to tag (initials_from (i + 1) (map nation_told rest))) best ≡ all
-  initial_passed h = rw (next, h) at so_far
+-- The nations that are kept by their initial, as the code numbers them, have the claims to it.
+numbered-kept : (tag : CountryTag) (i : ℕ) (rows : List Row.Nation)
+    → map numbered-claim (filter (λ p. same_tag p.1.initial tag) (enumerate_from i rows)) ≡ keep (λ c. same_tag c.tag tag) (initials_from i (map nation_told rows))
+numbered-kept tag i [] = refl
+numbered-kept tag i (row ∷ rows) =
+    cases (same_tag row.initial tag)
+    (λ h. simp h (ap (λ (cs : List Claim). initial_claim i (nation_told row) ∷ cs) (numbered-kept tag (i + 1) rows)))
+    (λ h. simp h (numbered-kept tag (i + 1) rows))
 
-  pub initial_found : same_tag row.initial tag ≡ true → or_else (last_to tag (initials_from (i + 1) (map nation_told rest))) (some (initial_claim i (nation_told row))) ≡ all
-  initial_found h = sym (last_behind _ _ best) ∙ (rw (next, h) at so_far)
+last-mapped : {A B : Type 0} (f : A → B) (xs : List A) → option_of (option_map f (code-last None xs)) ≡ last (map f xs)
+last-mapped f [] = refl
+last-mapped f (x ∷ xs) = ap (λ o. option_of (option_map f o)) (last-some x xs) ∙ ap some (go x xs)
+  where
+    go : (y : _) (ys : List _) → f (last_or y ys) ≡ last_or (f y) (map f ys)
+    go y [] = refl
+    go y (z ∷ ys) = go z ys
 
--- ## The best so far
+-- What `map` makes of an Option, by what its closure makes of the value.
+pub option-mapped : {A B : Type 0} (f : A → B) (P : A → B → Type 0) → ((x : A) (y : B) → P x y → y ≡ f x) → (o : code.Option A) (m : code.Option B)
+    → MatchOption o (m ≡ None) (λ x. IsSomeAnd m (P x)) → m ≡ option_map f o
+option-mapped f P made None m d = d
+option-mapped f P made (Some x) None d = elim d [ ]
+option-mapped f P made (Some x) (Some y) d = ap Some (made x y d)
+
+-- The last of them that came, and its claim.
+pub initial-last : {F : Type 0} {it : LentRows Row.Nation 5} {en : Enumerate (LentRows Row.Nation 5)} {s : Filter (Enumerate (LentRows Row.Nation 5)) F}
+    (g : Mut F (Bor (ℕ × Row.Nation) × Unit {0}) Bool) (tag : CountryTag) {f : F} (ws : List ℕ)
+    → nations_left it ≡ nation_rows_in ws → enumerate_source en ≡ it → enumerate_count en ≡ 0 → filter_source s ≡ en → filter_callee s ≡ f
+    → ((x : ℕ × Row.Nation) (b : Bool) (q : F) → CalledAt g f x b q → (q ≡ f) × (b ≡ same_tag x.1.initial tag))
+    → (xs : List (ℕ × Row.Nation)) → Drains (filter_steps (enumerate_steps nation_steps) g) s xs → (r : code.Option (ℕ × Row.Nation)) → r ≡ code-last None xs
+    → (m : code.Option Claim) → m ≡ option_map numbered-claim r → option_of m ≡ last_to tag (initial_claims ws)
+initial-last {it = it} g tag ws rows source count from callee called xs d r e m k =
+    let all : List (ℕ × Row.Nation) = enumerate_from 0 (map nation_in it.rows.now) in
+    let road =
+    YieldsList-from_filter g (λ p. same_tag p.1.initial tag)
+    (YieldsList-at from (YieldsList-from_enumerate (YieldsList-at source (YieldsList-from_first (λ n. n) (λ rs. map nation_in rs.rows.now) {s = it} (map nation_in it.rows.now) refl)) count))
+    callee called in
+    let came : map (λ p. p) xs ≡ filter (λ p. same_tag p.1.initial tag) all = (YieldsList-end road xs d.1.0 d.1.1 None d.0 refl d.1.2).0 in
+    ap option_of (k ∙ ap (option_map numbered-claim) e) ∙ last-mapped numbered-claim xs
+    ∙ ap last (ap (map numbered-claim) (sym (map-id xs) ∙ came) ∙ numbered-kept tag 0 (map nation_in it.rows.now) ∙ ap (λ rs. keep (λ c. same_tag c.tag tag) (initials_from 0 rs)) rows)
+
+-- ## The best claim
 
 -- A scan of two lists, one behind the other.
 pub scan-append : (p : Claim → Bool) (best : Option Claim) (xs ys : List Claim)
@@ -162,7 +173,28 @@ pub scan-append : (p : Claim → Bool) (best : Option Claim) (xs ys : List Claim
 scan-append p best [] ys = refl
 scan-append p best (x ∷ xs) ys = cases (p x) (λ h. simp h (scan-append p (better claim_day best x) xs ys)) (λ h. simp h (scan-append p best xs ys))
 
--- The code has tested whether the claim is to the tag, s, and dated not after the date, n.
-module _ (best : Option Claim) (claim : Claim) (tag : CountryTag) (date : Eu4Date) (s n : Bool) (p : s ≡ same_tag claim.tag tag) (q : n ≡ not_after claim.date date) where
-  pub not-asked : not (s && n) ≡ true → best ≡ scan claim_day best (keep (is_asked tag date) (claim ∷ []))
-  not-asked h = let t = not-true (s && n) h in rw (← p, ← q, t)
+-- The closure gives the later of two claims, and of equals the second, and stays as it was.
+module _ {F : Type 0} (g : Mut F (Claim × (Claim × Unit {0})) Claim) (f : F)
+    (called : (x y z : Claim) (q : F) → Called g f (x, (y, tt)) z q → (q ≡ f) × (some z ≡ cond (leb (claim_day x) (claim_day y)) (some y) (some x))) where
+  -- The best so far, and then the claims behind it.
+  best-turns : (xs : List Claim) (p q : F × Claim) → p.0 ≡ f → FoldsTo {P = F × Claim} (FoldTurn g) p xs q → some q.1 ≡ scan claim_day (some p.1) xs
+  best-turns [] p q a z = ap (λ (w : F × Claim). some w.1) (sym z)
+  best-turns (x ∷ xs) p q a z =
+      let j = z.0 in
+      let k = called p.1 x j.1 j.0 (subst (λ b. Called g b (p.1, (x, tt)) j.1 j.0) a z.1) in
+      best-turns xs j q k.0 z.2 ∙ ap (λ (w : Option Claim). scan claim_day w xs) k.1
+
+  pub best-reduced : {S : Type 0} {steps : S → code.Option Claim → S → Type 0} {s : S} (cs : List Claim) (r : code.Option Claim) → YieldsList steps (λ c. c) s cs
+      → ReducesItems steps g s f r → option_of r ≡ greatest claim_day cs
+  best-reduced cs None road d = ap (greatest claim_day) (YieldsList-end road [] d.1.0 d.1.1 None d.0 refl d.1.2).0
+  best-reduced cs (Some y) road d =
+      let all = d.3 in
+      best-turns d.1 (f, d.0) (d.2, y) refl d.4 ∙ scan-greatest claim_day (d.0 ∷ d.1)
+      ∙ ap (greatest claim_day) (sym (map-id (d.0 ∷ d.1)) ∙ (YieldsList-end road (d.0 ∷ d.1) all.1.0 all.1.1 None all.0 refl all.1.2).0)
+
+-- The claims that a question asks about.
+pub claims-asked : {F : Type 0} {it : Claims} {s : Filter Claims F} (g : Mut F (Bor Claim × Unit {0}) Bool) (p : Claim → Bool) {f : F} (cs : List Claim)
+    → claims_left it ≡ cs → filter_source s ≡ it → filter_callee s ≡ f → ((x : Claim) (b : Bool) (q : F) → CalledAt g f x b q → (q ≡ f) × (b ≡ p x))
+    → YieldsList (filter_steps (YieldsFirst claims_left) g) (λ c. c) s (keep p cs)
+claims-asked g p cs left source callee called =
+    rw (← filter_keep p cs) (YieldsList-from_filter g p (YieldsList-at source (YieldsList-from_first (λ c. c) claims_left cs left)) callee called)

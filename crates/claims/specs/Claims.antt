@@ -1,7 +1,7 @@
 -- Claims, by which the code finds a nation: a nation goes by its initial from date 0 on, and by the target of each of its switches from
 -- that switch's date on. Of the claims to a tag dated not after a question the latest answers it, and of equals the last: no date of a
 -- switch is 0, so that an initial answers only where no switch does.
-use Rattle.std.specs.Prelude.{Bool, ◌&&◌, List, [], ◌∷◌, ◌++◌, ℕ, ◌+◌, ◌-◌}
+use Rattle.std.specs.Prelude.{Bool, ◌&&◌, List, [], ◌∷◌, ◌++◌, ℕ, ◌+◌}
 use Rattle.std.proofs.Math.Option.{Option}
 use Rattle.lists.specs.Lists.{keep, join_of, last, greatest}
 use Rattle.format.specs.declared.tag.CountryTag.{CountryTag}
@@ -11,7 +11,7 @@ use Rattle.format.specs.Dates.{not_after}
 use Rattle.rules.specs.Chronicle.{Kind, switch, appeared, annexed, Entry}
 use Rattle.rules.specs.NationRows.{NationRow, nation_rows_in}
 use Rattle.rules.specs.Resolver.{TagData}
-use Rattle.chronicle_rows.specs.RowAt.{nation_row_at, nations_left, entries_at}
+use Rattle.chronicle_rows.specs.RowAt.{nation_row_at, nations_left, entries_at, counted_left}
 use Rattle.claims.specs.declared.claims.Claim.{Claim}
 use Rattle.claims.specs.declared.claims.Claims.{Claims}
 
@@ -26,10 +26,6 @@ kind_claims i date annexed = []
 -- Those to the targets of its entries.
 abbrev pub switch_claims : ℕ → List Entry → List Claim
 switch_claims i es = join_of (λ e. kind_claims i e.date e.kind) es
-
--- Those to the targets of its entries from a first number up to an end.
-abbrev pub switches_in : List ℕ → ℕ → ℕ → ℕ → List Claim
-switches_in es i first end = switch_claims i (entries_at es first (end - first))
 
 -- That of a nation to its initial, by its number and its row.
 abbrev pub initial_claim : ℕ → NationRow → Claim
@@ -57,14 +53,13 @@ claims_from es i (row ∷ rows) = nation_claims es i row ++ claims_from es (i + 
 unfoldable pub claims_in : List ℕ → List ℕ → List Claim
 claims_in ws es = claims_from es 0 (nation_rows_in ws)
 
--- Those that a walk has left: of its owner those to the targets of the entries from a first number up to an end, then those of the nations behind it,
--- numbered from i on.
-unfoldable pub left_of : List ℕ → ℕ → ℕ → ℕ → ℕ → List NationRow → List Claim
-left_of es owner first end i rows = switches_in es owner first end ++ claims_from es i rows
+-- Those that a walk has left: of its owner those to the targets of the entries that are left, then those of the nations behind it, numbered from i on.
+unfoldable pub left_of : List ℕ → ℕ → List Entry → ℕ → List NationRow → List Claim
+left_of es owner own i rows = switch_claims owner own ++ claims_from es i rows
 
 -- Those that an iterator has left.
 abbrev pub claims_left : Claims → List Claim
-claims_left c = left_of c.entries.now c.owner c.entry c.end c.coming (nations_left c.nations)
+claims_left c = left_of c.entries.now c.owner (counted_left c.own) c.coming (nations_left c.nations)
 
 -- ## The claim that answers a question
 

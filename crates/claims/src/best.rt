@@ -11,29 +11,22 @@ use format::{CountryTag, Eu4Date};
 pub fn best_claim(chronicle: Chronicle<'_>, tag: CountryTag, date: Eu4Date) -> Option<Claim>
     ensures { option_of result ≡ best_of tag date (claims_in chronicle.entry.nations.now chronicle.entry.entries.now) }
 {
-    let mut best: Option<Claim> = None;
-    for claim in Claims::of(chronicle) {
-        let asked = (claim.tag == tag) & (claim.date <= date);
-        if asked && best.is_none_or(|b| b.date <= claim.date) {
-            best = Some(claim);
-        }
-    }
-    best
+    Claims::of(chronicle)
+        .filter(|claim| (claim.tag == tag) & (claim.date <= date))
+        .reduce(|best, claim| if claim.date < best.date { best } else { claim })
 }
 
 // The last nation's claim to a tag as its initial, dated before every date.
 pub fn best_initial(nations: &[u32], tag: CountryTag) -> Option<Claim>
     ensures { option_of result ≡ last_to tag (initial_claims nations.now) }
 {
-    let mut best = None;
-    for (nation, row) in Nations::of(nations).enumerate() {
-        if row.initial == tag {
-            best = Some(Claim {
-                tag: row.initial,
-                date: Eu4Date::BEFORE_ALL,
-                nation,
-            });
-        }
-    }
-    best
+    Nations::of(nations)
+        .enumerate()
+        .filter(|(_, row)| row.initial == tag)
+        .last()
+        .map(|(nation, row)| Claim {
+            tag: row.initial,
+            date: Eu4Date::BEFORE_ALL,
+            nation,
+        })
 }

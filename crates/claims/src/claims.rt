@@ -1,9 +1,9 @@
 // Claims: a nation goes by its initial from before every date on, and by the target of each of its switches from that switch's date on.
-ghost use Rattle.std.specs.Prelude.{◌≡◌, ◌+◌, ◌^◌, ◌<◌, ◌≤◌, length};
+ghost use Rattle.std.specs.Prelude.{◌≡◌, [], ◌+◌, ◌^◌, ◌<◌, length};
 ghost use Rattle.std.specs.Iterator.{YieldsFirst, item_count};
-ghost use Rattle.chronicle_rows.specs.RowAt.{nations_left};
+ghost use Rattle.chronicle_rows.specs.RowAt.{counted_left, nations_left};
 
-use chronicle_rows::{Chronicle, Entry, Kind, Nations, entry_at};
+use chronicle_rows::{Chronicle, Kind, NationEntries, Nations};
 use format::{CountryTag, Eu4Date};
 
 // A nation, by its number from 0, goes by a tag from a date on.
@@ -14,16 +14,14 @@ pub struct Claim {
     pub nation: usize,
 }
 
-// An iterator over the claims of a chronicle, nation by nation: whose entries are left, from which number to which, and the nations behind it, of
-// which the first has the number `coming`. The number of every nation is a size of memory. Two numbers and no `Range`, which is not `Copy` as this
-// iterator is.
+// An iterator over the claims of a chronicle, nation by nation: whose entries are left, and which, and the nations behind it, of which the first has
+// the number `coming`. The number of every nation is a size of memory.
 #[derive(Clone, Copy)]
 pub struct Claims<'a> {
     nations: Nations<'a>,
     entries: &'a [u32],
     owner: usize,
-    entry: usize,
-    end: usize,
+    own: NationEntries<'a>,
     coming: usize,
     ghost few: { coming + length (nations_left nations) < 2 ^ 64 },
 }
@@ -39,8 +37,7 @@ impl<'a> Claims<'a> {
             nations: Nations::of(chronicle.nations),
             entries: chronicle.entries,
             owner: 0,
-            entry: 0,
-            end: 0,
+            own: NationEntries::none(),
             coming: 0,
         }
     }
@@ -48,19 +45,17 @@ impl<'a> Claims<'a> {
     // The claim of the nation that comes to its initial, dated before every date; its entries come behind it. The ghost field speaks of the nations left
     // and their first number at once: so they are set together.
     fn next_initial(&mut self) -> Option<Claim>
-        requires { self.old.end ≤ self.old.entry }
+        requires { counted_left self.old.own ≡ [] }
         ensures { YieldsFirst claims_left self.old result self.new }
     {
         let mut nations = self.nations;
         let row = nations.next()?;
         let nation = self.coming;
-        let entry = row.first as usize;
         *self = Claims {
             nations,
             entries: self.entries,
             owner: nation,
-            entry,
-            end: entry + row.count as usize,
+            own: row.entries(self.entries),
             coming: nation + 1,
         };
         Some(Claim {
@@ -80,19 +75,17 @@ impl<'a> Iterator for Claims<'a> {
 
     ghost remaining = { item_count claims_left };
 
+    // A `while let`, and no `find_map` over the entries: with the nation that comes behind them it would take as many lines, and a law of its own.
     fn next(&mut self) -> Option<Claim> {
-        for number in self.entry..self.end {
-            let Entry { date, kind } = entry_at(self.entries, number);
-            if let Kind::Switch(tag) = kind {
-                self.entry = number + 1;
+        while let Some(entry) = self.own.next() {
+            if let Kind::Switch(tag) = entry.kind {
                 return Some(Claim {
                     tag,
-                    date,
+                    date: entry.date,
                     nation: self.owner,
                 });
             }
         }
-        self.entry = self.end;
         self.next_initial()
     }
 }

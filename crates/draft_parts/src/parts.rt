@@ -42,10 +42,10 @@ pub fn nation_of(nations: &[u32], tag: CountryTag, number: Option<u32>) -> Natio
 }
 
 // Whether a country with so many players was released and is played on.
-fn is_released(human: bool, switched: bool, cities: i32, n: Nation, count: u32) -> bool
-    ensures { result ≡ released_by human switched cities (nation_told n) count }
+fn is_released(row: CountryRow<'_>, n: Nation, count: u32) -> bool
+    ensures { result ≡ released_by row.entry.human row.entry.has_switched_nation row.entry.cities (nation_told n) count }
 {
-    human & (count == 1) & (n.stored == n.latest) & switched & (0 < cities)
+    row.human & (count == 1) & (n.stored == n.latest) & row.has_switched_nation & (0 < row.cities)
 }
 
 // The draft of a country, from its nation and where its players stand among all. A draft counts nations from 1 on; the last number of a word, which
@@ -65,7 +65,7 @@ pub fn draft_of(
         stored: n.stored,
         nation: number.map_or(0, |number| number.wrapping_add(1)),
         human: row.human,
-        released: is_released(row.human, row.has_switched_nation, row.cities, n, count),
+        released: is_released(row, n, count),
         first,
         count,
     }

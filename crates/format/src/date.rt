@@ -62,8 +62,8 @@ impl Eu4Date {
         self.in_years() & is_day(self.month_day())
     }
 
-    // The date that was kept as its word in a sort key or a cell. Nothing is tested: a word from outside goes through `try_from`, beside which no
-    // `From<u32>` can stand.
+    // The date of a word as it stands. Nothing is tested: sort keys and cells hold what was put there, and words of lent rows or from C are tested by
+    // `good` where they are used, each in its turn. No `From<u32>`, which cannot stand beside `try_from`.
     pub fn kept(word: u32) -> Eu4Date
         ensures { result.0 ≡ word }
     {

@@ -31,7 +31,8 @@ impl Refusal {
     }
 }
 
-// How a program prints it. The page's line of it (page_lines, `refused_line`) is put together anew: its memory is an ArrayVec, which is no `fmt::Write`.
+// How a program prints it. The page's line of it (page_lines, `refused_line`) is put together anew: `write!` into its ArrayVec promises the bytes where it
+// is Ok, and nowhere that it is.
 impl fmt::Display for Refusal {
     ghost output = { λ refusal. Some (refused_text refusal) };
 

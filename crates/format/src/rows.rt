@@ -40,7 +40,8 @@ pub struct OwnerEvent {
     pub tag: CountryTag,
 }
 
-// Kind 0 adds an attacker, 1 a defender; 2 and 3 remove one; 4 is a battle. A number and no enum: a row is read before its check, whatever its byte.
+// Kind 0 adds an attacker, 1 a defender; 2 and 3 remove one; 4 is a battle. A number and no enum: the check of a row is asked of this type, and must
+// tell a kind above 4 from the others. The kind of a lent entry (chronicle_rows) is tested as a number before an enum is made of it.
 #[derive(Clone, Copy, Debug, PartialEq, Eq)]
 pub struct WarEvent {
     pub date: Eu4Date,

@@ -54,7 +54,7 @@ scratch-blank n m h q =
 
 -- ## From the cells to the nations
 
-module _ (c : Countries) (ws zeros cells keys : List ℕ) (count : ℕ) (out₀ out₁ : List Draft) where
+module _ (most : ℕ) (c : Countries) (ws zeros cells keys : List ℕ) (count : ℕ) (out₀ out₁ : List Draft) where
   told-drafts : length (tags_left c) ≤ length zeros → ((q : ℕ) → get_or zeros q 0 ≡ 0) → cells ≡ marked_from (tags_left c) zeros 0 (tags_stored ws)
       → map (draft_for ws (tags_left c) cells keys) (played_left c) ≡ map (λ k. draft_with ws keys k (stored_word ws k.tag)) (played_left c)
   told-drafts room blank marked =
@@ -67,8 +67,8 @@ module _ (c : Countries) (ws zeros cells keys : List ℕ) (count : ℕ) (out₀ 
       (countries_left c) (all-placed [] (countries_left c))))
 
   pub drafts-told : FillsDrafts c ws cells keys count out₀ out₁ → length (tags_left c) ≤ length zeros → ((q : ℕ) → get_or zeros q 0 ≡ 0)
-      → cells ≡ marked_from (tags_left c) zeros 0 (tags_stored ws) → length (countries_left c) ≤ 2000
-      → length out₁ ≡ 2000 → HoldsDrafts c ws keys count out₁
+      → cells ≡ marked_from (tags_left c) zeros 0 (tags_stored ws) → length (countries_left c) ≤ most
+      → length out₁ ≡ most → HoldsDrafts most c ws keys count out₁
   drafts-told f room blank marked few long =
       let ds : List Draft = map (draft_for ws (tags_left c) cells keys) (played_left c) in
       let many : length ds ≡ count = length-map (played_left c) (draft_for ws (tags_left c) cells keys) ∙ sym f.counted in

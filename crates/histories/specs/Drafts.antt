@@ -61,17 +61,18 @@ pub record FillsDrafts (c : Countries) (ws cells keys : List ℕ) (count : ℕ) 
   pub counted : count ≡ length (played_left c)
   pub drafts : out₁ ≡ map (draft_for ws (tags_left c) cells keys) (played_left c) ++ drop count out₀
 
--- At most as many countries as a record has, and room for each.
-pub record DraftReady (c : Countries) (keys : List ℕ) (out : List Draft) : Type 0 where
-  pub few : length (countries_left c) ≤ 2000
+-- At most so many countries, no more than a record has, and room for each.
+pub record DraftReady (most : ℕ) (c : Countries) (keys : List ℕ) (out : List Draft) : Type 0 where
+  pub few : length (countries_left c) ≤ most
+  pub possible : most ≤ 2000
   pub short : length keys ≤ 1000
-  pub room : length out ≡ 2000
+  pub room : length out ≡ most
 
 -- So many drafts, by the nations.
-pub record HoldsDrafts (c : Countries) (ws keys : List ℕ) (count : ℕ) (out : List Draft) : Type 0 where
+pub record HoldsDrafts (most : ℕ) (c : Countries) (ws keys : List ℕ) (count : ℕ) (out : List Draft) : Type 0 where
   pub counted : count ≡ length (played_left c)
-  pub few : count ≤ 2000
-  pub long : length out ≡ 2000
+  pub few : count ≤ most
+  pub long : length out ≡ most
   pub drafts : take count out ≡ map (λ k. draft_with ws keys k (stored_word ws k.tag)) (played_left c)
 
 -- ## The draft of a history

@@ -9,7 +9,6 @@ ghost use Rattle.histories.specs.Drafts.{RunOf, draft_for, FillReady, FillsDraft
 use crate::tables;
 use arranging::Draft;
 use draft_parts::{draft_of, mark_nations, nation_of, stored_nation};
-use format::MOST_COUNTRIES;
 use record::{Countries, CountryRow, CountryTag};
 use search::{KEYS_PER_TAG, SortedKeys, tag_key};
 use sorting::sort_keys;
@@ -42,7 +41,8 @@ fn draft_for(
     draft_of(row, nation, number, run.start as u32, run.len() as u32)
 }
 
-// Writes the draft of each country that was played, and returns how many: so they are counted by hand, which `enumerate` does not tell in the end.
+// Writes the draft of each country that was played, and returns how many: they are counted by hand, for not every country has one. The tables are no
+// struct: it would be made at the one call, and taken apart in the one function below.
 fn fill_drafts(
     countries: Countries<'_>,
     nations: &[u32],
@@ -64,19 +64,19 @@ fn fill_drafts(
     n
 }
 
-// Drafts the histories of a record, of which there are at most as many as countries, and returns how many. The tags and cells of countries are arrays,
-// for no memory is allocated.
-pub(crate) fn draft_countries(
+// Drafts the histories of a record, of which there are at most as many as countries, and returns how many. Arrays hold the tags and the cells of at
+// most so many countries, for no memory is allocated.
+pub(crate) fn draft_countries<const COUNTRIES: usize>(
     countries: Countries<'_>,
     nations: &[u32],
     players: SortedKeys<'_>,
     out: &mut [Draft],
 ) -> usize
-    requires { DraftReady countries players.keys.now out.old }
-    ensures { HoldsDrafts countries.entry nations.now players.entry.keys.now result out.new }
+    requires { DraftReady COUNTRIES countries players.keys.now out.old }
+    ensures { HoldsDrafts COUNTRIES countries.entry nations.now players.entry.keys.now result out.new }
 {
-    let mut tags = [0u64; MOST_COUNTRIES];
-    let mut cells = [0u64; MOST_COUNTRIES];
+    let mut tags = [0u64; COUNTRIES];
+    let mut cells = [0u64; COUNTRIES];
     let n = countries.len();
     tables::fill_countries(countries, &mut tags);
     // The sort leaves its scratch cleared, so that no country is marked yet.

@@ -12,8 +12,9 @@ use record::Countries;
 use search::{SortedKeys, tag_key};
 use sorting::sort_keys;
 
-// Writes the key of each country's tag in row order. One more such loop stands in page_text, over nations: a shared one would be public, and would have to
-// require that its iterator goes on.
+// Writes the key of each country's tag in row order. One more such loop stands in page_text, over nations. A function for both would be public, without
+// `requires`: a trait would have to say that its iterator may be asked and ends, as `Changing` does (change_keys). That trait and its two impls take 27
+// lines, and the two loops 18 with their contracts.
 #[tactic(auto, unfolding(search::specs::Places::tag_keys_from))]
 pub(crate) fn fill_countries(countries: Countries<'_>, keys: &mut [u64])
     requires { (length (tags_left countries) ≤ length keys.old) × (length keys.old ≤ 65536) }
@@ -45,8 +46,9 @@ pub(crate) fn sort_players<'a>(
     requires { length (players_left players) ≤ 1000 }
     ensures { result.keys.now ≡ sort_by leb (map player_key (players_left players.entry)) }
 {
-    let n = fill_players(players, keys);
+    // Made before the keys are written: made behind that loop it would be cleared twice.
     let mut scratch = [0u64; MOST_STRINGS];
+    let n = fill_players(players, keys);
     sort_keys(&mut keys[..n], &mut scratch);
     SortedKeys { keys: &keys[..n] }
 }

@@ -1,17 +1,16 @@
 -- Histories that lack Appeared: entry by entry, row by row, and by the rules.
 use mathlib.Core.Path.{◌≡◌, refl, sym, ap, ◌∙◌}
-use mathlib.Core.Bool.{Bool, true, false, cond, not, ◌&&◌, ◌||◌}
+use mathlib.Core.Bool.{Bool, true, false, cond, not, ◌&&◌}
 use mathlib.Core.List.{List, [], ◌∷◌}
 use mathlib.Core.Option.{Option, none, some}
 use Prim.Native.Nat.{ℕ, zero, suc, ◌+◌, ◌<◌, ◌≤◌}
-use native.Mathlib.Numerals.{add-one}
 use native.Mathlib.Omega.{arith}
 use borrow.Author.Tests.{leb-true, ne_eqb}
 use lib.Dec.{eqb}
 use lib.ListN.{length, get_or, get_elem?, length-map}
 use Rattle.std.specs.Prelude as code
 use Rattle.std.specs.Bool.{then_some}
-use Rattle.std.specs.List.{list_any, range_with_len}
+use Rattle.std.specs.List.{list_any}
 use Rattle.lists.specs.Lists.{keep, any_of, all_of, numbers_from, is_whole}
 use Rattle.lists.proofs.BoolLaws.{cases, and_right}
 use Rattle.lists.proofs.ListLaws.{all_map, map_at, length-numbers}
@@ -27,37 +26,32 @@ use Rattle.format.proofs.FirstLaws.{first-stop, first-pass, first_one}
 use Rattle.format.proofs.RefusedLaws.{refuses}
 use Rattle.rules.specs.Lent.{refused, gives}
 use Rattle.rules.specs.Chronicle.{is_appeared, Entry}
-use Rattle.rules.specs.NationRows.{nation_rows_in, nations_in, well_shaped}
+use Rattle.rules.specs.NationRows.{NationRow, nation_rows_in, nations_in, well_shaped}
 use Rattle.rules.specs.HistoryRows.{HistoryRow, history_width, history_row_of, history_rows_in, history_shaped, histories_shaped}
 use Rattle.rules.specs.StartingCountry.{history_entries, lacks_appeared, starting_of, starting_country}
 use Rattle.rules.specs.Refusals.{chronicle_number, histories_number}
 use Rattle.rules.specs.PlayerOutcomes.{call_starting_country}
 use Rattle.rules.proofs.LentLaws.{answered-gives}
-use Rattle.chronicle_rows.specs.RowAt.{nation_row_at, entry_at, entries_at, nation_numbered}
+use Rattle.chronicle_rows.specs.RowAt.{nation_row_at, entries_at, nation_numbered}
 use Rattle.chronicle_rows.proofs.NumberedLaws.{nations-numbered}
 use Rattle.history_rows.specs.declared.rows.History.{History}
 use Rattle.history_rows.specs.Cases.{history_told}
 use Rattle.history_rows.specs.HistoryAt.{history_row_at}
 use Rattle.history_rows.specs.LackSteps.{entries_behind, appeared_in, lacks_in}
+use Rattle.lists.proofs.CodeLaws.{some_same}
 
--- ## Entry by entry
-
-module _ (es : List ℕ) where
-  -- Some number from `at` on is of an entry that is Appeared.
-  pub appeared-numbered : (at n : ℕ) → list_any (λ i. is_appeared (entry_at es i).kind) (range_with_len at n) ≡ any_of (λ e. is_appeared e.kind) (entries_at es at n)
-  appeared-numbered at zero = refl
-  appeared-numbered at (suc n) = rw (add-one at) (ap (λ b. is_appeared (entry_at es at).kind || b) (appeared-numbered (suc at) n))
+-- ## The entries of a nation
 
 module _ (ws es : List ℕ) (nation : ℕ) where
   pub bare-history : nation ≡ 0 → false ≡ appeared_in ws es nation
   bare-history e = rw e
 
-  -- The row of its nation, as the code has read it.
-  pub nation-walk : (m first count : ℕ) (b : Bool) → m + 1 ≡ nation → first ≡ (nation_row_at ws m).first → count ≡ (nation_row_at ws m).count
-      → b ≡ list_any (λ i. is_appeared (entry_at es i).kind) (range_with_len first count) → b ≡ appeared_in ws es nation
-  nation-walk m first count b e f g h =
+  -- The row of its nation, as the code has read it, and the entries that it counts.
+  pub nation-walk : (m : ℕ) (row : NationRow) (all : List Entry) (b : Bool) → m + 1 ≡ nation → row ≡ nation_row_at ws m → all ≡ entries_at es row.first row.count
+      → b ≡ list_any (λ e. is_appeared e.kind) all → b ≡ appeared_in ws es nation
+  nation-walk m row all b e r a h =
       let s : nation ≡ suc m = omega arith in
-      h ∙ appeared-numbered es first count ∙ rw (s, f, g)
+      h ∙ some_same (λ e. is_appeared e.kind) all ∙ rw (s, a, r)
 
 -- ## What is left tells the starting country
 
@@ -118,11 +112,6 @@ module _ (ws es : List ℕ) (shaped : well_shaped ws es ≡ true) where
       (sym (keep_same (lacks_appeared (nations_in ws es)) (lacks_in ws es) rs (all_map lacking-same rs (all_of-all (history_shaped (length (nations_in ws es))) rs h))))
 
 -- ## `starting_country`
-
--- A chronicle was opened.
-pub opened-shaped : (ws es : List ℕ) → ◌≡◌ {A = ℕ} 0 (cond (well_shaped ws es) 0 11) → well_shaped ws es ≡ true
-opened-shaped ws es h =
-    cases (well_shaped ws es) (λ t. t) (λ t. let z : ◌≡◌ {A = ℕ} 0 11 = h ∙ rw t refl in absurd (omega arith))
 
 module _ (hs ws es : List ℕ) where
   torn : well_shaped ws es ≡ false → refused 11 ≡ call_starting_country hs ws es

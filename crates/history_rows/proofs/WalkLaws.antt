@@ -1,6 +1,6 @@
 -- What iterators over history rows give, and what is known of a list once the first of it were asked for.
 use mathlib.Core.Path.{◌≡◌, refl, sym, ap, subst, ◌∙◌}
-use mathlib.Core.Bool.{Bool, cond}
+use mathlib.Core.Bool.{Bool}
 use mathlib.Core.List.{List, [], ◌∷◌, map}
 use denote.Param.Members.{Mut}
 use denote.Ref.{Bor}
@@ -10,20 +10,16 @@ use Rattle.std.specs.Prelude.{Some, None}
 use Rattle.std.specs.Fn.{CalledAt}
 use Rattle.std.specs.Iterator.{YieldsFirst}
 use Rattle.std.specs.Iterator.Adapters.{filter_source, filter_callee, filter_steps}
-use Rattle.std.specs.List.{filter}
 use Rattle.std.specs.declared.iter.Filter.{Filter}
 use Rattle.std.proofs.lemmas.Iterator.{YieldsList}
 use Rattle.std.proofs.lemmas.Iterator.Consumers.{YieldsList-at, YieldsList-from_shown, YieldsList-from_filter}
 use Rattle.lists.specs.Lists.{keep}
+use Rattle.lists.proofs.CodeLaws.{filter_keep}
 use Rattle.chronicle_rows.specs.declared.rows.LentRows.{LentRows}
 use Rattle.rules.specs.HistoryRows.{HistoryRow}
 use Rattle.history_rows.specs.declared.rows.History.{History}
 use Rattle.history_rows.specs.Cases.{history_told, history_in}
 use Rattle.history_rows.specs.HistoryAt.{histories_left}
-
-pub filter_keep : {A : Type 0} (p : A → Bool) (xs : List A) → filter p xs ≡ keep p xs
-filter_keep p [] = refl
-filter_keep p (x ∷ xs) = ap (λ (l : List _). cond (p x) (x ∷ l) l) (filter_keep p xs)
 
 -- The rows of a walk.
 abbrev pub walk_steps : LentRows History 7 → code.Option History → LentRows History 7 → Type 0

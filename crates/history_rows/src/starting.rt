@@ -11,7 +11,7 @@ ghost use Rattle.history_rows.specs.Cases.{starting_answer};
 ghost use Rattle.history_rows.specs.LackSteps.{appeared_in, lacks_in};
 
 use crate::rows::{Histories, history_at, history_count, is_history_shaped};
-use chronicle_rows::{Chronicle, Kind, entry_at, nation_at, nation_count};
+use chronicle_rows::{Chronicle, Kind, nation_at, nation_count};
 use format::{CountryTag, Refusal};
 
 // Whether it is Appeared. Not by `==`, which is promised of the code's kinds and not of those of the definitions.
@@ -29,9 +29,8 @@ fn has_appeared(chronicle: Chronicle<'_>, nation: u32) -> bool
         return false;
     };
     let row = nation_at(chronicle.nations, nation as usize);
-    let first = row.first as usize;
-    let end = first + row.count as usize;
-    (first..end).any(|number| is_appeared(entry_at(chronicle.entries, number).kind))
+    row.entries(chronicle.entries)
+        .any(|entry| is_appeared(entry.kind))
 }
 
 // The starting country of rows that are well shaped: of a single history that lacks Appeared its initial, and where none does, of a sole one.

@@ -3,7 +3,7 @@ use mathlib.Core.Path.{◌≡◌, refl, sym, ap, subst, ◌∙◌}
 use mathlib.Core.List.{List, [], ◌∷◌, ◌++◌, map, append_assoc, append-nil}
 use mathlib.Core.Option
 use mathlib.Core.Option.{none, some}
-use Prim.Native.Nat.{ℕ, zero, suc, ◌+◌, ◌%◌, ◌<◌, ◌≤◌}
+use Prim.Native.Nat.{ℕ, zero, suc, ◌+◌, ◌-◌, ◌%◌, ◌<◌, ◌≤◌}
 use native.Mathlib.Nat.{mod-eq_of_lt, sub-zero}
 use native.Mathlib.Omega.{arith}
 use lib.Dec.{leb}
@@ -11,6 +11,7 @@ use lib.ListN.{length, take, drop, set, get_or, length-append, length-map, lengt
 use lib.Seq.{take_at, drop-drop}
 use Rattle.std.specs.Prelude as code
 use Rattle.std.specs.Prelude.{Some, None}
+use Rattle.std.specs.declared.ops.Range.{Range}
 use Rattle.std.proofs.lemmas.List.{get_or-map, map-append}
 use Rattle.lists.specs.Lists.{first_that, join_of}
 use Rattle.lists.specs.Options.{option_of}
@@ -30,7 +31,6 @@ use Rattle.record.specs.declared.ledger.Ledgers.{Ledgers}
 use Rattle.record.specs.Cursors.{points_left, ledger_of, ledgers_left, all_points}
 use Rattle.search.specs.Places.{tag_key, tag_keys_from, place_from}
 use Rattle.search.proofs.PlaceLaws.{tag-keys-nil, tag-keys-cons, length-tag-keys, first-placed, place_inside}
-use Rattle.ledger.specs.declared.index.Place.{Place}
 use Rattle.ledger.specs.Index.{name_keys, points_at, IsIndex}
 
 abbrev ledger_tags : List Ledger → List CountryTag
@@ -73,7 +73,7 @@ standing all (r ∷ rs) first =
 -- ## Filled name by name
 
 -- So many names are done, and the others are left; the next point has the number `first`.
-pub record Naming (c : Ledgers) (left : List Ledger) (cells count first : ℕ) (keys₀ keys : List ℕ) (places : List Place) : Type 0 where
+pub record Naming (c : Ledgers) (left : List Ledger) (cells count first : ℕ) (keys₀ keys : List ℕ) (places : List (Range ℕ)) : Type 0 where
   pub keys-so-far : Filling (name_keys (ledgers_left c)) (tag_keys_from count (ledger_tags left)) keys₀ count keys
   pub points-so-far : map (points_at (all_points c)) (take count places) ++ points_in left ≡ points_in (ledgers_left c)
   pub standing-left : Standing (all_points c) first left
@@ -82,7 +82,7 @@ pub record Naming (c : Ledgers) (left : List Ledger) (cells count first : ℕ) (
   pub cells-enough : count + length left ≤ cells
   pub long : length places ≡ cells
 
-pub naming-start : (c : Ledgers) (left : List Ledger) (cells : ℕ) (keys : List ℕ) (places : List Place) → left ≡ ledgers_left c
+pub naming-start : (c : Ledgers) (left : List Ledger) (cells : ℕ) (keys : List ℕ) (places : List (Range ℕ)) → left ≡ ledgers_left c
     → length (ledgers_left c) ≤ 2000 → length (join_of (λ l. l.points) (ledgers_left c)) ≤ 1000000 → length (ledgers_left c) ≤ cells
     → length keys ≡ cells → length places ≡ cells → Naming c left cells 0 0 keys keys places
 naming-start c left cells keys places e few points enough k p =
@@ -97,7 +97,7 @@ naming-start c left cells keys places e few points enough k p =
       long = p;
     })
 
-module _ {c : Ledgers} {left : List Ledger} {cells count first : ℕ} {keys₀ keys : List ℕ} {places : List Place} (n : Naming c left cells count first keys₀ keys places)
+module _ {c : Ledgers} {left : List Ledger} {cells count first : ℕ} {keys₀ keys : List ℕ} {places : List (Range ℕ)} (n : Naming c left cells count first keys₀ keys places)
     (row : LedgerRow) {rest : List Ledger} (e : left ≡ ledger_of row ∷ rest) where
   keys-left : tag_keys_from count (ledger_tags left) ≡ tag_key row.tag count ∷ tag_keys_from (count + 1) (ledger_tags rest)
   keys-left = ap (λ (ls : List Ledger). tag_keys_from count (ledger_tags ls)) e ∙ tag-keys-cons count row.tag (ledger_tags rest)
@@ -114,16 +114,17 @@ module _ {c : Ledgers} {left : List Ledger} {cells count first : ℕ} {keys₀ k
   standing-here : Standing (all_points c) first (ledger_of row ∷ rest)
   standing-here = subst (Standing (all_points c) first) e n.standing-left
 
-  pub naming-next : (key : ℕ) → key ≡ tag_key row.tag (count % 65536) → (m : ℕ) → m ≡ length (points_left row.points) → (place : Place)
-      → place.first ≡ first → place.count ≡ m → Naming c rest cells (count + 1) (first + m) keys₀ (set keys count key) (set places count place)
-  naming-next key k m q place f g =
+  naming-more : (key : ℕ) → key ≡ tag_key row.tag (count % 65536) → (m : ℕ) → m ≡ length (points_left row.points) → (place : Range ℕ)
+      → place.start ≡ first → place.end ≡ first + m → Naming c rest cells (count + 1) (first + m) keys₀ (set keys count key) (set places count place)
+  naming-more key k m q place f g =
       let long = ap length e in
       let number : count % 65536 ≡ count = mod-eq_of_lt (omega (arith, n.few)) in
-      let own : points_at (all_points c) place ≡ points_left row.points = rw (f, g, q) (sym standing-here.0) in
+      let wide : (first + m) - first ≡ m = omega arith in
+      let own : points_at (all_points c) place ≡ points_left row.points = rw (f, g, wide, q) (sym standing-here.0) in
       record {
         keys-so-far = filling-put _ _ _ _ _ n.keys-so-far _ _ keys-left key (k ∙ ap (tag_key row.tag) number);
         points-so-far =
-            ap (λ (ps : List Place). map (points_at (all_points c)) ps ++ points_in rest) (take-set-more places count place naming-room.1)
+            ap (λ (ps : List (Range ℕ)). map (points_at (all_points c)) ps ++ points_in rest) (take-set-more places count place naming-room.1)
             ∙ (ap (λ (ps : List (List Point)). ps ++ points_in rest) (map-append (points_at (all_points c)) (take count places) (place ∷ []))
             ∙ (append_assoc (map (points_at (all_points c)) (take count places)) (points_at (all_points c) place ∷ []) (points_in rest)
             ∙ (ap (λ (ps : List Point). map (points_at (all_points c)) (take count places) ++ (ps ∷ points_in rest)) own
@@ -135,9 +136,15 @@ module _ {c : Ledgers} {left : List Ledger} {cells count first : ℕ} {keys₀ k
         long = length-set places count place ∙ n.long;
       }
 
+  -- By its number and the next, as the code counts.
+  pub naming-next : (at next : ℕ) → at ≡ count → next ≡ count + 1 → (key : ℕ) → key ≡ tag_key row.tag (at % 65536) → (m : ℕ)
+      → m ≡ length (points_left row.points) → (place : Range ℕ) → place.start ≡ first → place.end ≡ first + m
+      → Naming c rest cells next (first + m) keys₀ (set keys at key) (set places at place)
+  naming-next at next a b key k m q place f g = rw (a, b) (naming-more key (k ∙ ap (λ i. tag_key row.tag (i % 65536)) a) m q place f g)
+
 -- ## The keys sorted
 
-module _ {c : Ledgers} {left : List Ledger} {cells count first : ℕ} {keys₀ keys : List ℕ} {places : List Place}
+module _ {c : Ledgers} {left : List Ledger} {cells count first : ℕ} {keys₀ keys : List ℕ} {places : List (Range ℕ)}
     (n : Naming c left cells count first keys₀ keys places) (e : left ≡ []) where
   done : tag_keys_from count (ledger_tags left) ≡ []
   done = ap (λ (l : List Ledger). tag_keys_from count (ledger_tags l)) e ∙ tag-keys-nil count
@@ -151,26 +158,38 @@ module _ {c : Ledgers} {left : List Ledger} {cells count first : ℕ} {keys₀ k
   pub places-inside : count ≤ length places
   places-inside = omega (arith, n.cells-enough, n.long)
 
-  pub names-sorted : (sorted scratch₀ scratch₁ : List ℕ) → Sorts (take count keys) sorted scratch₀ scratch₁
+  front-sorted : (sorted scratch₀ scratch₁ : List ℕ) → Sorts (take count keys) sorted scratch₀ scratch₁
       → take count (sorted ++ drop count keys) ≡ sort_by leb (name_keys (ledgers_left c))
-  names-sorted sorted scratch₀ scratch₁ s =
+  front-sorted sorted scratch₀ scratch₁ s =
       let ls = ledgers_left c in
       let cells =
       (rw sub-zero at (sorted_front (name_keys ls) keys₀ keys sorted count (filling-written _ _ _ _ _ n.keys-so-far done) (counted ∙ sym (length-names ls)) (rw sub-zero s.keys))) in
       let size : length (sort_by leb (name_keys ls)) ≡ count = length-sort leb (name_keys ls) ∙ length-names ls ∙ sym counted in
       ap (take count) cells ∙ take_at (sort_by leb (name_keys ls)) (drop (length (sort_by leb (name_keys ls))) keys₀) count size
 
-  pub names-indexed : (sorted : List ℕ) → sorted ≡ sort_by leb (name_keys (ledgers_left c)) → IsIndex c sorted (take count places)
-  names-indexed sorted s =
+  front-indexed : (sorted : List ℕ) → sorted ≡ sort_by leb (name_keys (ledgers_left c)) → IsIndex c sorted (take count places)
+  front-indexed sorted s =
       record {
         few = omega (arith, n.few, counted);
         sorted = s;
         placed = sym (append-nil (map (points_at (all_points c)) (take count places))) ∙ (ap (λ (l : List Ledger). map (points_at (all_points c)) (take count places) ++ points_in l) (sym e) ∙ n.points-so-far);
       }
 
+  -- By the number of all names.
+  module _ {names : ℕ} (h : names ≡ length (ledgers_left c)) where
+    all-named : names ≡ count
+    all-named = h ∙ sym counted
+
+    pub names-sorted : (sorted scratch₀ scratch₁ : List ℕ) → Sorts (take names keys) sorted scratch₀ scratch₁
+        → take names (sorted ++ drop names keys) ≡ sort_by leb (name_keys (ledgers_left c))
+    names-sorted sorted scratch₀ scratch₁ s = rw all-named (front-sorted sorted scratch₀ scratch₁ (rw all-named at s))
+
+    pub names-indexed : (sorted : List ℕ) → sorted ≡ sort_by leb (name_keys (ledgers_left c)) → IsIndex c sorted (take names places)
+    names-indexed sorted s = rw all-named (front-indexed sorted s)
+
 -- ## A tag's points
 
-module _ {c : Ledgers} {keys : List ℕ} {places : List Place} (x : IsIndex c keys places) (tag : CountryTag) (r : code.Option ℕ)
+module _ {c : Ledgers} {keys : List ℕ} {places : List (Range ℕ)} (x : IsIndex c keys places) (tag : CountryTag) (r : code.Option ℕ)
     (told : (ts : List CountryTag) → length ts ≤ 65536 → keys ≡ sort_by leb (tag_keys_from 0 ts) → option_of r ≡ place_from 0 tag ts) where
   abbrev names : List Ledger
   names = ledgers_left c
@@ -198,7 +217,7 @@ module _ {c : Ledgers} {keys : List ℕ} {places : List Place} (x : IsIndex c ke
     pub found_few : i < 2000
     found_few = omega (arith, name-inside, x.few)
 
-    pub found-points : (d : Place) (ps : List Point) → ps ≡ points_at (all_points c) (get_or places i d)
+    pub found-points : (d : Range ℕ) (ps : List Point) → ps ≡ points_at (all_points c) (get_or places i d)
         → some ps ≡ Option.map (λ l. l.points) (first_that (λ l. same_tag l.tag tag) names)
     found-points d ps p =
         let own : points_at (all_points c) (get_or places i d) ≡ (get_or names i no_name).points =

@@ -1,23 +1,23 @@
 -- The ledger names as sorted keys, with the place of the points of each. Inner promises alone cite it.
-use Rattle.std.specs.Prelude.{◌≡◌, List, map, ℕ, ◌≤◌, leb, length, take, drop}
+use Rattle.std.specs.Prelude.{◌≡◌, List, map, ℕ, ◌-◌, ◌≤◌, leb, length, take, drop}
 use Rattle.sorting.specs.Sort.{sort_by}
 use Rattle.format.specs.declared.rows.Point.{Point}
 use Rattle.format.specs.Campaign.{Ledger}
 use Rattle.record.specs.declared.ledger.Ledgers.{Ledgers}
 use Rattle.record.specs.Cursors.{ledgers_left, all_points}
 use Rattle.search.specs.Places.{tag_keys_from}
-use Rattle.ledger.specs.declared.index.Place.{Place}
+use Rattle.std.specs.declared.ops.Range.{Range}
 
 -- The keys of the names, numbered from 0 in record order.
 abbrev pub name_keys : List Ledger → List ℕ
 name_keys ls = tag_keys_from 0 (map (λ l. l.tag) ls)
 
 -- The points that stand in a place.
-abbrev pub points_at : List Point → Place → List Point
-points_at all p = take p.count (drop p.first all)
+abbrev pub points_at : List Point → Range ℕ → List Point
+points_at all p = take (p.end - p.start) (drop p.start all)
 
 -- What a search by tag needs: the sorted keys of all names, and the place of the points of each.
-pub record IsIndex (c : Ledgers) (keys : List ℕ) (places : List Place) : Type 0 where
+pub record IsIndex (c : Ledgers) (keys : List ℕ) (places : List (Range ℕ)) : Type 0 where
   pub few : length (ledgers_left c) ≤ 2000
   pub sorted : keys ≡ sort_by leb (name_keys (ledgers_left c))
   pub placed : map (points_at (all_points c)) places ≡ map (λ l. l.points) (ledgers_left c)

@@ -6,6 +6,7 @@ ghost use Rattle.ledger.specs.Index.{IsIndex};
 
 use record::{Eu4Date, Ledgers};
 use search::SortedKeys;
+use std::ops::Range;
 
 // A record of no more ledger names has few: cells for so many take less time to clear than those for the most.
 pub(crate) const FEW_LEDGERS: usize = 64;
@@ -21,24 +22,15 @@ pub(crate) struct Frame<'a> {
     ghost few_points: { length (join_of (λ l. l.points) (ledgers_left ledgers)) ≤ 1000000 },
 }
 
-// Where the points of a name stand among those of all: the number of the first, and how many they are. Not the points themselves: of an array of
-// references whose length is a const parameter nothing can be proved. No `Range`, which is not Copy: each look-up would clone one.
-#[derive(Clone, Copy)]
-pub(crate) struct Place {
-    pub(crate) first: usize,
-    pub(crate) count: usize,
-}
-
-impl Place {
-    // No points.
-    pub(crate) const NONE: Place = Place { first: 0, count: 0 };
-}
+// The place of no points among those of all. A name has a place and not the points themselves: of an array of references whose length is a const
+// parameter nothing can be proved.
+pub(crate) const NO_PLACE: Range<usize> = 0..0;
 
 // The sorted keys of the names, and where the points of each stand, in cells that are lent: a caller clears no more of them than it needs.
 #[derive(Clone, Copy)]
 pub(crate) struct LedgerIndex<'n, 'a> {
     pub(crate) frame: Frame<'a>,
     pub(crate) keys: SortedKeys<'n>,
-    pub(crate) places: &'n [Place],
+    pub(crate) places: &'n [Range<usize>],
     ghost indexed: { IsIndex frame.ledgers keys.keys.now places.now },
 }

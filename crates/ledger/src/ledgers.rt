@@ -5,7 +5,7 @@ ghost use Rattle.record.specs.Cursors.{ledgers_left};
 ghost use Rattle.ledger.specs.Asked.{AllAsked};
 ghost use Rattle.ledger.specs.Cases.{ledger_cells, ledgers_outcome};
 
-use crate::index::{FEW_LEDGERS, Frame, LedgerIndex, Place};
+use crate::index::{FEW_LEDGERS, Frame, LedgerIndex, NO_PLACE};
 use chronicle_rows::{Chronicle, nation_count};
 use format::MOST_LEDGERS;
 use record::Refusal;
@@ -26,7 +26,7 @@ fn ledgers_indexed<const NAMES: usize>(
         return Err(Refusal::NoRoom);
     }
     let mut keys = [0; NAMES];
-    let mut places = [Place::NONE; NAMES];
+    let mut places = [NO_PLACE; NAMES];
     let ledgers = LedgerIndex::of(frame, &mut keys, &mut places);
     let room = out.len() / LEDGER_WIDTH;
     let n = ledgers.count_all(chronicle, room + 1);

@@ -9,7 +9,7 @@ ghost use Rattle.ledger.specs.Cases.{ledger_answer, ledger_outcome};
 ghost use Rattle.ledger.specs.Asked.{asked_number, RightlyAsked};
 ghost use Rattle.ledger.specs.Ledgers.{row_ledger};
 
-use crate::index::{FEW_LEDGERS, Frame, LedgerIndex, Place};
+use crate::index::{FEW_LEDGERS, Frame, LedgerIndex, NO_PLACE};
 use chronicle_rows::{Chronicle, Nation, nation_at, nation_count};
 use format::MOST_LEDGERS;
 use record::Refusal;
@@ -27,8 +27,9 @@ fn asked_nation(nations: &[u32], entries: &[u32], nation: usize) -> Result<Natio
     Ok(nation_at(nations, nation))
 }
 
-// The ledger of a nation's row, with an index of at most so many names. The three calls each choose a size for a function of their own: one choice for
-// all would take what is done with the index as a closure. That the names fit is a fact of a frame and a size together, so no type has it.
+// The ledger of a nation's row, with an index of at most so many names. The three calls each choose a size for a function of their own, in 27 lines. One
+// choice for all would take what is done with the index as a closure. No promise tells what a closure leaves in a slice that it has captured: so there
+// would be a choice for none, one and two slices, of 23 lines each. And where a closure is handed on to a size, the borrows are not proved.
 fn ledger_indexed<const NAMES: usize>(
     frame: Frame<'_>,
     entries: &[u32],
@@ -40,7 +41,7 @@ fn ledger_indexed<const NAMES: usize>(
     ensures { (xs ws : List ℕ) (i : ℕ) → RightlyAsked xs ws entries.now i frame.entry (nation_told row) → ledger_outcome result out.new ≡ call_nation_ledger xs ws entries.now i out.old }
 {
     let mut keys = [0; NAMES];
-    let mut places = [Place::NONE; NAMES];
+    let mut places = [NO_PLACE; NAMES];
     let ledgers = LedgerIndex::of(frame, &mut keys, &mut places);
     let room = out.len() / LEDGER_WIDTH;
     let n = ledgers.count(entries, row, room + 1);
@@ -83,7 +84,7 @@ fn rows_indexed<const NAMES: usize>(
     ensures { result ≡ min (length (row_ledger frame.entry entries.now (nation_told row))) most }
 {
     let mut keys = [0; NAMES];
-    let mut places = [Place::NONE; NAMES];
+    let mut places = [NO_PLACE; NAMES];
     LedgerIndex::of(frame, &mut keys, &mut places).count(entries, row, most)
 }
 

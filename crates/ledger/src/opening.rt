@@ -9,10 +9,11 @@ ghost use Rattle.format.specs.Refused.{number_of};
 ghost use Rattle.record.specs.Cursors.{points_left, ledgers_left};
 ghost use Rattle.ledger.specs.Ledgers.{Framed};
 
-use crate::index::{Frame, LedgerIndex, Place};
+use crate::index::{Frame, LedgerIndex};
 use record::{CountryTag, Points, Record, Refusal, open_record};
 use search::{SortedKeys, first_place, tag_key};
 use sorting::sort_keys;
+use std::ops::Range;
 
 impl<'a> Frame<'a> {
     // The ledger names and the dates of a record, or the record's refusal.
@@ -35,24 +36,22 @@ impl<'a> Frame<'a> {
 }
 
 impl<'n, 'a> LedgerIndex<'n, 'a> {
-    // The index of the names, in cells for as many at least. They are counted by hand: with `enumerate` their number, which is needed behind the loop,
-    // would stand beside its own.
+    // The index of the names, in cells for as many at least.
     pub(crate) fn of<const NAMES: usize>(
         frame: Frame<'a>,
         keys: &'n mut [u64; NAMES],
-        places: &'n mut [Place; NAMES],
+        places: &'n mut [Range<usize>; NAMES],
     ) -> LedgerIndex<'n, 'a>
         requires { length (ledgers_left frame.ledgers) ≤ NAMES }
         ensures { result.frame ≡ frame.entry }
     {
-        let mut names = 0;
+        let names = frame.ledgers.len();
         let mut first = 0;
-        for row in frame.ledgers {
-            let count = row.points.len();
-            keys[names] = tag_key(row.tag, names);
-            places[names] = Place { first, count };
-            names += 1;
-            first += count;
+        for (number, row) in frame.ledgers.enumerate() {
+            let end = first + row.points.len();
+            keys[number] = tag_key(row.tag, number);
+            places[number] = first..end;
+            first = end;
         }
         let mut scratch = [0; NAMES];
         sort_keys(&mut keys[..names], &mut scratch);
@@ -70,7 +69,7 @@ impl<'n, 'a> LedgerIndex<'n, 'a> {
         ensures { map points_left (option_of result) ≡ map (λ l. l.points) (first_that (λ l. same_tag l.tag tag) (ledgers_left self.now.frame.ledgers)) }
     {
         let number = first_place(self.keys, tag)?;
-        let place = self.places[number];
-        Some(self.frame.ledgers.points_from(place.first, place.count))
+        let place = &self.places[number];
+        Some(self.frame.ledgers.points_from(place.start, place.len()))
     }
 }

@@ -14,7 +14,7 @@ use span_points::{LEDGER_WIDTH, write_span};
 use spans::{Span, Spans};
 
 impl LedgerIndex<'_, '_> {
-    // Writes the rows of a span, as many as find room, and gives their number.
+    // Writes the rows of a span, as many as find room, and gives their number. Beside `count_points`, which says why they are two.
     fn write_points(&self, span: Span, out: &mut [u32]) -> usize
         ensures { FillsSpan (span_points (ledgers_left self.now.frame.ledgers) (span_in span)) result out.old out.new }
     {

@@ -9,3 +9,4 @@ pub mod EachLaws
 pub mod FillLaws
 pub mod WriteLaws
 pub mod ProgressLaws
+pub mod CodeLaws

@@ -1,6 +1,5 @@
--- What `place_nations` asks of its steps, and what it leaves: tables that pass the test can be counted and read, and the test for room is the
--- nations' own.
-use mathlib.Core.Path.{◌≡◌, refl, sym, ap, subst, ◌∙◌}
+-- What `place_nations` asks of its steps: where the nations that are counted pass the test for room, there is room for them.
+use mathlib.Core.Path.{◌≡◌, refl, sym, ap, ◌∙◌}
 use mathlib.Core.Bool.{Bool, true, false, true≢false}
 use mathlib.Core.List.{List}
 use Prim.Native.Nat.{ℕ, ◌*◌, ◌/◌}
@@ -14,14 +13,11 @@ use Rattle.format.specs.declared.refused.Refusal.TheVariants.{NoRecord, UnknownV
 use Rattle.rules.specs.Chronicle.{Nation}
 use Rattle.rules.specs.NationRows.{nation_width, entry_width}
 use Rattle.rules.proofs.RowLaws.{length-nation_words, length-entry_words}
-use Rattle.nation_tables.specs.Gathering.{Cells}
 use Rattle.nation_listing.specs.declared.placing.Listed.{Listed}
-use Rattle.nation_listing.specs.declared.tables.NationTables.{NationTables}
 use Rattle.nation_listing.specs.declared.tables.ReadableTables.{ReadableTables}
-use Rattle.nation_listing.specs.Tables.{cells_of}
-use Rattle.nation_listing.specs.Reading.{readable_of, cells_in}
+use Rattle.nation_listing.specs.Reading.{cells_in}
 use Rattle.nation_listing.specs.Listing.{nations_at}
-use Rattle.nation_listing.specs.Placing.{listed_of, nations_for, PlacedRows, NonePlaced, refused_for, NationsRoom, NationsWritten}
+use Rattle.nation_listing.specs.Placing.{listed_of, nations_for, refused_for, NationsRoom}
 
 -- So many rows have room if they are not more than the whole rows of a slice.
 pub nations-by : (n cells : ℕ) → leb n (cells / nation_width) ≡ leb (nation_width * n) cells
@@ -36,35 +32,12 @@ entries-by n cells =
     (λ h. h ∙ sym (le-leb (entry_width * n) cells (omega (arith, leb-true n (cells / entry_width) h))))
     (λ h. h ∙ sym (lt-leb (entry_width * n) cells (omega (arith, leb-false n (cells / entry_width) h))))
 
--- Tables that can be read, as they were lent and as they are read, and what is counted of them.
-module _ (t : NationTables) (rt : ReadableTables) (test : true ≡ readable_of t) (same : cells_in rt ≡ cells_of t)
-    (r : Listed) (counted : r ≡ listed_of (nations_at (cells_in rt) rt.initial_keys.keys.now)) where
+-- What is counted of tables that can be read has room, where the test says so.
+module _ (rt : ReadableTables) (r : Listed) (counted : r ≡ listed_of (nations_at (cells_in rt) rt.initial_keys.keys.now)) where
   abbrev here : List Nation
   here = nations_at (cells_in rt) rt.initial_keys.keys.now
 
-  abbrev nations : List Nation
-  nations = nations_at (cells_of t) t.initial_keys.now
-
-  same-nations : here ≡ nations
-  same-nations = ap (λ (w : Cells). nations_at w w.initials) same
-
   module _ (rows₀ entries₀ : List ℕ) (fit : Bool) (told : fit ≡ nations_for r (length rows₀) (length entries₀)) where
-    -- There is no room.
-    pub place_short : fit ≡ false → NonePlaced (readable_of t) nations NoRoom rows₀ rows₀ entries₀ entries₀
-    place_short f =
-        record {
-          cause = (
-            sym test,
-            ap (λ (ns : List Nation). nations_for (listed_of ns) (length rows₀) (length entries₀)) (sym same-nations)
-                ∙ ap (λ (l : Listed). nations_for l (length rows₀) (length entries₀)) (sym counted)
-                ∙ sym told
-                ∙ f,
-          );
-          rows = refl;
-          entries = refl;
-        }
-
-    -- There is.
     place-fits : fit ≡ true → nations_for (listed_of here) (length rows₀) (length entries₀) ≡ true
     place-fits f = ap (λ (l : Listed). nations_for l (length rows₀) (length entries₀)) (sym counted) ∙ sym told ∙ f
 
@@ -77,11 +50,6 @@ module _ (t : NationTables) (rt : ReadableTables) (test : true ≡ readable_of t
           rows = omega (arith, length-nation_words here, leb-true (nation_width * (listed_of here).nations) (length rows₀) (and_left n e fits));
           entries = omega (arith, length-entry_words here, leb-true (entry_width * (listed_of here).entries) (length entries₀) (and_right n e fits));
         }
-
-    pub place-put : fit ≡ true → (rows₁ entries₁ : List ℕ) → NationsWritten here rows₀ rows₁ entries₀ entries₁
-        → (readable_of t ≡ true) × PlacedRows nations r rows₀ rows₁ entries₀ entries₁
-    place-put f rows₁ entries₁ w =
-        (sym test, subst (λ (ns : List Nation). PlacedRows ns r rows₀ rows₁ entries₀ entries₁) same-nations (record { listed = counted; room = place-fits f; put = w }))
 
 -- Where the tables can be read, it is the room that is wanting.
 pub short-of-room : (e : Refusal) (b : Bool) (ns : List Nation) (rows₀ entries₀ : List ℕ) → b ≡ true

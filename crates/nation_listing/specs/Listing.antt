@@ -67,14 +67,14 @@ nations_at w keys = join_of (key_nations w) keys
 -- ## From key to key
 
 -- A listed nation.
-abbrev pub nation_in : ListedNation → Nation
-nation_in l = record { initial = l.initial; latest = l.latest; stored = l.stored; entries = entries_left l.entries }
+abbrev pub listed_in : ListedNation → Nation
+listed_in l = record { initial = l.initial; latest = l.latest; stored = l.stored; entries = entries_left l.entries }
 
 -- It, if there is one.
 abbrev pub nation_listed : code.Option ListedNation → List Nation
-nation_listed (Some l) = nation_in l ∷ []
+nation_listed (Some l) = listed_in l ∷ []
 nation_listed None = []
 
 -- The nations that the iterator has left.
-abbrev pub nations_left : ListedNations → List Nation
-nations_left it = nations_at (cells_in it.tables.now) it.keys.now
+abbrev pub listed_left : ListedNations → List Nation
+listed_left it = nations_at (cells_in it.tables.now) it.keys.now

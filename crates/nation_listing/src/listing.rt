@@ -1,6 +1,7 @@
 // The listed nations, in the order of the keys of initials.
 ghost use Rattle.std.specs.Prelude.{◌≡◌, ◌<◌, All};
 ghost use Rattle.nation_tables.specs.Layout.{key_rows, row_key_span};
+ghost use Rattle.nation_tables.specs.Keys.{word_in};
 ghost use Rattle.nation_listing.specs.Tables.{KeyInside};
 ghost use Rattle.nation_listing.specs.Reading.{cells_in};
 
@@ -8,7 +9,7 @@ use crate::entries;
 use crate::entries::Entries;
 use crate::lives::Lives;
 use crate::tables::ReadableTables;
-use nation_tables::{KEY_ROWS, ROW_SPAN};
+use nation_tables::{KEY_ROWS, ROW_SPAN, row_in};
 use record::CountryTag;
 
 // A listed nation: its initial and its latest tag, the tag that it is stored under, and its entries.
@@ -20,19 +21,25 @@ pub(crate) struct ListedNation<'a> {
     pub entries: Entries<'a>,
 }
 
+// The initial in a key. Its word is a tag's, and is not tested again.
+fn initial_in(key: u64) -> CountryTag
+    requires { key < row_key_span }
+    ensures { result.0 ≡ word_in key }
+{
+    CountryTag::kept((key / KEY_ROWS) as u32)
+}
+
 impl<'a> ReadableTables<'a> {
     ghost use Rattle.nation_listing.specs.Lives.{walk_in};
-    ghost use Rattle.nation_listing.specs.Listing.{is_listed, run_of, key_nations, nation_listed, nations_at, nations_left};
+    ghost use Rattle.nation_listing.specs.Listing.{is_listed, run_of, key_nations, nation_listed, nations_at, listed_left};
 
     // Whether the country of an initial's key is listed: it is the last row of its initial, and held a slot ever.
     fn is_listed(&self, key: u64, lives: &Lives) -> bool
         requires { key < row_key_span }
         ensures { result ≡ is_listed self.now.initial_keys.keys.now key (walk_in lives.now) }
     {
-        let row = (key % KEY_ROWS) as u16;
-        let low = key / KEY_ROWS * KEY_ROWS;
-        let mapped = nation_tables::last_within(self.initial_keys, low, low + KEY_ROWS);
-        (mapped == Some(row)) & lives.holds_ever()
+        let mapped = nation_tables::mapped_row(self.initial_keys, initial_in(key));
+        (mapped == Some(row_in(key))) & lives.holds_ever()
     }
 
     // The keys of a row's switches.
@@ -45,18 +52,18 @@ impl<'a> ReadableTables<'a> {
         &self.runs.keys[from..end]
     }
 
-    // The nation of a key of an initial, if it is listed. Its words are tags', and are not tested again.
+    // The nation of a key of an initial, if it is listed. The word that it is stored under is a tag's, and is not tested again.
     fn listed(&self, key: u64) -> Option<ListedNation<'a>>
         requires { KeyInside (cells_in self.now) key }
         ensures { nation_listed result ≡ key_nations (cells_in self.now) key }
     {
-        let row = (key % KEY_ROWS) as usize;
+        let row = usize::from(row_in(key));
         let lives = Lives::of(self, row);
         if !self.is_listed(key, &lives) {
             return None;
         }
-        let run = self.run(key % KEY_ROWS);
-        let initial = CountryTag::kept((key / KEY_ROWS) as u32);
+        let run = self.run(row as u64);
+        let initial = initial_in(key);
         Some(ListedNation {
             initial,
             latest: entries::latest(run, self.targets, initial),
@@ -67,7 +74,7 @@ impl<'a> ReadableTables<'a> {
 
     // The listed nations.
     pub(crate) fn nations(&self) -> ListedNations<'_>
-        ensures { nations_left result ≡ nations_at (cells_in self.now) self.now.initial_keys.keys.now }
+        ensures { listed_left result ≡ nations_at (cells_in self.now) self.now.initial_keys.keys.now }
     {
         ListedNations {
             tables: self,
@@ -86,15 +93,16 @@ pub(crate) struct ListedNations<'a> {
 
 impl<'a> Iterator for ListedNations<'a> {
     ghost use Rattle.std.specs.Iterator.{YieldsFirstBy, item_count};
-    ghost use Rattle.nation_listing.specs.Listing.{nation_in, nations_left};
+    ghost use Rattle.nation_listing.specs.Listing.{listed_in, listed_left};
 
     type Item = ListedNation<'a>;
 
-    ghost next_gives = { YieldsFirstBy nation_in nations_left };
+    ghost next_gives = { YieldsFirstBy listed_in listed_left };
 
-    ghost remaining = { item_count nations_left };
+    ghost remaining = { item_count listed_left };
 
-    // A `while let`, and no `find_map`: its closure would call `listed`, which asks something of each key.
+    // A `while let`, and no `find_map`: that may call `listed` on each key, but what it leaves is told as a run of calls, from which no search finds the
+    // nations left.
     fn next(&mut self) -> Option<ListedNation<'a>> {
         while let Some((key, rest)) = self.keys.split_first() {
             self.keys = rest;

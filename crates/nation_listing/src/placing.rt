@@ -5,7 +5,7 @@ ghost use Rattle.nation_tables.specs.Layout.{word_span};
 ghost use Rattle.nation_listing.specs.Tables.{cells_of};
 ghost use Rattle.nation_listing.specs.Entries.{entries_left};
 ghost use Rattle.nation_listing.specs.Reading.{readable_of};
-ghost use Rattle.nation_listing.specs.Listing.{nation_in, nations_at};
+ghost use Rattle.nation_listing.specs.Listing.{listed_in, nations_at};
 ghost use Rattle.nation_listing.specs.Placing.{EntriesWritten, NationRoom, NationPut, nations_for, placed_told};
 
 use crate::entries::Entries;
@@ -45,8 +45,8 @@ fn write_nation(
     entries: &mut [u32],
 ) -> usize
     requires few { first + length (entries_left nation.entries) < word_span }
-    requires room { NationRoom (nation_in nation) nations.old entries.old }
-    ensures { NationPut (nation_in nation.entry) first result nations.old nations.new entries.old entries.new }
+    requires room { NationRoom (listed_in nation) nations.old entries.old }
+    ensures { NationPut (listed_in nation.entry) first result nations.old nations.new entries.old entries.new }
 {
     let count = write_entries(nation.entries, entries);
     let row = Nation {
@@ -108,9 +108,7 @@ pub fn place_nations(
 ) -> Result<Listed, Refusal>
     ensures { placed_told (readable_of tables.now) (nations_at (cells_of tables.now) tables.now.initial_keys.now) result nations.old nations.new entries.old entries.new }
 {
-    let Some(tables) = tables.readable() else {
-        return Err(Refusal::NotShaped);
-    };
+    let tables = tables.readable().ok_or(Refusal::NotShaped)?;
     let listed = tables.count_nations();
     if !nations_fit(listed, nations.len(), entries.len()) {
         return Err(Refusal::NoRoom);

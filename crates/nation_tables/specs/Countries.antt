@@ -117,9 +117,8 @@ pub record OwnLast (ks : List Country) : Type 0 where
 
 -- ## What the functions leave
 
--- The words of tags and initials of so many countries.
-pub record Tabled (ks : List Country) (count : ℕ) (tags₀ tags₁ initials₀ initials₁ : List ℕ) : Type 0 where
-  pub counted : count ≡ length ks
+-- The words of the countries' tags and initials.
+pub record Tabled (ks : List Country) (tags₀ tags₁ initials₀ initials₁ : List ℕ) : Type 0 where
   pub tags : tags₁ ≡ written (words_of_tags ks) tags₀
   pub initials : initials₁ ≡ written (initial_words ks) initials₀
 

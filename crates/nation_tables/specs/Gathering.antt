@@ -19,7 +19,7 @@ use Rattle.change_keys.specs.ChangeSteps.{entered, most_changes, change_keys_fro
 use Rattle.nation_tables.specs.declared.gathering.Sizes.{Sizes}
 use Rattle.nation_tables.specs.declared.gathering.TableSizes.{TableSizes}
 use Rattle.nation_tables.specs.declared.gathering.TablesGathered.{TablesGathered}
-use Rattle.nation_tables.specs.Layout.{most_switches, most_settling, most_slots, rows_within}
+use Rattle.nation_tables.specs.Layout.{most_countries, most_switches, most_settling, most_slots, rows_within}
 use Rattle.nation_tables.specs.Countries.{words_of_tags, initial_words, row_keys, switch_keys_from, settling_keys_from, settling_keys, Keyed}
 use Rattle.nation_tables.specs.declared.layout.Turn.{Turn}
 use Rattle.nation_tables.specs.Turning.{losses, gains, Linked, TurnsLinked, Rowed, row_turns_of}
@@ -29,8 +29,9 @@ use Rattle.nation_tables.specs.Switches.{run_keys, target_words}
 -- ## Steps
 
 -- Room for a cell of each country, and for the keys that changes settle by.
-pub record TablesRoom (ks : List Country) (words₀ initials₀ switches₀ : List ℕ) : Type 0 where
+pub record TablesRoom (ks : List Country) (words₀ scratch₀ initials₀ switches₀ : List ℕ) : Type 0 where
   pub words : length ks ≤ length words₀
+  pub scratch : length ks ≤ length scratch₀
   pub initials : length ks ≤ length initials₀
   pub switches : length (settling_keys_from 0 ks) ≤ length switches₀
 
@@ -123,19 +124,25 @@ pub record Begun (xs : List ℕ) (from : Record) : Type 0 where
   pub countries : countries_left from.countries ≡ (campaign_of xs).countries
   pub start : from.start ≡ (campaign_of xs).start
 
--- So many keys that changes settle by, and so many changes, suffice for any record of so many bytes.
-pub record TableRoom (bytes m n : ℕ) : Type 0 where
+-- So many countries, slots, keys that changes settle by, and changes suffice for any record of so many bytes.
+pub record TableRoom (bytes c p m n : ℕ) : Type 0 where
+  pub countries : rows_within most_countries bytes ≤ c
+  pub slots : rows_within most_slots bytes ≤ p
   pub keys : rows_within most_settling bytes ≤ m
   pub changes : rows_within most_changes bytes ≤ n
 
 -- An accepted record, and room for its tables.
-pub record FillAsked (xs : List ℕ) (from : Record) (m n : ℕ) : Type 0 where
+pub record FillAsked (xs : List ℕ) (from : Record) (c p m n : ℕ) : Type 0 where
   pub begun : Begun xs from
-  pub room : TableRoom (length xs) m n
+  pub room : TableRoom (length xs) c p m n
 
 -- The room as it is tested.
-abbrev pub room_of : ℕ → ℕ → ℕ → Bool
-room_of bytes keys changes = leb (rows_within most_settling bytes) keys && leb (rows_within most_changes bytes) changes
+abbrev pub room_of : ℕ → ℕ → ℕ → ℕ → ℕ → Bool
+room_of bytes countries slots keys changes =
+    leb (rows_within most_countries bytes) countries
+    && leb (rows_within most_slots bytes) slots
+    && leb (rows_within most_settling bytes) keys
+    && leb (rows_within most_changes bytes) changes
 
 -- The tables of an accepted record at the fronts of their cells, the targets in front of those that served the sorts; and how many there are.
 pub record Gathered (xs : List ℕ) (z : TableSizes) (provinces₀ : Provinces) (words₁ initials₁ runs₁ keys₁ targets₁ slots₁ started₁ : List ℕ) (turns₁ firsts₁ : List Turn) : Type 0 where

@@ -20,7 +20,8 @@ most_slots = 8001
 abbrev pub most_settling : ℕ
 most_settling = 22000
 
--- A row of an owner event or of a switch takes so many bytes of a record, and one of a country more.
+-- A row of a province, of an owner event or of a switch takes so many bytes of a record, one of a country more, and the head more than the slot
+-- that there is beside the provinces.
 abbrev pub row_bytes : ℕ
 row_bytes = 7
 

@@ -22,19 +22,15 @@ pub(crate) struct KeyedCountries<'a> {
     pub(crate) ghost few_switches: { length (switch_keys_from 0 (countries_left countries)) ≤ most_switches },
 }
 
-// Writes the words of each country's tag and initial, in row order, and returns how many countries there are. Counted by hand: with `enumerate` the
-// count that is returned would stand beside its own.
-pub(crate) fn country_words(countries: Countries, tags: &mut [u32], initials: &mut [u32]) -> usize
+// Writes the words of each country's tag and initial, in row order.
+pub(crate) fn country_words(countries: Countries, tags: &mut [u32], initials: &mut [u32])
     requires { (length (countries_left countries) ≤ length tags.old) × (length (countries_left countries) ≤ length initials.old) }
-    ensures { Tabled (countries_left countries.entry) result tags.old tags.new initials.old initials.new }
+    ensures { Tabled (countries_left countries.entry) tags.old tags.new initials.old initials.new }
 {
-    let mut n = 0;
-    for row in countries {
-        tags[n] = u32::from(row.tag);
-        initials[n] = u32::from(first_tag(row.switches, row.previous, row.tag));
-        n += 1;
+    for (row, country) in countries.enumerate() {
+        tags[row] = u32::from(country.tag);
+        initials[row] = u32::from(first_tag(country));
     }
-    n
 }
 
 // Writes the keys of words, in order: each word with its row below it. By index: a proof knows no cell that is written through a `zip` with `iter_mut`.
@@ -50,7 +46,7 @@ pub(crate) fn row_keys(words: &[u32], keys: &mut [u64], scratch: &mut [u64])
 }
 
 // The last row of a country with an initial, by the keys of initials: the country that the initial maps to.
-pub(crate) fn mapped_row(initials: SortedKeys<'_>, tag: CountryTag) -> Option<u16>
+pub fn mapped_row(initials: SortedKeys<'_>, tag: CountryTag) -> Option<u16>
     ensures { option_of result ≡ initial_row initials.entry.keys.now tag }
 {
     let low = u64::from(u32::from(tag)) * KEY_ROWS;

@@ -1,7 +1,6 @@
 // The tables of the countries, the chains of changes, and the switches of each country: all that nations are read from.
-ghost use Rattle.std.specs.Prelude.{◌≡◌, List, ℕ, ◌+◌, ◌≤◌, length, take};
-ghost use Rattle.record.specs.Cursors.{countries_left, provinces_left};
-ghost use Rattle.nation_tables.specs.Holders.{HoldingAsked, Held};
+ghost use Rattle.std.specs.Prelude.{◌≡◌, List, ℕ, ◌≤◌, length, take};
+ghost use Rattle.record.specs.Cursors.{countries_left};
 ghost use Rattle.nation_tables.specs.Layout.{no_change};
 ghost use Rattle.nation_tables.specs.Gathering.{TablesRoom, TablesFilled, SwitchesRoom, Arranged, TableRoom, room_of, FillAsked, Gathered, RightlyGathered};
 
@@ -20,19 +19,20 @@ pub(crate) struct Sizes {
     pub settling: usize,
 }
 
-// Writes the words of tags, and the keys of initials and those that changes settle by, each in order.
+// Writes the words of tags, and the keys of initials and those that changes settle by, each in order. The words of initials are left in a scratch.
 fn fill_tables(
     all: KeyedCountries<'_>,
     tag_words: &mut [u32],
+    initial_words: &mut [u32],
     initial_keys: &mut [u64],
     settling_keys: &mut [u64],
     scratch: &mut [u64],
 ) -> Sizes
-    requires { TablesRoom (countries_left all.countries) tag_words.old initial_keys.old settling_keys.old }
+    requires { TablesRoom (countries_left all.countries) tag_words.old initial_words.old initial_keys.old settling_keys.old }
     ensures { TablesFilled (countries_left all.entry.countries) result tag_words.new initial_keys.new settling_keys.new }
 {
-    let mut initial_words = [0u32; MOST_COUNTRIES];
-    let c = countries::country_words(all.countries, tag_words, &mut initial_words);
+    let c = all.countries.len();
+    countries::country_words(all.countries, tag_words, initial_words);
     countries::row_keys(&initial_words[..c], initial_keys, scratch);
     let m = switches::settling_keys(all, settling_keys, scratch);
     Sizes {
@@ -42,7 +42,8 @@ fn fill_tables(
 }
 
 // Turns the rows of holders of n changes into chains, with the first ones for each row, and writes the keys of switches by country and
-// the targets. Until the targets stand in their cells, these serve the sort as scratch.
+// the targets. Until the targets stand in their cells, these serve the sort as scratch. Four arrays of `TableCells`, lent one by one: of the whole it would
+// have to be promised that all others stay.
 fn arrange(
     all: KeyedCountries<'_>,
     n: usize,
@@ -79,69 +80,47 @@ pub struct TablesGathered<'a> {
     pub provinces: Provinces<'a>,
 }
 
-// The tables that nations are read from: room for any record with at most KEYS keys that changes settle by and at most CHANGES changes. Arrays, for
+// The tables that nations are read from: room for any record with at most so many countries, slots, keys that changes settle by, and changes. Arrays, for
 // of slices in a struct a caller knows nothing after a call. Made where it stays and lent: by value some 1.5 MB would be copied.
 #[derive(Drop)]
-pub struct TableCells<const KEYS: usize, const CHANGES: usize> {
-    pub tag_words: [u32; MOST_COUNTRIES],
-    pub initial_keys: [u64; MOST_COUNTRIES],
+pub struct TableCells<
+    const COUNTRIES: usize,
+    const SLOTS: usize,
+    const KEYS: usize,
+    const CHANGES: usize,
+> {
+    pub tag_words: [u32; COUNTRIES],
+    pub initial_keys: [u64; COUNTRIES],
     // The keys that changes settle by; in the end those of switches by country.
     pub runs: [u64; KEYS],
     pub keys: [u64; CHANGES],
     // Scratch and cells of changes; in the end the targets of switches.
     pub cells: [u64; CHANGES],
-    pub slots: [u64; MOST_SLOTS],
-    pub started: [u32; MOST_COUNTRIES],
+    pub slots: [u64; SLOTS],
+    // The words of initials; in the end how many slots each country starts with.
+    pub started: [u32; COUNTRIES],
     pub turns: [Turn; CHANGES],
-    pub firsts: [Turn; MOST_COUNTRIES],
+    pub firsts: [Turn; COUNTRIES],
 }
 
-// Whether so many keys and changes suffice for any record of so many bytes.
-fn has_cells(bytes: usize, keys: usize, changes: usize) -> bool
-    ensures { result ≡ room_of bytes keys changes }
+// Whether so many cells suffice for any record of so many bytes.
+fn has_cells(bytes: usize, countries: usize, slots: usize, keys: usize, changes: usize) -> bool
+    ensures { result ≡ room_of bytes countries slots keys changes }
 {
-    (rows_within(MOST_SETTLING, bytes) <= keys) & (rows_within(MOST_CHANGES, bytes) <= changes)
+    (rows_within(MOST_COUNTRIES, bytes) <= countries)
+        & (rows_within(MOST_SLOTS, bytes) <= slots)
+        & (rows_within(MOST_SETTLING, bytes) <= keys)
+        & (rows_within(MOST_CHANGES, bytes) <= changes)
 }
 
-// Settles all changes, with the slots and what each country starts with at the front of their cells. Apart from `fill_all`, which cannot lend the fronts:
-// the borrow checker covers no `&mut` part of a field that is an array.
-fn hold_fronts(
-    provinces: Provinces,
-    tag_words: &[u32],
-    initials: SortedKeys<'_>,
-    settling: SortedKeys<'_>,
-    keys: &mut [u64],
-    cells: &mut [u64],
-    slots: &mut [u64],
-    started: &mut [u32],
-    turns: &mut [Turn],
-) -> usize
-    requires { (xs : List ℕ) × HoldingAsked xs provinces tag_words.now initials.keys.now settling.keys.now keys.old cells.old (take (length (provinces_left provinces) + 1) slots.old) (take (length tag_words.now) started.old) turns.old }
-    ensures { (xs : List ℕ) → HoldingAsked xs provinces.entry tag_words.now initials.entry.keys.now settling.entry.keys.now keys.old cells.old (take (length (provinces_left provinces.entry) + 1) slots.old) (take (length tag_words.now) started.old) turns.old → Held xs result keys.new (take (length (provinces_left provinces.entry) + 1) slots.new) (take (length tag_words.now) started.new) turns.new }
-{
-    let p = provinces.len() + 1;
-    let c = tag_words.len();
-    holders::hold_slots(
-        provinces,
-        tag_words,
-        initials,
-        settling,
-        keys,
-        cells,
-        &mut slots[..p],
-        &mut started[..c],
-        turns,
-    )
-}
-
-// Fills all tables of an accepted record, each step lent only those that it reads or writes. The first changes of rows are lent by a whole slice: from
-// that a proof knows how many cells they have.
-fn fill_all<const KEYS: usize, const CHANGES: usize>(
+// Fills all tables of an accepted record, each step lent only those that it reads or writes. Most are lent by a whole slice: from that a proof knows how
+// many cells they have, which else it knows of the first four arrays alone.
+fn fill_all<const COUNTRIES: usize, const SLOTS: usize, const KEYS: usize, const CHANGES: usize>(
     opened: Record,
-    tables: &mut TableCells<KEYS, CHANGES>,
+    tables: &mut TableCells<COUNTRIES, SLOTS, KEYS, CHANGES>,
 ) -> TableSizes
-    requires { (xs : List ℕ) × FillAsked xs opened KEYS CHANGES }
-    ensures { (xs : List ℕ) → FillAsked xs opened.entry KEYS CHANGES → Gathered xs result opened.entry.provinces tables.new.tag_words tables.new.initial_keys tables.new.runs tables.new.keys tables.new.cells tables.new.slots tables.new.started tables.new.turns tables.new.firsts }
+    requires { (xs : List ℕ) × FillAsked xs opened COUNTRIES SLOTS KEYS CHANGES }
+    ensures { (xs : List ℕ) → FillAsked xs opened.entry COUNTRIES SLOTS KEYS CHANGES → Gathered xs result opened.entry.provinces tables.new.tag_words tables.new.initial_keys tables.new.runs tables.new.keys tables.new.cells tables.new.slots tables.new.started tables.new.turns tables.new.firsts }
 {
     let all = KeyedCountries {
         countries: opened.countries,
@@ -150,13 +129,14 @@ fn fill_all<const KEYS: usize, const CHANGES: usize>(
     let sizes = fill_tables(
         all,
         &mut tables.tag_words,
+        &mut tables.started[..],
         &mut tables.initial_keys,
         &mut tables.runs,
-        &mut tables.cells,
+        &mut tables.cells[..],
     );
     let c = sizes.countries;
     let m = sizes.settling;
-    let n = hold_fronts(
+    let n = holders::hold_slots(
         opened.provinces,
         &tables.tag_words[..c],
         SortedKeys {
@@ -166,18 +146,18 @@ fn fill_all<const KEYS: usize, const CHANGES: usize>(
             keys: &tables.runs[..m],
         },
         &mut tables.keys,
-        &mut tables.cells,
-        &mut tables.slots,
-        &mut tables.started,
-        &mut tables.turns,
+        &mut tables.cells[..],
+        &mut tables.slots[..],
+        &mut tables.started[..],
+        &mut tables.turns[..],
     );
     arrange(
         all,
         n,
-        &mut tables.turns,
+        &mut tables.turns[..],
         &mut tables.firsts[..],
         &mut tables.runs,
-        &mut tables.cells,
+        &mut tables.cells[..],
     );
     TableSizes {
         start: opened.start,
@@ -189,14 +169,20 @@ fn fill_all<const KEYS: usize, const CHANGES: usize>(
 }
 
 // Fills the tables of a record, each at the front of its array, whatever stood there. A bad record is refused by its refusal.
-// Promised where there are enough keys and changes for any record of as many bytes.
-pub fn gather_tables<'a, const KEYS: usize, const CHANGES: usize>(
+// Promised where there are enough cells for any record of as many bytes.
+pub fn gather_tables<
+    'a,
+    const COUNTRIES: usize,
+    const SLOTS: usize,
+    const KEYS: usize,
+    const CHANGES: usize,
+>(
     s: &'a [u8],
-    tables: &mut TableCells<KEYS, CHANGES>,
+    tables: &mut TableCells<COUNTRIES, SLOTS, KEYS, CHANGES>,
 ) -> Result<TablesGathered<'a>, Refusal>
-    ensures { TableRoom (length s.now) KEYS CHANGES → RightlyGathered s.now result tables.new.tag_words tables.new.initial_keys tables.new.runs tables.new.keys tables.new.cells tables.new.slots tables.new.started tables.new.turns tables.new.firsts }
+    ensures { TableRoom (length s.now) COUNTRIES SLOTS KEYS CHANGES → RightlyGathered s.now result tables.new.tag_words tables.new.initial_keys tables.new.runs tables.new.keys tables.new.cells tables.new.slots tables.new.started tables.new.turns tables.new.firsts }
 {
-    if !has_cells(s.len(), KEYS, CHANGES) {
+    if !has_cells(s.len(), COUNTRIES, SLOTS, KEYS, CHANGES) {
         return Err(Refusal::NoRoom);
     }
     let opened = record::open_record(s)?;

@@ -1,7 +1,8 @@
 // Who holds each slot, change by change, by the rows of countries.
-ghost use Rattle.std.specs.Prelude.{◌≡◌, List, ℕ, map, ◌+◌, ◌*◌, ◌≤◌, length, get_or, unwrap_or};
+ghost use Rattle.std.specs.Prelude.{◌≡◌, List, ℕ, map, ◌+◌, ◌*◌, ◌≤◌, length, take, get_or, unwrap_or};
 ghost use Rattle.lists.specs.Lists.{All};
 ghost use Rattle.format.specs.Campaign.{Country, campaign_of};
+ghost use Rattle.record.specs.Cursors.{provinces_left};
 ghost use Rattle.change_keys.specs.ChangeSteps.{changes_left};
 ghost use Rattle.nation_tables.specs.Layout.{short_span, cell_rows, nobody_cell};
 ghost use Rattle.nation_tables.specs.Holders.{Settler, Small, StartAsked, StepsAsked, HoldingAsked, rows_in, row_cell, slot_counts, holder_cell};
@@ -9,7 +10,7 @@ ghost use Rattle.nation_tables.specs.Holders.{Replaced, Passed, Began, Stepped, 
 ghost use Rattle.rules.specs.Lent.{written};
 
 use crate::layout::{CELL_ROWS, MOST_SLOTS, NO_ROW, NOBODY, Turn, WORD_SPAN};
-use crate::settling::STARTS;
+use crate::settling::{HINTS_FROM, STARTS};
 use crate::{lookup, settling, starting};
 use change_keys::{Changes, PER_ID};
 use record::{CountryTag, ProvinceId, Provinces};
@@ -76,14 +77,18 @@ fn fill_holders(
     }
 }
 
-// Writes the cell of each change, as many as there are cells.
+// Writes the cell of each change, as many as there are cells. Few changes go without hints: their searches take less time than a table that is cleared
+// and filled.
 fn settle_changes(changes: Changes, tag_words: &[u32], settling: SortedKeys<'_>, cells: &mut [u64])
     requires small { All Small (changes_left changes) }
     requires changes_len { length (changes_left changes) ≡ length cells.old }
     ensures { (ks : List Country) → Settler ks tag_words.now settling.entry.keys.now → cells.new ≡ map (holder_cell ks) (changes_left changes.entry) }
 {
+    if cells.len() < HINTS_FROM {
+        return fill_holders(changes, tag_words, settling, &[], cells);
+    }
     let mut starts = [0u16; STARTS];
-    settling::note_starts(settling.keys, cells.len(), &mut starts);
+    settling::note_starts(settling.keys, &mut starts);
     fill_holders(changes, tag_words, settling, &starts, cells);
 }
 
@@ -152,8 +157,8 @@ fn sort_steps(
 }
 
 // From the start holders through all changes: their sorted keys, the row of the old and of the new holder of each, the cell of each slot
-// in the end, and how many slots each country holds at the start. Returns how many changes there are. The slices are lent one by one, for each
-// step takes others of them.
+// in the end, and how many slots each country holds at the start, these two at the front of their cells. Returns how many changes there are. The slices
+// are lent one by one, for each step takes others of them, and whole: of an array in a struct a caller could lend no part to be written.
 pub(crate) fn hold_slots(
     provinces: Provinces,
     tag_words: &[u32],
@@ -165,12 +170,20 @@ pub(crate) fn hold_slots(
     started: &mut [u32],
     turns: &mut [Turn],
 ) -> usize
-    requires { (xs : List ℕ) × HoldingAsked xs provinces tag_words.now initials.keys.now settling.keys.now keys.old cells.old slots.old started.old turns.old }
-    ensures { (xs : List ℕ) → HoldingAsked xs provinces.entry tag_words.now initials.entry.keys.now settling.entry.keys.now keys.old cells.old slots.old started.old turns.old → Held xs result keys.new slots.new started.new turns.new }
+    requires { (xs : List ℕ) × HoldingAsked xs provinces tag_words.now initials.keys.now settling.keys.now keys.old cells.old (take (length (provinces_left provinces) + 1) slots.old) (take (length tag_words.now) started.old) turns.old }
+    ensures { (xs : List ℕ) → HoldingAsked xs provinces.entry tag_words.now initials.entry.keys.now settling.entry.keys.now keys.old cells.old (take (length (provinces_left provinces.entry) + 1) slots.old) (take (length tag_words.now) started.old) turns.old → Held xs result keys.new (take (length (provinces_left provinces.entry) + 1) slots.new) (take (length tag_words.now) started.new) turns.new }
 {
-    start_slots(provinces, tag_words, initials, slots, started);
+    let p = provinces.len() + 1;
+    let c = tag_words.len();
+    start_slots(
+        provinces,
+        tag_words,
+        initials,
+        &mut slots[..p],
+        &mut started[..c],
+    );
     let n = sort_steps(provinces, tag_words, settling, keys, cells);
-    pass(&keys[..n], &cells[..n], slots, &mut turns[..n]);
+    pass(&keys[..n], &cells[..n], &mut slots[..p], &mut turns[..n]);
     n
 }
 

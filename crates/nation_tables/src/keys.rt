@@ -15,7 +15,7 @@ pub(crate) fn row_key(tag: CountryTag, row: u64) -> u64
 }
 
 // The row in a key that ends with one.
-pub(crate) fn row_in(key: u64) -> u16
+pub fn row_in(key: u64) -> u16
     ensures { result ≡ row_in key }
 {
     (key % KEY_ROWS) as u16

@@ -11,7 +11,8 @@ pub const MOST_SLOTS: usize = MOST_PROVINCES + 1;
 // Changes settle by a key of each switch and one of each country.
 pub const MOST_SETTLING: usize = MOST_SWITCHES + MOST_COUNTRIES;
 
-// A row of an owner event or of a switch takes so many bytes of a record, and one of a country more.
+// A row of a province, of an owner event or of a switch takes so many bytes of a record, one of a country more, and the head more than the slot
+// that there is beside the provinces.
 pub const ROW_BYTES: usize = 7;
 
 // So many of them a record of so many bytes has at most, where no record has more than `most`.

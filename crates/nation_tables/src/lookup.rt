@@ -17,20 +17,16 @@ pub(crate) fn first_within(
 ) -> Option<u16>
     ensures { option_of result ≡ first_within (low / 2 * 2) high sorted.entry.keys.now }
 {
-    match sorted.keys.get(sorted.count_between(low, hints)) {
-        Some(key) if *key < high => Some(row_in(*key)),
-        _ => None,
-    }
+    let key = *sorted.keys.get(sorted.count_between(low, hints))?;
+    (key < high).then_some(row_in(key))
 }
 
 // The row in the last of the keys that is below `high`, an even number, if that key is not below `low`.
 pub fn last_within(sorted: SortedKeys<'_>, low: u64, high: u64) -> Option<u16>
     ensures { option_of result ≡ last_within low (high / 2 * 2) sorted.entry.keys.now }
 {
-    match sorted.keys[..sorted.count_below(high)].last() {
-        Some(key) if low <= *key => Some(row_in(*key)),
-        _ => None,
-    }
+    let key = *sorted.keys[..sorted.count_below(high)].last()?;
+    (low <= key).then_some(row_in(key))
 }
 
 // The cell at a number, 0 past the end.

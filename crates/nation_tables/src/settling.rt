@@ -16,7 +16,7 @@ const SECOND_BYTES: u64 = 78;
 pub(crate) const STARTS: usize = (SECOND_BYTES * SECOND_BYTES) as usize + 2;
 
 // From so many changes on it takes less time to make the hints than to search without them.
-const HINTS_FROM: usize = 128;
+pub(crate) const HINTS_FROM: usize = 128;
 
 // The cell of `--`, the first tag, comes to 0 where this is added.
 const FIRST_CELL: u64 = 61981;
@@ -46,11 +46,8 @@ fn raise_starts(starts: &mut [u16]) {
     }
 }
 
-// Makes the hints, but for few changes: their searches take less time than the table.
-pub(crate) fn note_starts(keys: &[u64], changes: usize, starts: &mut [u16]) {
-    if changes < HINTS_FROM {
-        return;
-    }
+// Makes the hints.
+pub(crate) fn note_starts(keys: &[u64], starts: &mut [u16]) {
     note_ends(keys, starts);
     raise_starts(starts);
 }

@@ -1,18 +1,18 @@
 // The keys of all switches, by either order, and the targets of the switches.
-ghost use Rattle.std.specs.Prelude.{◌≡◌, ℕ, map, ◌+◌, ◌≤◌, ◌<◌, length, get_or};
+ghost use Rattle.std.specs.Prelude.{◌≡◌, ℕ, map, ◌+◌, ◌≤◌, ◌<◌, length};
 ghost use Rattle.lists.specs.Lists.{All};
-ghost use Rattle.record.specs.Cursors.{countries_left, switches_left, previous_left};
+ghost use Rattle.record.specs.Cursors.{country_of, countries_left, switches_left};
 ghost use Rattle.rules.specs.Lent.{written};
-ghost use Rattle.rules.specs.Nations.{initial_from};
+ghost use Rattle.rules.specs.Nations.{initial_of};
 ghost use Rattle.nation_tables.specs.Layout.{key_rows};
 ghost use Rattle.nation_tables.specs.Countries.{settling_keys_from, settling_keys, Filled, FilledFrom};
 ghost use Rattle.nation_tables.specs.Switches.{PlacedSwitch, placed, own_placed, from_key, FromFits, place_key, NumberFits};
-ghost use Rattle.nation_tables.specs.Switches.{runs_from, run_keys, chain_words, target_words};
+ghost use Rattle.nation_tables.specs.Switches.{runs_from, run_keys, own_targets, target_words};
 
 use crate::countries::KeyedCountries;
 use crate::keys;
 use crate::layout::LAST_DATE;
-use record::{Countries, CountryTag, Eu4Date, PreviousTags, Switch, Switches};
+use record::{Countries, CountryRow, CountryTag, Eu4Date, Switch, Switches};
 
 // What the keys of switches are in order by.
 trait SwitchOrder {
@@ -121,35 +121,25 @@ pub(crate) fn run_keys(all: KeyedCountries<'_>, keys: &mut [u64], scratch: &mut 
 
 // The from of the first switch, else the first previous tag, else the country's tag. Over all switches of a country this is its initial, and
 // over those behind a switch, each with its previous tag, it is that switch's target.
-pub(crate) fn first_tag(
-    mut switches: Switches,
-    mut previous: PreviousTags,
-    tag: CountryTag,
-) -> CountryTag
-    ensures { result ≡ initial_from (switches_left switches.entry) (previous_left previous.entry) tag }
+pub(crate) fn first_tag(mut country: CountryRow<'_>) -> CountryTag
+    ensures { result ≡ initial_of (country_of country.entry) }
 {
-    match switches.next() {
+    match country.switches.next() {
         Some(first) => first.from,
-        None => previous.next().unwrap_or(tag),
+        None => country.previous.next().unwrap_or(country.tag),
     }
 }
 
 // Writes the target of each of one country's switches from a place on, and returns the place behind them. One previous tag is passed for
 // each switch, so the last switch finds the one of its number. A target is told by the switches behind its own: so the walk is stepped by hand.
-fn own_targets(
-    mut switches: Switches,
-    mut previous: PreviousTags,
-    tag: CountryTag,
-    targets: &mut [u64],
-    at: usize,
-) -> usize
-    requires { at + length (switches_left switches) ≤ length targets.old }
-    ensures { FilledFrom (chain_words (get_or (previous_left previous.entry) (length (switches_left switches.entry)) tag) (switches_left switches.entry)) at result targets.old targets.new }
+fn own_targets(mut country: CountryRow<'_>, targets: &mut [u64], at: usize) -> usize
+    requires { at + length (switches_left country.switches) ≤ length targets.old }
+    ensures { FilledFrom (own_targets (country_of country.entry)) at result targets.old targets.new }
 {
     let mut k = at;
-    while switches.next().is_some() {
-        previous.next();
-        targets[k] = u64::from(u32::from(first_tag(switches, previous, tag)));
+    while country.switches.next().is_some() {
+        country.previous.next();
+        targets[k] = u64::from(u32::from(first_tag(country)));
         k += 1;
     }
     k
@@ -162,6 +152,6 @@ pub(crate) fn fill_targets(countries: Countries, targets: &mut [u64])
 {
     let mut k = 0;
     for country in countries {
-        k = own_targets(country.switches, country.previous, country.tag, targets, k);
+        k = own_targets(country, targets, k);
     }
 }

@@ -13,7 +13,6 @@ use Rattle.rules.specs.Outcomes.{call_nation_events}
 use Rattle.change_keys.specs.ChangeSteps.{AtFirstProvince, entered, change_keys_from}
 use Rattle.nation_tables.specs.declared.gathering.TableSizes.{TableSizes}
 use Rattle.nation_tables.specs.declared.layout.Turn.{Turn}
-use Rattle.nation_tables.specs.Layout.{most_countries, most_slots}
 use Rattle.nation_tables.specs.Holders.{slot_cells, SlotsPut}
 use Rattle.nation_tables.specs.Gathering.{fronts_of}
 use Rattle.nation_listing.specs.declared.placing.Listed.{Listed}
@@ -32,9 +31,9 @@ rest_for z holders held changes = leb z.slots holders && leb z.countries held &&
 
 -- ## Nations
 
--- The fronts of the tables that nations are read from lie inside, with cells for m keys that changes settle by and for n changes.
-pub record FrontsInside (z : TableSizes) (m n : ℕ) : Type 0 where
-  pub countries : z.countries ≤ most_countries
+-- The fronts of the tables that nations are read from lie inside, with cells for k countries, m keys that changes settle by, and n changes.
+pub record FrontsInside (z : TableSizes) (k m n : ℕ) : Type 0 where
+  pub countries : z.countries ≤ k
   pub runs : z.switches ≤ m
   pub targets : z.switches ≤ n
   pub changes : z.changes ≤ n
@@ -53,10 +52,10 @@ fronts_placed z words initials runs targets firsts started keys turns r rows₀ 
 
 -- ## Slots and changes
 
--- The fronts of the slots and of the sorted keys of an accepted record, which lie inside, with cells for n changes.
-pub record RestReady (xs : List ℕ) (provinces₀ : Provinces) (z : TableSizes) (slots₀ keys₀ : List ℕ) (n : ℕ) : Type 0 where
+-- The fronts of the slots and of the sorted keys of an accepted record, which lie inside, with cells for p slots and n changes.
+pub record RestReady (xs : List ℕ) (provinces₀ : Provinces) (z : TableSizes) (slots₀ keys₀ : List ℕ) (p n : ℕ) : Type 0 where
   pub ready : AtFirstProvince xs provinces₀
-  pub slots : z.slots ≤ most_slots
+  pub slots : z.slots ≤ p
   pub changes : z.changes ≤ n
   pub sorted : take z.changes keys₀ ≡ sort_by leb (change_keys_from 0 (entered xs))
 
@@ -72,12 +71,12 @@ counts_from z r = record { nations = r.nations; entries = r.entries; slots = z.s
 -- ## All but the rest
 
 -- The nations of an accepted record are written, slices of three lengths have room for the rest, and the tables for it are there.
-pub record NationsPlaced (xs : List ℕ) (holders held changes : ℕ) (z : TableSizes) (provinces₀ : Provinces) (r : Listed) (slots₁ keys₁ : List ℕ) (n : ℕ) (rows₀ rows₁ entries₀ entries₁ : List ℕ) : Type 0 where
+pub record NationsPlaced (xs : List ℕ) (holders held changes : ℕ) (z : TableSizes) (provinces₀ : Provinces) (r : Listed) (slots₁ keys₁ : List ℕ) (p n : ℕ) (rows₀ rows₁ entries₀ entries₁ : List ℕ) : Type 0 where
   pub countries : z.countries ≡ length (campaign_of xs).countries
   pub counted : z.changes ≡ length (changes_of (campaign_of xs))
   pub slotted : z.slots ≡ suc (length (campaign_of xs).provinces)
   pub slots : take z.slots slots₁ ≡ slot_cells (campaign_of xs) (holders_of (campaign_of xs))
-  pub ready : RestReady xs provinces₀ z slots₁ keys₁ n
+  pub ready : RestReady xs provinces₀ z slots₁ keys₁ p n
   pub rest : rest_for z holders held changes ≡ true
   pub placed : PlacedRows (nations_of (campaign_of xs)) r rows₀ rows₁ entries₀ entries₁
 
@@ -88,8 +87,8 @@ pub record RefusedBy (xs : List ℕ) (holders held changes n : ℕ) (rows₀ row
       ≡ call_nation_events xs (nation_cells rows₀ entries₀ holders₀ held₀ changes₀)
 
 -- What is told: the nations placed, or by what number the call refuses.
-abbrev pub nations_told : List ℕ → ℕ → ℕ → ℕ → code.Result NationsTold Refusal → List ℕ → List ℕ → ℕ → List ℕ → List ℕ → List ℕ → List ℕ → Type 0
-nations_told xs holders held changes (Ok t) slots keys n rows₀ rows₁ entries₀ entries₁ =
-    NationsPlaced xs holders held changes t.sizes t.provinces t.listed slots keys n rows₀ rows₁ entries₀ entries₁
-nations_told xs holders held changes (Err e) slots keys n rows₀ rows₁ entries₀ entries₁ =
+abbrev pub nations_told : List ℕ → ℕ → ℕ → ℕ → code.Result NationsTold Refusal → List ℕ → List ℕ → ℕ → ℕ → List ℕ → List ℕ → List ℕ → List ℕ → Type 0
+nations_told xs holders held changes (Ok t) slots keys p n rows₀ rows₁ entries₀ entries₁ =
+    NationsPlaced xs holders held changes t.sizes t.provinces t.listed slots keys p n rows₀ rows₁ entries₀ entries₁
+nations_told xs holders held changes (Err e) slots keys p n rows₀ rows₁ entries₀ entries₁ =
     RefusedBy xs holders held changes (refusal_number e) rows₀ rows₁ entries₀ entries₁

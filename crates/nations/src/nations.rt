@@ -3,7 +3,8 @@ ghost use Rattle.std.specs.Prelude.{◌≡◌, ◌≤◌, length};
 ghost use Rattle.rules.specs.Outcomes.{call_nation_events};
 ghost use Rattle.nations.specs.Cases.{nation_cells, nations_outcome};
 ghost use Rattle.change_keys.specs.ChangeSteps.{most_changes};
-ghost use Rattle.nation_tables.specs.Layout.{most_settling, rows_within};
+ghost use Rattle.nation_tables.specs.Layout.{most_countries, most_slots, most_settling};
+ghost use Rattle.nation_tables.specs.Gathering.{TableRoom};
 ghost use Rattle.nations.specs.NationSteps.{counts_from};
 
 use crate::{telling, writing};
@@ -14,11 +15,15 @@ use nation_listing::Listed;
 use nation_tables::{MOST_SETTLING, MOST_SLOTS, ROW_BYTES, TableCells, TableSizes, Turn};
 use record::Refusal;
 
-// A record of no more bytes is small: its tables take less time to clear.
-const SMALL_RECORD: usize = 16384;
+// Records of no more bytes are small, or of middle size: their tables take less time to clear.
+const SMALL_RECORD: usize = 2048;
 
-// Room for the changes of a small record, and for the keys that they settle by.
+const MIDDLE_RECORD: usize = 16384;
+
+// Room for the rows of one kind in a small record, and in one of middle size.
 const FEW_ROWS: usize = SMALL_RECORD / ROW_BYTES;
+
+const SOME_ROWS: usize = MIDDLE_RECORD / ROW_BYTES;
 
 // How many rows there are, by the sizes of the tables and what is listed.
 fn counts_of(sizes: TableSizes, listed: Listed) -> NationCounts
@@ -33,8 +38,13 @@ fn counts_of(sizes: TableSizes, listed: Listed) -> NationCounts
     }
 }
 
-// The answer, worked out in arrays on the stack, as there is no heap: with cells for KEYS keys that changes settle by and for CHANGES changes.
-fn answer_sized<const KEYS: usize, const CHANGES: usize>(
+// The answer, worked out in arrays on the stack, as there is no heap: with cells for so many countries, slots, keys that changes settle by, and changes.
+fn answer_sized<
+    const COUNTRIES: usize,
+    const SLOTS: usize,
+    const KEYS: usize,
+    const CHANGES: usize,
+>(
     s: &[u8],
     nations: &mut [u32],
     entries: &mut [u32],
@@ -42,21 +52,20 @@ fn answer_sized<const KEYS: usize, const CHANGES: usize>(
     held: &mut [u32],
     changes: &mut [u32],
 ) -> Result<NationCounts, Refusal>
-    requires keys_room { rows_within most_settling (length s.now) ≤ KEYS }
-    requires changes_room { rows_within most_changes (length s.now) ≤ CHANGES }
-    requires possible { (KEYS ≤ most_settling) × (CHANGES ≤ most_changes) }
+    requires room { TableRoom (length s.now) COUNTRIES SLOTS KEYS CHANGES }
+    requires possible { (COUNTRIES ≤ most_countries) × (SLOTS ≤ most_slots) × (KEYS ≤ most_settling) × (CHANGES ≤ most_changes) }
     ensures { nations_outcome result nations.new entries.new holders.new held.new changes.new ≡ call_nation_events s.now (nation_cells nations.old entries.old holders.old held.old changes.old) }
 {
-    let mut tables = TableCells::<KEYS, CHANGES> {
-        tag_words: [0; MOST_COUNTRIES],
-        initial_keys: [0; MOST_COUNTRIES],
+    let mut tables = TableCells::<COUNTRIES, SLOTS, KEYS, CHANGES> {
+        tag_words: [0; COUNTRIES],
+        initial_keys: [0; COUNTRIES],
         runs: [0; KEYS],
         keys: [0; CHANGES],
         cells: [0; CHANGES],
-        slots: [0; MOST_SLOTS],
-        started: [0; MOST_COUNTRIES],
+        slots: [0; SLOTS],
+        started: [0; COUNTRIES],
         turns: [Turn::NONE; CHANGES],
-        firsts: [Turn::NONE; MOST_COUNTRIES],
+        firsts: [Turn::NONE; COUNTRIES],
     };
     let told = telling::tell_nations(
         s,
@@ -86,7 +95,16 @@ pub fn nation_events(
     ensures { nations_outcome result nations.new entries.new holders.new held.new changes.new ≡ call_nation_events s.now (nation_cells nations.old entries.old holders.old held.old changes.old) }
 {
     if s.len() <= SMALL_RECORD {
-        return answer_sized::<FEW_ROWS, FEW_ROWS>(s, nations, entries, holders, held, changes);
+        return answer_sized::<FEW_ROWS, FEW_ROWS, FEW_ROWS, FEW_ROWS>(
+            s, nations, entries, holders, held, changes,
+        );
     }
-    answer_sized::<MOST_SETTLING, MOST_CHANGES>(s, nations, entries, holders, held, changes)
+    if s.len() <= MIDDLE_RECORD {
+        return answer_sized::<MOST_COUNTRIES, SOME_ROWS, SOME_ROWS, SOME_ROWS>(
+            s, nations, entries, holders, held, changes,
+        );
+    }
+    answer_sized::<MOST_COUNTRIES, MOST_SLOTS, MOST_SETTLING, MOST_CHANGES>(
+        s, nations, entries, holders, held, changes,
+    )
 }

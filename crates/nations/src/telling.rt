@@ -17,13 +17,18 @@ pub(crate) struct NationsTold<'a> {
 }
 
 // Writes the nations that the fronts of the tables tell, and their entries, if both slices have room.
-fn place_fronts<const KEYS: usize, const CHANGES: usize>(
+fn place_fronts<
+    const COUNTRIES: usize,
+    const SLOTS: usize,
+    const KEYS: usize,
+    const CHANGES: usize,
+>(
     sizes: TableSizes,
-    tables: &TableCells<KEYS, CHANGES>,
+    tables: &TableCells<COUNTRIES, SLOTS, KEYS, CHANGES>,
     nations: &mut [u32],
     entries: &mut [u32],
 ) -> Result<Listed, Refusal>
-    requires { FrontsInside sizes KEYS CHANGES }
+    requires { FrontsInside sizes COUNTRIES KEYS CHANGES }
     ensures { fronts_placed sizes tables.now.tag_words tables.now.initial_keys tables.now.runs tables.now.cells tables.now.firsts tables.now.started tables.now.keys tables.now.turns result nations.old nations.new entries.old entries.new }
 {
     let c = sizes.countries;
@@ -44,18 +49,24 @@ fn place_fronts<const KEYS: usize, const CHANGES: usize>(
 }
 
 // Writes the nations and their entries, if they have room and slices of three lengths have room for the rest: the slots, keys and cells
-// are left for that.
-pub(crate) fn tell_nations<'a, const KEYS: usize, const CHANGES: usize>(
+// are left for that. The slices are those of the call, which C lends one by one.
+pub(crate) fn tell_nations<
+    'a,
+    const COUNTRIES: usize,
+    const SLOTS: usize,
+    const KEYS: usize,
+    const CHANGES: usize,
+>(
     s: &'a [u8],
-    tables: &mut TableCells<KEYS, CHANGES>,
+    tables: &mut TableCells<COUNTRIES, SLOTS, KEYS, CHANGES>,
     nations: &mut [u32],
     entries: &mut [u32],
     holders: usize,
     held: usize,
     changes: usize,
 ) -> Result<NationsTold<'a>, Refusal>
-    requires { TableRoom (length s.now) KEYS CHANGES }
-    ensures { nations_told s.now holders held changes result tables.new.slots tables.new.keys CHANGES nations.old nations.new entries.old entries.new }
+    requires { TableRoom (length s.now) COUNTRIES SLOTS KEYS CHANGES }
+    ensures { nations_told s.now holders held changes result tables.new.slots tables.new.keys SLOTS CHANGES nations.old nations.new entries.old entries.new }
 {
     let gathered = nation_tables::gather_tables(s, tables)?;
     let sizes = gathered.sizes;

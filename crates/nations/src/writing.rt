@@ -17,22 +17,27 @@ pub(crate) fn rest_fits(sizes: TableSizes, holders: usize, held: usize, changes:
 }
 
 // Writes the holder of each slot, the slots held by each country, and the changes. The cells serve for the tags of the changes.
-pub(crate) fn write_rest<const KEYS: usize, const CHANGES: usize>(
+pub(crate) fn write_rest<
+    const COUNTRIES: usize,
+    const SLOTS: usize,
+    const KEYS: usize,
+    const CHANGES: usize,
+>(
     provinces: Provinces,
     sizes: TableSizes,
-    tables: &mut TableCells<KEYS, CHANGES>,
+    tables: &mut TableCells<COUNTRIES, SLOTS, KEYS, CHANGES>,
     holders: &mut [u32],
     held: &mut [u32],
     changes: &mut [u32],
 )
-    requires rest_ready { (xs : List ℕ) × RestReady xs provinces sizes tables.old.slots tables.old.keys CHANGES }
+    requires rest_ready { (xs : List ℕ) × RestReady xs provinces sizes tables.old.slots tables.old.keys SLOTS CHANGES }
     requires slots_room { SlotsRoom (take sizes.slots tables.old.slots) sizes.countries holders.old held.old × (change_width * sizes.changes ≤ length changes.old) }
-    ensures { (xs : List ℕ) → RestReady xs provinces.entry sizes tables.old.slots tables.old.keys CHANGES → RestWritten xs sizes tables.old.slots holders.old holders.new held.old held.new changes.old changes.new }
+    ensures { (xs : List ℕ) → RestReady xs provinces.entry sizes tables.old.slots tables.old.keys SLOTS CHANGES → RestWritten xs sizes tables.old.slots holders.old holders.new held.old held.new changes.old changes.new }
 {
     let p = sizes.slots;
     let n = sizes.changes;
     nation_tables::write_slots(&tables.slots[..p], sizes.countries, holders, held);
-    // Whole slices first: from these a proof knows how many cells there are, and the borrow checker covers no `&mut` part of an array's field.
+    // Whole slices first: from these a proof knows how many cells there are, and the borrow checker covers no `&mut` part of a field that is an array.
     let keys = &tables.keys[..];
     let cells = &mut tables.cells[..];
     change_rows::write_sorted(provinces, &keys[..n], &mut cells[..n], changes);

@@ -1,4 +1,5 @@
-// What crate page_c exports for C, and the Rust host calls so: over slices, with numbers for answers.
+// What crate page_c exports for C, and the Rust host calls so: over slices, with numbers for answers. Slices are lent one by one and `Returns` stands in
+// each promise, for C has no other type of either.
 #![tactic(auto)]
 
 mod booking;

@@ -14,6 +14,7 @@ ghost use Rattle.rules.specs.PageOutcomes.{call_page};
 ghost use Rattle.rules.specs.PlayerOutcomes.{call_players};
 ghost use Rattle.rules.specs.Questions.{call_resolve_each};
 
+// The record's refusal number, 0 when it is accepted.
 #[unsafe(no_mangle)]
 pub extern "C" fn check(s: &[u8]) -> i64
     ensures { result ≡ pos (refusal s.now) }
@@ -21,6 +22,7 @@ pub extern "C" fn check(s: &[u8]) -> i64
     page::check(s)
 }
 
+// The owner changes of a record, and how many rows they are.
 #[unsafe(no_mangle)]
 pub extern "C" fn province_owners(s: &[u8], out: &mut [u32]) -> i64
     ensures { Returns (call_province_owners s.now out.old) result out.new }
@@ -28,6 +30,7 @@ pub extern "C" fn province_owners(s: &[u8], out: &mut [u32]) -> i64
     page::province_owners(s, out)
 }
 
+// The run of owner changes on a date: where it begins and how long it is.
 #[unsafe(no_mangle)]
 pub extern "C" fn events_on(s: &[u8], date: u32, out: &mut [u32]) -> i64
     ensures { Returns (call_events_on_cells s.now date out.old) result out.new }
@@ -35,6 +38,7 @@ pub extern "C" fn events_on(s: &[u8], date: u32, out: &mut [u32]) -> i64
     page::events_on(s, date, out)
 }
 
+// The nations of a record, with entries, slots and changes, and the five counts of what was written.
 #[unsafe(no_mangle)]
 pub extern "C" fn nation_events(
     s: &[u8],
@@ -50,6 +54,7 @@ pub extern "C" fn nation_events(
     page::nation_events(s, nations, entries, holders, held, changes, counts)
 }
 
+// The bookings of who joins a war, three words each, and how many they are.
 #[unsafe(no_mangle)]
 pub extern "C" fn war_participants(
     s: &[u8],
@@ -62,6 +67,7 @@ pub extern "C" fn war_participants(
     page::war_participants(s, nations, entries, out)
 }
 
+// The ledger of one nation, and how many rows it has.
 #[unsafe(no_mangle)]
 pub extern "C" fn nation_ledger(
     s: &[u8],
@@ -75,6 +81,7 @@ pub extern "C" fn nation_ledger(
     page::nation_ledger(s, nations, entries, nation, out)
 }
 
+// How many rows a nation's ledger has, up to a number.
 #[unsafe(no_mangle)]
 pub extern "C" fn nation_ledger_rows(
     s: &[u8],
@@ -88,6 +95,7 @@ pub extern "C" fn nation_ledger_rows(
     page::nation_ledger_rows(s, nations, entries, nation, most)
 }
 
+// The ledgers of all nations, with a count for each.
 #[unsafe(no_mangle)]
 pub extern "C" fn nation_ledgers(
     s: &[u8],
@@ -101,6 +109,7 @@ pub extern "C" fn nation_ledgers(
     page::nation_ledgers(s, nations, entries, out, counts)
 }
 
+// The page of a selection, and how many bytes it has.
 #[unsafe(no_mangle)]
 pub extern "C" fn page(s: &[u8], selection: &[u8], out: &mut [u8]) -> i64
     ensures { Returns (call_page s.now selection.now out.old) result out.new }
@@ -108,6 +117,7 @@ pub extern "C" fn page(s: &[u8], selection: &[u8], out: &mut [u8]) -> i64
     page::page(s, selection, out)
 }
 
+// The players of a campaign, and how many.
 #[unsafe(no_mangle)]
 pub extern "C" fn players(s: &[u8], out: &mut [u32]) -> i64
     ensures { Returns (call_players s.now out.old) result out.new }
@@ -115,6 +125,7 @@ pub extern "C" fn players(s: &[u8], out: &mut [u32]) -> i64
     page::players(s, out)
 }
 
+// The histories of players with their names, and how many histories.
 #[unsafe(no_mangle)]
 pub extern "C" fn player_histories(
     s: &[u8],
@@ -128,6 +139,7 @@ pub extern "C" fn player_histories(
     page::player_histories(s, nations, entries, histories, names)
 }
 
+// The country that a campaign was started as, if one can be told.
 #[unsafe(no_mangle)]
 pub extern "C" fn starting_country(
     histories: &[u32],
@@ -140,6 +152,7 @@ pub extern "C" fn starting_country(
     page::starting_country(histories, nations, entries, out)
 }
 
+// The nation that a tag means on a date.
 #[unsafe(no_mangle)]
 pub extern "C" fn resolver_resolve(
     nations: &[u32],
@@ -153,6 +166,7 @@ pub extern "C" fn resolver_resolve(
     page::resolver_resolve(nations, entries, tag, date, out)
 }
 
+// The nation whose initial a tag is.
 #[unsafe(no_mangle)]
 pub extern "C" fn resolver_initial(
     nations: &[u32],
@@ -165,6 +179,7 @@ pub extern "C" fn resolver_initial(
     page::resolver_initial(nations, entries, tag, out)
 }
 
+// The nation that a tag means on a date, with the tag that it wears on a day.
 #[unsafe(no_mangle)]
 pub extern "C" fn resolver_resolve_at(
     nations: &[u32],
@@ -179,6 +194,7 @@ pub extern "C" fn resolver_resolve_at(
     page::resolver_resolve_at(nations, entries, day, tag, date, out)
 }
 
+// The nation whose initial a tag is, with the tag that it wears on a day.
 #[unsafe(no_mangle)]
 pub extern "C" fn resolver_initial_at(
     nations: &[u32],
@@ -192,6 +208,7 @@ pub extern "C" fn resolver_initial_at(
     page::resolver_initial_at(nations, entries, day, tag, out)
 }
 
+// The answers to many questions, two words each.
 #[unsafe(no_mangle)]
 pub extern "C" fn resolver_resolve_each(
     nations: &[u32],

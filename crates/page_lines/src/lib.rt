@@ -4,7 +4,5 @@
 mod lines;
 mod selection;
 
-pub use lines::{
-    FEW_ENTRIES, LONGEST_LINE, Line, SHORT_LINE, absent_line, heading, refused_line, row_line,
-};
-pub use selection::{SelectedTags, read_selection};
+pub use lines::{FEW_ENTRIES, Line, SHORT_LINE, absent_line, heading, refused_line, row_line};
+pub use selection::{SelectedTags, TAG_LINE, read_selection};

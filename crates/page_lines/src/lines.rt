@@ -1,4 +1,5 @@
-// The lines of the page, each as its bytes. A tag of a lent row may be any three bytes, which may be no text: so a line is bytes, and not written by `write!`.
+// The lines of the page, each as its bytes. A tag of a lent row may be any three bytes, which may be no text: so a line is bytes. Not by `write!`:
+// into an ArrayVec, which is an `io::Write`, it promises the bytes where it is Ok, and nowhere that it is; `try_extend_from_slice` says when.
 ghost use Rattle.std.specs.Prelude.{◌≡◌, ◌++◌, ◌+◌, ◌≤◌, ◌^◌, ◌<◌, length};
 ghost use Rattle.arrayvec.specs.ArrayVec.{array_vec_len};
 ghost use Rattle.rules.specs.Page.{decimal};

@@ -8,10 +8,10 @@ ghost use Rattle.page_lines.specs.Selecting.{is_line, tags_left, IsTags};
 use format::CountryTag;
 
 // How many bytes a tag takes with its line feed.
-const TAG_LINE: usize = 4;
+pub const TAG_LINE: usize = 4;
 
 // The tags of a selection, one by one, each on a line of its own. `as_chunks` with `map` is no plainer: the type of the closure has no name, so each
-// function that is passed the tags would be generic. `record::Packed` reads rows of bytes too, but is not below this crate.
+// function that is passed the tags would be generic. `record::Rows` goes over rows of bytes too, but is not below this crate.
 #[derive(Clone, Copy)]
 pub struct SelectedTags<'a> {
     lines: &'a [[u8; TAG_LINE]],
@@ -25,7 +25,7 @@ fn is_tag_line(line: &[u8; TAG_LINE]) -> bool
     (line[3] == b'\n') & tag_of(line).good()
 }
 
-// The three bytes of a line, as a tag.
+// The three bytes of a line, as a tag. Not by `Packed`, which reads a row of three: a line has a fourth.
 #[tactic(auto, unfolding(format::specs::Bytes::tag_at))]
 fn tag_of(line: &[u8; TAG_LINE]) -> CountryTag
     ensures { result ≡ tag_at line.now 0 }

@@ -1,11 +1,11 @@
 // The program page: it reads campaign.atl and, from standard input, a selection, and prints the page or the line of its refusal.
 #![tactic(auto)]
 
-use pages::{PRINTED_BYTES, print_page};
+use pages::{MOST_BYTES, PRINTED_BYTES, print_page};
 use stored_input::{read_file, read_full};
 
 // Room for one byte more than a page takes: so what is too long is found to be. Of a fixed size, since nothing is allocated.
-const MOST_READ: usize = 65537;
+const MOST_READ: usize = MOST_BYTES + 1;
 
 // Reads the selection. An input that fails is told of on standard error: its tags up to there are read, and the reader should know that more
 // may be missing.

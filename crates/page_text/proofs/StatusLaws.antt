@@ -1,18 +1,13 @@
 -- Living along the entries is living by the rule.
-use mathlib.Core.Path.{◌≡◌, refl, ◌∙◌}
+use mathlib.Core.Path.{◌≡◌, refl, ap, ◌∙◌}
 use mathlib.Core.Bool.{Bool, true, false, not, ◌||◌}
 use mathlib.Core.List.{List, [], ◌∷◌}
 use mathlib.Core.Option.{Option, none, some}
-use Prim.Native.Nat.{ℕ, suc, ◌+◌, ◌-◌, ◌<◌, ◌≤◌}
-use native.Mathlib.Numerals.{add-one}
-use native.Mathlib.Omega.{arith}
 use Rattle.lists.specs.Lists.{keep, last, last_or}
 use Rattle.format.specs.declared.date.Eu4Date.{Eu4Date}
 use Rattle.rules.specs.Chronicle.{Kind, switch, appeared, annexed, is_appeared, is_annexed, Entry, Nation}
-use Rattle.rules.specs.NationRows.{NationRow}
 use Rattle.rules.specs.Page.{ends_annexed, is_living}
-use Rattle.chronicle_rows.specs.RowAt.{entry_at, entries_at}
-use Rattle.page_text.specs.Status.{lives_on, lives_along, nation_with}
+use Rattle.page_text.specs.Status.{lives_on, lives_along}
 
 abbrev tells : Entry → Bool
 tells e = is_appeared e.kind || is_annexed e.kind
@@ -42,24 +37,7 @@ whole : (o : Option Entry) → told true o ≡ not (ends_annexed o)
 whole none = refl
 whole (some e) = refl
 
-pub living-along : (n : Nation) → lives_along true n.entries ≡ is_living n
+-- Along the entries of a nation.
+pub living_along : (n : Nation) (es : List Entry) → es ≡ n.entries → lives_along true es ≡ is_living n
 unfolding is_living
-living-along n = along n.entries true ∙ whole (last (keep tells n.entries))
-
--- ## Of the entry words from a number on
-
-module _ (es : List ℕ) where
-  -- Living behind the entries from `at` to the end.
-  abbrev pub lives_from : Bool → ℕ → ℕ → Bool
-  lives_from living at end = lives_along living (entries_at es at (end - at))
-
-  pub lives-end : (living : Bool) (at end : ℕ) → end ≤ at → lives_from living at end ≡ living
-  lives-end living at end h = let e : end - at ≡ 0 = omega arith in rw e
-
-  pub lives-next : (living : Bool) (at end : ℕ) (x : Entry) → at < end → x ≡ entry_at es at → {b : Bool} → b ≡ lives_on living x.kind
-      → lives_from b (at + 1) end ≡ lives_from living at end
-  lives-next living at end x h e k = let n : end - at ≡ suc (end - (at + 1)) = omega arith in rw (n, k, e, add-one at)
-
-  -- All entries that a row points at.
-  pub living-from : (r : NationRow) → lives_from true r.first (r.first + r.count) ≡ is_living (nation_with es r)
-  living-from r = let n : r.first + r.count - r.first ≡ r.count = omega arith in rw n (living-along (nation_with es r))
+living_along n es e = ap (lives_along true) e ∙ along n.entries true ∙ whole (last (keep tells n.entries))

@@ -22,7 +22,7 @@ use Rattle.sorting.proofs.SortedKeyLaws.{sort-again}
 use Rattle.format.specs.declared.tag.CountryTag.{CountryTag}
 use Rattle.rules.specs.Lent.{written}
 use Rattle.rules.specs.NationRows.{NationRow, nation_rows_in, nation_width}
-use Rattle.chronicle_rows.specs.Cases.{nation_told, nation_of}
+use Rattle.chronicle_rows.specs.Cases.{nation_told, nation_in}
 use Rattle.chronicle_rows.specs.RowAt.{nation_row_at, tags_stored}
 use Rattle.chronicle_rows.proofs.RowAtLaws.{nations-next, nations_told}
 use Rattle.chronicle_rows.proofs.NumberedLaws.{dropped-numbers}
@@ -55,20 +55,20 @@ module _ (ws : List ℕ) where
   length-tags = ap length tags-rows ∙ length-map rows (λ (r : NationRow). r.stored)
 
   -- As an iterator over all rows gives them.
-  module _ (xs : List (List ℕ)) (all : map nation_of xs ≡ map nation_of (first_chunks nation_width (length ws / nation_width) ws)) where
-    pub rows-left : map nation_told (map nation_of xs) ≡ rows
+  module _ (xs : List (List ℕ)) (all : map nation_in xs ≡ map nation_in (first_chunks nation_width (length ws / nation_width) ws)) where
+    pub rows-left : map nation_told (map nation_in xs) ≡ rows
     rows-left = ap (map nation_told) all ∙ nations_told ws
 
-    pub tags-left : map (λ n. n.stored) (map nation_of xs) ≡ tags_stored ws
+    pub tags-left : map (λ n. n.stored) (map nation_in xs) ≡ tags_stored ws
     tags-left =
-        sym (map-then nation_told (λ (r : NationRow). r.stored) (map nation_of xs))
+        sym (map-then nation_told (λ (r : NationRow). r.stored) (map nation_in xs))
         ∙ ap (map (λ (r : NationRow). r.stored)) rows-left
         ∙ sym tags-rows
 
-    pub count-left : length (map nation_of xs) ≡ length rows
-    count-left = sym (length-map (map nation_of xs) nation_told) ∙ ap length rows-left
+    pub count-left : length (map nation_in xs) ≡ length rows
+    count-left = sym (length-map (map nation_in xs) nation_told) ∙ ap length rows-left
 
-    pub count-tags : length (map (λ n. n.stored) (map nation_of xs)) ≡ length rows
+    pub count-tags : length (map (λ n. n.stored) (map nation_in xs)) ≡ length rows
     count-tags = ap length tags-left ∙ length-tags
 
   -- ## Their keys

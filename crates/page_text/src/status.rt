@@ -4,7 +4,7 @@ ghost use Rattle.rules.specs.Page.{is_living};
 ghost use Rattle.chronicle_rows.specs.Cases.{kind_told, nation_told};
 ghost use Rattle.page_text.specs.Status.{lives_on, nation_with};
 
-use chronicle_rows::{Kind, Nation, entry_at};
+use chronicle_rows::{Kind, Nation};
 
 // Whether it lives on behind an entry of this kind: a switch changes nothing.
 fn lives_on(living: bool, kind: Kind) -> bool
@@ -17,15 +17,14 @@ fn lives_on(living: bool, kind: Kind) -> bool
     }
 }
 
-// Whether a nation is living: unless Annexed came last of what is no switch. By number, since rows past the last one read as zeros whatever the words
-// are, and no slice has these.
+// Whether a nation is living: unless Annexed came last of what is no switch.
+#[tactic(auto, using(crate::proofs::StatusLaws::living_along))]
 pub fn is_living(entries: &[u32], nation: Nation) -> bool
     ensures { result ≡ is_living (nation_with entries.now (nation_told nation)) }
 {
-    let first = nation.first as usize;
     let mut living = true;
-    for i in first..first + nation.count as usize {
-        living = lives_on(living, entry_at(entries, i).kind);
+    for entry in nation.entries(entries) {
+        living = lives_on(living, entry.kind);
     }
     living
 }

@@ -15,7 +15,8 @@ use search::{SortedKeys, first_place, tag_key};
 use sorting::sort_keys;
 
 // Writes the key of each nation's stored tag, in row order: by index, since a proof knows no cell that is written through a `zip` with `iter_mut`.
-// One more such loop stands in histories, over countries: a shared one would be public, and would have to require that its iterator goes on.
+// One more such loop stands in histories, over countries. A function for both would be public, without `requires`: a trait would have to say that its
+// iterator may be asked and ends, as `Changing` does (change_keys). That trait and its two impls take 27 lines, and the two loops 18 with their contracts.
 #[tactic(auto, unfolding(search::specs::Places::tag_keys_from))]
 fn fill_stored(nations: Nations<'_>, keys: &mut [u64; MOST_COUNTRIES])
     requires { length (stored_left nations) ≤ 2000 }
@@ -50,7 +51,8 @@ pub(crate) fn are_short(nations: &[u32]) -> bool
     Nations::of(nations).all(|nation| nation.count < FEW_ENTRIES)
 }
 
-// What the line of a tag is found by: the rows of nations with a status cell each, and the sorted keys of the tags that they are stored under.
+// What the line of a tag is found by: the rows of nations with a status cell each, and the sorted keys of the tags that they are stored under. Rows and
+// cells are slices of their own, as `write_text` is lent them: a nation's row has no word for its status.
 #[derive(Clone, Copy)]
 pub(crate) struct StoredNations<'a, 'k> {
     pub(crate) nations: &'a [u32],

@@ -85,9 +85,7 @@ pub fn write_text(
     if (MOST_COUNTRIES < n) | (living.len() < n) {
         return Err(Refusal::NoRoom);
     }
-    let Some(tags) = read_selection(selection) else {
-        return Err(Refusal::BadQuestion);
-    };
+    let tags = read_selection(selection).ok_or(Refusal::BadQuestion)?;
     // No heap: an array for the most nations, of which the front is used.
     let mut keys = [0u64; MOST_COUNTRIES];
     let keys = sort_stored(nations, &mut keys);

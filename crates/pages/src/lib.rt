@@ -6,5 +6,5 @@ mod paging;
 mod printing;
 mod status;
 
-pub use paging::write_page;
+pub use paging::{MOST_BYTES, write_page};
 pub use printing::{PRINTED_BYTES, print_page};

@@ -35,6 +35,7 @@ pub(crate) fn list_nations(s: &[u8], nations: &mut [u32], living: &mut [bool]) -
         &mut held,
         &mut changes,
     );
+    // As short as `.ok()?`: the refusal is not handed on, for it can only be want of room.
     let Ok(counts) = listed else { return None };
     let n = NATION_WIDTH * counts.nations;
     let m = ENTRY_WIDTH * counts.entries;

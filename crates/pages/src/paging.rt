@@ -2,7 +2,7 @@
 ghost use Rattle.std.specs.Prelude.{◌≡◌};
 ghost use Rattle.rules.specs.PageOutcomes.{call_page};
 ghost use Rattle.pages.specs.Cases.{paged_outcome};
-ghost use Rattle.pages.specs.Steps.{PageBegun, NationsListed};
+ghost use Rattle.pages.specs.Steps.{PageBegun};
 
 use crate::listing::list_nations;
 use chronicle_rows::NATION_WIDTH;
@@ -12,21 +12,7 @@ use page_text::write_text;
 use record::Refusal;
 
 // The most bytes of a record, and of a selection.
-pub(crate) const MOST_BYTES: usize = 65536;
-
-// The page of the listed nations, if there is room for it.
-fn listed_page(
-    s: &[u8],
-    nations: &[u32],
-    living: &[bool],
-    selection: &[u8],
-    out: &mut [u8],
-) -> Result<usize, Refusal>
-    requires { PageBegun s.now selection.now × NationsListed s.now nations.now living.now }
-    ensures { paged_outcome result out.new ≡ call_page s.now selection.now out.old }
-{
-    write_text(nations, living, selection, out)
-}
+pub const MOST_BYTES: usize = 65536;
 
 // The page of an accepted record and of a selection that is tags.
 fn chronicle_page(s: &[u8], selection: &[u8], out: &mut [u8]) -> Result<usize, Refusal>
@@ -36,10 +22,8 @@ fn chronicle_page(s: &[u8], selection: &[u8], out: &mut [u8]) -> Result<usize, R
     // No heap: arrays for the most nations, of which the fronts are used. Each country has one at most.
     let mut nations = [0u32; NATION_WIDTH * MOST_COUNTRIES];
     let mut living = [false; MOST_COUNTRIES];
-    match list_nations(s, &mut nations, &mut living) {
-        Some(n) => listed_page(s, &nations[..n], &living, selection, out),
-        None => Err(Refusal::NoRoom),
-    }
+    let n = list_nations(s, &mut nations, &mut living).ok_or(Refusal::NoRoom)?;
+    write_text(&nations[..n], &living, selection, out)
 }
 
 // The page of a record for a selection: how many tags were read, then a line for each. Refused for want of room is more than 65,536 bytes of either;
@@ -54,8 +38,6 @@ pub fn write_page(s: &[u8], selection: &[u8], out: &mut [u8]) -> Result<usize, R
     // With a name, by which the proof knows which check refused.
     let checked = record::check(s);
     checked?;
-    let Some(_) = read_selection(selection) else {
-        return Err(Refusal::BadQuestion);
-    };
+    read_selection(selection).ok_or(Refusal::BadQuestion)?;
     chronicle_page(s, selection, out)
 }

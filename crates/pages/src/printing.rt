@@ -8,14 +8,14 @@ ghost use Rattle.page_lines.specs.Lines.{refused_line};
 ghost use Rattle.pages.specs.Printing.{file_read, most_printed, call_print, printed_outcome};
 
 use crate::paging::{MOST_BYTES, write_page};
-use page_lines::{SHORT_LINE, refused_line};
+use page_lines::{SHORT_LINE, TAG_LINE, refused_line};
 use record::Refusal;
 
 // The first line of the most tags.
 const FIRST_LINE: usize = 15;
 
 // The most tags, each with a line feed behind it.
-const MOST_TAGS: usize = MOST_BYTES / 4;
+const MOST_TAGS: usize = MOST_BYTES / TAG_LINE;
 
 // Room for every page: no nation of a page has so many entries that its line is not short.
 pub const PRINTED_BYTES: usize = FIRST_LINE + SHORT_LINE * MOST_TAGS;

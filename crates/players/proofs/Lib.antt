@@ -1,2 +1,3 @@
 pub mod PairLaws
 pub mod PlayerLaws
+pub mod WalkLaws

@@ -7,11 +7,13 @@ use Prim.Native.Nat.{ℕ, ◌+◌, ◌-◌, ◌*◌, ◌<◌, ◌≤◌}
 use native.Mathlib.Omega.{arith}
 use borrow.Author.Tests.{le-leb, lt-leb}
 use lib.ListN.{length, take, drop, length-take, length-drop}
+use borrow.Rule.Slice.PartMut.{put_mid}
 use Rattle.std.specs.Prelude.{Ok, Err}
 use Rattle.lists.specs.Lists.{join_of}
 use Rattle.lists.proofs.BoolLaws.{cases}
 use Rattle.lists.proofs.EachLaws.{all-each}
 use Rattle.lists.proofs.ListLaws.{join-short, length-join}
+use Rattle.lists.proofs.WriteLaws.{Writing, behind, writing_more}
 use Rattle.format.specs.declared.tag.CountryTag.{CountryTag}
 use Rattle.format.specs.Tags.{created}
 use Rattle.format.specs.Campaign.{campaign_of}
@@ -80,11 +82,22 @@ unfolding player_rows
 rows_none = refl
 
 -- A row was put into the tail, which has room for it.
-pub put-tail : (row words out now : List ℕ) (at : ℕ) → at + 2 ≤ length out → words ≡ row → now ≡ row_put 2 words (take (length out - at) (drop at out))
+put-tail : (row words out now : List ℕ) (at : ℕ) → at + 2 ≤ length out → words ≡ row → now ≡ row_put 2 words (take (length out - at) (drop at out))
     → now ≡ row ++ drop 2 (take (length out - at) (drop at out))
 put-tail row words out now at room e put =
     let long : 2 ≤ length (take (length out - at) (drop at out)) = simp (length-take, length-drop) (omega arith) in
     put ∙ rw (le-leb 2 (length (take (length out - at) (drop at out))) long, e) refl
+
+-- The row of the next player follows those of the players before.
+pub row-written : (all : List ℕ) (left rest : List Player) (p : Player) (before now words cells : List ℕ) (i at next : ℕ)
+    → Writing all (player_rows left) before (2 * i) now → left ≡ p ∷ rest → at ≡ i → next ≡ i + 1 → words ≡ player_words p
+    → cells ≡ row_put 2 words (take (length now - 2 * at) (drop (2 * at) now))
+    → Writing all (player_rows rest) before (2 * next) (put_mid (2 * at) (length now - 2 * at) now cells)
+row-written all left rest p before now words cells i at next w e a b same put =
+    let room : 2 * i + 2 ≤ length now = omega (arith, w.fits, w.long, length-player_rows left, ap length e) in
+    let wrote = behind now (player_words p) cells (2 * i) room (put-tail (player_words p) words now cells (2 * i) room same (rw a at put)) in
+    let two : 2 * next ≡ 2 * i + 2 = omega (arith, b) in
+    rw (a, two) (writing_more all (player_rows left) (player_rows rest) before (player_words p) now _ (2 * i) (ap player_rows e ∙ rows_next p rest) w wrote)
 
 -- ## `players`
 

@@ -22,15 +22,13 @@ impl From<Player> for [u32; PLAYER_WIDTH] {
     }
 }
 
-// Writes the rows of all players. By their offset, counted beside the walk: a proof knows no cell that is written through the parts of `as_chunks_mut`.
+// Writes the rows of all players. By places: a proof knows no cell that is written through the parts of `as_chunks_mut`.
 fn write_players(players: PlayersOf, out: &mut [u32])
     requires { 2 * length (players_left players) ≤ length out.old }
     ensures { out.new ≡ written (player_rows (players_left players.entry)) out.old }
 {
-    let mut at = 0;
-    for player in players {
-        put::<PLAYER_WIDTH>(player.into(), &mut out[at..]);
-        at += PLAYER_WIDTH;
+    for (i, player) in players.enumerate() {
+        put::<PLAYER_WIDTH>(player.into(), &mut out[PLAYER_WIDTH * i..]);
     }
 }
 

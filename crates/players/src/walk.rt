@@ -67,13 +67,8 @@ impl Iterator for PlayersOf<'_> {
 
     ghost remaining = { item_count players_left };
 
-    // Not by `for` over `by_ref()`: what that leaves of the pairs, a proof does not know.
     fn next(&mut self) -> Option<Player> {
-        while let Some(pair) = self.pairs.next() {
-            if let Some(player) = player_of(pair, self.multiplayer) {
-                return Some(player);
-            }
-        }
-        None
+        let multiplayer = self.multiplayer;
+        self.pairs.find_map(|pair| player_of(pair, multiplayer))
     }
 }

@@ -1,4 +1,5 @@
-// `resolve_each`: passes over the rows of the answer.
+// `resolve_each`: passes over the rows of the answer. Not by a trait, as in bookings, whose passes all go over joinings: `finish_rows` reads no question. One
+// `pass_over` for both would be generic in iterator and width, and ask that the iterator ends, may be asked and gives few enough, and the width be small.
 ghost use Rattle.std.specs.Prelude.{◌≡◌, ◌*◌, ◌/◌, ◌≤◌, length};
 ghost use Rattle.rules.specs.Questions.{questions_in, call_resolve_each};
 ghost use Rattle.questions.specs.Cases.{each_outcome};

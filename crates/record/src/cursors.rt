@@ -1,6 +1,6 @@
 // Iterators over the rows of a record that own others. Such a row comes with an iterator over what it owns. Four types and no generic one: countries
 // share two kinds of rows, provinces have facts beside them, a war is its events alone, and ledgers tell points by number; what is the same is two
-// lines of each `next`.
+// lines of each `next`, and the one line of `len`, which wars do without.
 ghost use Rattle.std.specs.Prelude.{◌≡◌, length};
 ghost use Rattle.std.specs.Iterator.{YieldsFirstBy, item_count};
 ghost use Rattle.record.specs.Cursors.{country_of, countries_left, war_events_left, wars_left};

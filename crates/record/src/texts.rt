@@ -2,7 +2,8 @@
 ghost use Rattle.std.specs.Iterator.{YieldsFirstRef, item_count};
 ghost use Rattle.record.specs.Cursors.{strings_left};
 
-// So many strings, and the bytes that they stand in. The number stands beside them: that the bytes are just so many strings is no fact of this type.
+// So many strings, and the bytes that they stand in. The number stands beside the bytes, and no fact ties the two: `next` ends where either does. That the
+// strings can be numbered in a word (players) follows from the number alone.
 #[derive(Clone, Copy)]
 pub struct Strings<'a> {
     pub(crate) bytes: &'a [u8],

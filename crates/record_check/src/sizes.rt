@@ -9,7 +9,8 @@ ghost use Rattle.record_check.specs.Few.{FewRows};
 use format::{MOST_PROVINCES, Packed, PackedCountry, PackedLedger, PackedProvince, Refusal};
 use record_head::Parsed;
 
-// The sum of a count in each row. No section whose rows own others may have more rows than the provinces.
+// The sum of a count in each row. No section whose rows own others may have more rows than the provinces. By a loop: of a
+// generic closure without clauses of its own a proof knows nothing, so that `sum` over `map` is not proved.
 fn total<R: Packed<WIDTH>, const WIDTH: usize, F: Fn(R) -> u32>(
     rows: &[[u8; WIDTH]],
     count: F,
@@ -66,9 +67,7 @@ pub(crate) fn sizes_checked(s: &[u8]) -> Result<Parsed<'_>, Refusal>
     if !record_head::within_limits(head) {
         return Err(Refusal::WrongSizes);
     }
-    let Some(sections) = record_head::sections_of(s, head) else {
-        return Err(Refusal::WrongSizes);
-    };
+    let sections = record_head::sections_of(s, head).ok_or(Refusal::WrongSizes)?;
     let parsed = Parsed {
         bytes: s,
         head,

@@ -7,10 +7,11 @@ use native.Mathlib.Decide.{dec_lt}
 use native.Mathlib.Omega.{arith}
 use borrow.Author.Tests.{leb-true, le-leb, lt-leb}
 use lib.Dec.{leb}
-use lib.ListN.{length, get_or, set, replicate, length-set, length-replicate, get_or-eq_default}
-use lib.Seq.{get_or-set_other}
+use lib.ListN.{length, get_or, drop, replicate, length-take, length-drop, length-replicate, get_or-eq_default}
+use borrow.Rule.Slice.PartMut.{mid_of, put_mid, same_len_mid}
+use Rattle.std.proofs.lemmas.List.{places}
 use Rattle.lists.proofs.BoolLaws.{and-false}
-use Rattle.lists.proofs.TableLaws.{entry, entry_set, blank}
+use Rattle.lists.proofs.TableLaws.{entry, blank}
 use Rattle.format.specs.Dates.{month_table, month_days}
 use Rattle.format.specs.Days.{is_day}
 use Rattle.record_fields.specs.Tables.{DaysTo, DayTable}
@@ -58,23 +59,29 @@ days-skip table a b t l none =
     }
 
 -- A month begins behind its number of hundreds, which is no day, and ends behind its last day.
-pub days-open : (table : List Bool) (m : ℕ) → DaysTo table (100 * m) → DaysTo table (100 * m + 1)
-days-open table m t = days-skip table (100 * m) (100 * m + 1) t (omega arith) (λ k l h. day-none k (omega arith))
+pub days-open : (table : List Bool) (m first : ℕ) → 100 * m ≤ first → first ≤ 100 * m + 1 → DaysTo table (100 * m) → DaysTo table first
+days-open table m first l h t = days-skip table (100 * m) first t l (λ k a b. day-none k (omega arith))
 
 pub days-close : (table : List Bool) (m end : ℕ) → end ≡ 100 * m + 1 + month_days m → DaysTo table end → DaysTo table (100 * m + 100)
 days-close table m end e t =
     let short = month-short m in
     days-skip table end (100 * m + 100) t (omega arith) (λ k l h. day-late k m (omega (arith, short)) (omega (arith, short)))
 
--- The next day is marked.
-pub days-mark : (table : List Bool) (k : ℕ) → DaysTo table k → k < 10000 → is_day k ≡ true → DaysTo (set table k true) (k + 1)
-days-mark table k t l day =
-    let inside : k < length table = omega (arith, t.size) in
-    record {
-      size = simp length-set t.size;
-      below = λ j h. entry_set is_day false table k j true inside (sym day) (λ e. t.below j (omega (arith, e)));
-      rest = λ j h. get_or-set_other table k j true false (λ e. absurd (omega (arith, e))) ∙ t.rest j (omega arith);
-    }
+-- The days from a on are marked, n of them.
+pub days-fill : (table marks : List Bool) (a n : ℕ) → DaysTo table a → a + n ≤ 10000 → marks ≡ replicate (length (mid_of a n table)) true
+    → ((k : ℕ) → a ≤ k → k < a + n → is_day k ≡ true) → DaysTo (put_mid a n table marks) (a + n)
+days-fill table marks a n t fits e day =
+    let long : length (mid_of a n table) ≡ n = omega (arith, t.size, length-take n (drop a table), length-drop a table) in
+    let filled : marks ≡ replicate n true = e ∙ ap (λ (i : ℕ). replicate i true) long in
+    rw filled (record {
+      size = same_len_mid a n table (replicate n true) (omega (arith, length-replicate n true, long)) ∙ t.size;
+      below =
+          λ k h. elim (dec_lt k a) as (λ _. get_or (put_mid a n table (replicate n true)) k false ≡ is_day k) [
+            | yes p ↦ grind (arith, places) ∙ t.below k p
+            | no p ↦ grind (arith, places) ∙ sym (day k (omega arith) h)
+          ];
+      rest = λ k h. grind (arith, places) ∙ t.rest k (omega arith);
+    })
 
 -- A table without marks is right for what has no month, and one with the marks of twelve months is whole.
 pub days-none : DaysTo (replicate 10000 false) (100 * 1)

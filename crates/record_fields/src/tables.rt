@@ -58,9 +58,7 @@ fn mark_days(table: &mut [bool; 10000], month: usize)
 {
     let first = 100 * month + 1;
     let days = format::month_days(month as u32) as usize;
-    for k in first..first + days {
-        table[k] = true;
-    }
+    table[first..first + days].fill(true);
 }
 
 // Which numbers month*100 + day are days, in a table without marks.

@@ -1,6 +1,6 @@
 -- The answers of the four forms, by case: refused by a number, or what is told of the nation of the best claim.
 use mathlib.Core.Path.{◌≡◌, refl, sym, ap, ◌∙◌}
-use mathlib.Core.Bool.{Bool, true, false, cond, not}
+use mathlib.Core.Bool.{Bool, true, false, cond, ◌&&◌}
 use mathlib.Core.List
 use mathlib.Core.List.{List, [], ◌∷◌}
 use mathlib.Core.Option.{Option, none, some, map}
@@ -8,10 +8,9 @@ use Rattle.std.specs.Prelude as code
 use Rattle.std.specs.Prelude.{Ok, Err, IsErr, IsErrAnd}
 use Prim.Native.Nat.{ℕ, ◌+◌, ◌<◌}
 use native.Mathlib.Omega.{arith}
-use borrow.Author.Tests.{not-true, not-false}
-use lib.ListN.{length, drop}
-use lib.Seq.{drop-length}
+use Rattle.std.specs.List.{list_all}
 use Rattle.lists.specs.Lists.{last_or, last}
+use Rattle.lists.proofs.BoolLaws.{cases}
 use Rattle.format.specs.declared.tag.CountryTag.{CountryTag}
 use Rattle.format.specs.declared.date.Eu4Date.{Eu4Date}
 use Rattle.format.specs.Refusal.{first_of}
@@ -37,40 +36,38 @@ use Rattle.claims.proofs.ResolvedLaws.{claim_nation, map-twice, claim-resolved, 
 
 -- ## The tests of a question
 
-module _ (ws es : List ℕ) (tag : CountryTag) (dates : List Eu4Date) where
-  -- The number that the dates from number i on give.
-  abbrev pub dates_left : ℕ → ℕ
-  dates_left i = first_of (List.map (λ (d : Eu4Date). asked_date_number d.0) (drop i dates))
+-- All dates are tested as one.
+dates_number : (dates : List Eu4Date) → first_of (List.map (λ (d : Eu4Date). asked_date_number d.0) dates) ≡ cond (list_all good_date dates) 0 12
+unfolding first_of good_date
+dates_number [] = refl
+dates_number (d ∷ dates) = cases (good_date d) (λ h. simp h (dates_number dates)) (λ h. simp h)
 
+module _ (ws es : List ℕ) (tag : CountryTag) (dates : List Eu4Date) where
   -- What `open` refused.
   pub asked-torn : (n : ℕ) → 0 < n → n ≡ cond (well_shaped ws es) 0 11 → n ≡ asked_number ws es tag dates
   asked-torn n more e = e ∙ sym (first-stop (chronicle_number ws es) _ (λ z. omega (arith, e)))
 
-  -- The chronicle is well shaped.
-  module _ (e : ◌≡◌ {A = ℕ} 0 (cond (well_shaped ws es) 0 11)) (g : Bool) (f : g ≡ is_tag tag) where
-    whole : asked_number ws es tag dates ≡ first_of (asked_tag_number tag.0 ∷ List.map (λ (d : Eu4Date). asked_date_number d.0) dates)
-    whole = first-pass (chronicle_number ws es) _ (sym e)
+  -- The chronicle is well shaped, and t and d say whether the tag and all dates are good.
+  module _ (e : ◌≡◌ {A = ℕ} 0 (cond (well_shaped ws es) 0 11)) (t d : Bool) (f : t ≡ is_tag tag) (g : d ≡ list_all good_date dates) where
+    tag-number : (b : Bool) (ns : List ℕ) → first_of (cond b 0 12 ∷ ns) ≡ cond b (first_of ns) 12
+    unfolding first_of
+    tag-number true ns = refl
+    tag-number false ns = refl
 
-    pub asked-bad : not g ≡ true → 12 ≡ asked_number ws es tag dates
-    asked-bad k = let t : is_tag tag ≡ false = sym f ∙ not-true g k in sym (whole ∙ rw t (first-stop 12 _ (λ z. omega arith)))
+    joined : (a b : Bool) → ◌≡◌ {A = ℕ} (cond a (cond b 0 12) 12) (cond (a && b) 0 12)
+    joined true b = refl
+    joined false b = refl
 
-    pub asked-begun : not g ≡ false → dates_left 0 ≡ asked_number ws es tag dates
-    asked-begun k = sym (whole ∙ first-pass (asked_tag_number tag.0) _ (ap (λ (b : Bool). cond b 0 12) (sym f ∙ not-false g k)))
+    asked-whole : asked_number ws es tag dates ≡ cond (t && d) 0 12
+    asked-whole =
+        first-pass (chronicle_number ws es) _ (sym e) ∙ tag-number (is_tag tag) _
+        ∙ rw (dates_number dates, ← f, ← g) (joined t d)
 
-  module _ (i n : ℕ) (d : Eu4Date) (next : drop i dates ≡ d ∷ drop (i + 1) dates) (so_far : dates_left i ≡ n) (g : Bool) (f : g ≡ good_date d) where
-    pub date-bad : not g ≡ true → 12 ≡ n
-    date-bad k =
-        let t : good_date d ≡ false = sym f ∙ not-true g k in
-        sym (first-stop 12 (List.map (λ (x : Eu4Date). asked_date_number x.0) (drop (i + 1) dates)) (λ z. omega arith)) ∙ (rw (next, t) at so_far)
+    pub asked-bad : (t && d) ≡ false → 12 ≡ asked_number ws es tag dates
+    asked-bad k = sym (asked-whole ∙ ap (λ (b : Bool). cond b 0 12) k)
 
-    pub date-good : not g ≡ false → dates_left (i + 1) ≡ n
-    date-good k =
-        let t : good_date d ≡ true = sym f ∙ not-false g k in
-        sym (first-pass (asked_date_number d.0) (List.map (λ (x : Eu4Date). asked_date_number x.0) (drop (i + 1) dates)) (ap (λ (b : Bool). cond b 0 12) t)) ∙ (rw next at so_far)
-
-  pub dates-done : (i n : ℕ) → i ≡ length dates → dates_left i ≡ n → 0 ≡ n
-  unfolding first_of
-  dates-done i n e so_far = rw (e, drop-length dates) at so_far
+    pub asked-good : (t && d) ≡ true → 0 ≡ asked_number ws es tag dates
+    asked-good k = sym (asked-whole ∙ ap (λ (b : Bool). cond b 0 12) k)
 
 -- A day's test in front of the tag's or behind it: both refuse by 12.
 day-first : (a b c : Bool) (ns : List ℕ) → first_of (cond a 0 11 ∷ cond b 0 12 ∷ cond c 0 12 ∷ ns) ≡ first_of (cond a 0 11 ∷ cond c 0 12 ∷ cond b 0 12 ∷ ns)

@@ -1,20 +1,14 @@
 -- The tag worn so far, entry by entry; and what is answered of the nation of a claim, by case.
 use mathlib.Core.Path.{◌≡◌, refl, ap, ◌∙◌}
-use mathlib.Core.Bool.{Bool, true, false, not}
+use mathlib.Core.Bool.{true, false}
 use mathlib.Core.List.{List, [], ◌∷◌, ◌++◌}
 use mathlib.Core.Option.{Option, none, some}
-use Prim.Native.Nat.{ℕ, ◌+◌, ◌-◌, ◌<◌, ◌≤◌}
-use native.Mathlib.Omega.{arith}
-use borrow.Author.Tests.{not-true, not-false}
 use Rattle.lists.specs.Lists.{leading, last_or, last, or_else}
 use Rattle.format.specs.declared.tag.CountryTag.{CountryTag}
 use Rattle.format.specs.declared.date.Eu4Date.{Eu4Date}
 use Rattle.format.specs.Dates.{not_after}
-use Rattle.rules.specs.Chronicle.{Kind}
+use Rattle.rules.specs.Chronicle.{Entry}
 use Rattle.rules.specs.Nations.{kind_target, targets}
-use Rattle.chronicle_rows.specs.RowAt.{entry_at, entries_at}
-use Rattle.resolver.specs.Found.{worn_in}
-use Rattle.claims.proofs.ClaimLaws.{numbers_more}
 
 -- ## Entry by entry
 
@@ -32,33 +26,26 @@ or-or : {A : Type 0} (a b c : Option A) → or_else (or_else a b) c ≡ or_else 
 or-or none b c = refl
 or-or (some x) b c = refl
 
-module _ (es : List ℕ) (day : Eu4Date) where
-  -- What the entries from `at` to the end tell of the tag worn, which was `so_far` before them.
-  abbrev pub worn_from : ℕ → ℕ → Option CountryTag → Option CountryTag
-  worn_from at end so_far = or_else (worn_in es day at (end - at)) so_far
+module _ (day : Eu4Date) where
+  -- What entries tell of the tag worn behind them, which was `so_far` before them.
+  abbrev pub worn_along : List Entry → Option CountryTag → Option CountryTag
+  worn_along es so_far = or_else (last (targets (leading (λ e. not_after e.date day) es))) so_far
 
-  pub worn-start : (first count : ℕ) → worn_from first (first + count) none ≡ worn_in es day first count
-  worn-start first count = let e : first + count - first ≡ count = omega arith in rw e (or-none (worn_in es day first count))
+  pub worn_start : (es : List Entry) → worn_along es none ≡ last (targets (leading (λ e. not_after e.date day) es))
+  worn_start es = go (last (targets (leading (λ e. not_after e.date day) es)))
     where
-      or-none : (a : Option CountryTag) → or_else a none ≡ a
-      or-none none = refl
-      or-none (some x) = refl
+      go : (a : Option CountryTag) → or_else a none ≡ a
+      go none = refl
+      go (some x) = refl
 
-  module _ (at end : ℕ) (so_far : Option CountryTag) where
-    pub worn-end : end ≤ at → worn_from at end so_far ≡ so_far
-    worn-end h = let e : end - at ≡ 0 = omega arith in rw e
+  -- The first of them, and whether it is dated not after the day.
+  module _ (e : Entry) (es : List Entry) (so_far : Option CountryTag) where
+    pub worn_stop : not_after e.date day ≡ false → worn_along (e ∷ es) so_far ≡ so_far
+    worn_stop h = rw h
 
-    module _ (date : Eu4Date) (kind : Kind) (inside : at < end) (e : record { date = date; kind = kind } ≡ entry_at es at) (t : Bool) (n : t ≡ not_after date day) where
-      first : entries_at es at (end - at) ≡ record { date = date; kind = kind } ∷ entries_at es (at + 1) (end - (at + 1))
-      first =
-          let f : end - at - 1 ≡ end - (at + 1) = omega arith in
-          rw (numbers_more at (end - at) (omega arith), f, e)
+    pub worn_next : not_after e.date day ≡ true → worn_along (e ∷ es) so_far ≡ worn_along es (or_else (last (kind_target e.kind)) so_far)
+    worn_next h =
+        let rest : List CountryTag = targets (leading (λ x. not_after x.date day) es) in
+        rw h (ap (λ (o : Option CountryTag). or_else o so_far) (last-append (kind_target e.kind) rest) ∙ or-or (last rest) (last (kind_target e.kind)) so_far)
 
-      pub worn-stop : not t ≡ true → worn_from at end so_far ≡ so_far
-      worn-stop h = let f = not-true t h in rw (first, ← n, f)
-
-      pub worn-on : not t ≡ false → worn_from at end so_far ≡ worn_from (at + 1) end (or_else (last (kind_target kind)) so_far)
-      worn-on h =
-          let f = not-false t h in
-          let rest : List CountryTag = targets (leading (λ x. not_after x.date day) (entries_at es (at + 1) (end - (at + 1)))) in
-          rw (first, ← n, f) (ap (λ (o : Option CountryTag). or_else o so_far) (last-append (kind_target kind) rest) ∙ or-or (last rest) (last (kind_target kind)) so_far)
+pub ruleset worn = (worn_start, worn_stop, worn_next)

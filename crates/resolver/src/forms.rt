@@ -32,13 +32,8 @@ fn open_asked<'a>(
     ensures chronicle { IfOk result (λ c. (c.nations.now ≡ nations.entry.now) × (c.entries.now ≡ entries.entry.now)) }
 {
     let chronicle = Chronicle::open(nations, entries)?;
-    if !tag.good() {
+    if !(tag.good() & dates.iter().all(|date| date.good())) {
         return Err(Refusal::BadQuestion);
-    }
-    for date in dates {
-        if !date.good() {
-            return Err(Refusal::BadQuestion);
-        }
     }
     Ok(chronicle)
 }
@@ -78,6 +73,7 @@ fn switched_answer(chronicle: Chronicle<'_>, best: Option<Claim>, day: Eu4Date) 
     })
 }
 
+// The four forms are functions of their own, for each is asked for by its name; what they share stands above.
 // Where the country that went by a tag on a date is now: by its last switch to that tag up to the date, else by its initial.
 pub fn resolve(
     nations: &[u32],

@@ -4,5 +4,4 @@
 mod forms;
 mod worn;
 
-pub use claims::{Claim, Claims, best_claim, best_initial};
 pub use forms::{TagData, TagResolverDated, at, initial, resolve};

@@ -18,7 +18,8 @@ pub fn tag_key(tag: CountryTag, number: usize) -> u64
     u64::from(u32::from(tag)) * KEYS_PER_TAG + number as u64 % KEYS_PER_TAG
 }
 
-// The number of the first element that has the tag, among at most 65,536 whose sorted keys these are.
+// The number of the first element that has the tag, among at most 65,536 whose sorted keys these are. Which elements is no fact of a type: keys that are
+// cut to 16 bits of a number do not tell their tags' order, so a type would have to carry the tags.
 pub fn first_place(sorted: SortedKeys<'_>, tag: CountryTag) -> Option<usize>
     ensures { (ts : List CountryTag) → length ts ≤ 65536 → sorted.entry.keys.now ≡ sort_by leb (tag_keys_from 0 ts) → option_of result ≡ place_from 0 tag ts }
 {

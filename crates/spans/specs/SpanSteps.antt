@@ -1,12 +1,12 @@
 -- How the code walks the spans of a nation: inner steps, which no promise of a call of 01 cites.
 use Rattle.std.specs.Prelude as code
-use Rattle.std.specs.Prelude.{Bool, true, false, List, [], ◌-◌, Some, None}
+use Rattle.std.specs.Prelude.{Bool, true, false, List, [], Some, None}
 use Rattle.format.specs.declared.tag.CountryTag.{CountryTag}
 use Rattle.format.specs.declared.date.Eu4Date.{Eu4Date}
 use Rattle.rules.specs.Chronicle.{Kind, switch, appeared, annexed, Entry}
 use Rattle.rules.specs.Ledger as R
 use Rattle.rules.specs.Ledger.{spans_from}
-use Rattle.chronicle_rows.specs.RowAt.{entries_at}
+use Rattle.chronicle_rows.specs.RowAt.{counted_left}
 use Rattle.spans.specs.declared.walk.Span.{Span}
 use Rattle.spans.specs.declared.walk.RunningSpan.{RunningSpan}
 use Rattle.spans.specs.declared.walk.Spans.{Spans}
@@ -35,4 +35,4 @@ spans_running current (Some r) es = spans_from current (running_in r) es
 
 -- The spans that an iterator has left.
 abbrev pub spans_left : Spans → List R.Span
-spans_left s = spans_running s.current s.running (entries_at s.entries.now s.next (s.end - s.next))
+spans_left s = spans_running s.current s.running (counted_left s.entries)

@@ -6,7 +6,7 @@ ghost use Rattle.chronicle_rows.specs.Cases.{kind_told};
 ghost use Rattle.chronicle_rows.specs.RowAt.{entries_at};
 ghost use Rattle.spans.specs.SpanSteps.{span_in, running_in, opened_span, closes_one, spans_left};
 
-use chronicle_rows::{Entry, Kind, Nation, entry_at};
+use chronicle_rows::{Entry, Kind, Nation, NationEntries};
 use format::{CountryTag, Eu4Date};
 
 // A tag, with the dates whose years bound the points that it gives.
@@ -70,14 +70,11 @@ impl RunningSpan {
     }
 }
 
-// What runs, until the last span was given; the entries from number `next` on, which lie before `end`; and the date on which what still runs behind
-// them is closed. By number and not by an iterator over rows: of any words a row may count entries past the last, which read as zeros.
+// What runs, until the last span was given; the entries that are left; and the date on which what still runs behind them is closed.
 #[derive(Clone, Copy)]
 pub struct Spans<'a> {
     pub(crate) running: Option<RunningSpan>,
-    pub(crate) entries: &'a [u32],
-    pub(crate) next: usize,
-    pub(crate) end: usize,
+    pub(crate) entries: NationEntries<'a>,
     pub(crate) current: Eu4Date,
 }
 
@@ -86,12 +83,9 @@ impl<'a> Spans<'a> {
     pub fn of(entries: &'a [u32], nation: Nation, start: Eu4Date, current: Eu4Date) -> Spans<'a>
         ensures { spans_left result ≡ spans_from current (opened_span nation.initial start) (entries_at entries.now nation.first nation.count) }
     {
-        let next = nation.first as usize;
         Spans {
             running: Some(RunningSpan::opened(nation.initial, start)),
-            entries,
-            next,
-            end: next + nation.count as usize,
+            entries: nation.entries(entries),
             current,
         }
     }
@@ -104,14 +98,13 @@ impl Iterator for Spans<'_> {
 
     ghost remaining = { item_count spans_left };
 
+    // A `while let`: what runs is carried from entry to entry, and what is left of these is the iterator's own.
     fn next(&mut self) -> Option<Span> {
         let mut running = self.running?;
-        for number in self.next..self.end {
-            let entry = entry_at(self.entries, number);
+        while let Some(entry) = self.entries.next() {
             let span = running.closed(entry.date);
             running = running.behind(entry);
             if closes_one(entry.kind) {
-                self.next = number + 1;
                 self.running = Some(running);
                 return Some(span);
             }

@@ -5,7 +5,7 @@ use record::{CountryTag, Refusal};
 use std::fmt;
 
 // A value as it is printed: a tag by its three bytes, a check as accepted or refused, an answer of the resolver by current and stored tag, an
-// entry by its date and kind.
+// entry by its date and kind. A type of the program's own: how it prints them is no promise of the library.
 #[derive(Clone, Copy)]
 pub(crate) struct Shown<T>(pub(crate) T);
 

@@ -29,6 +29,7 @@ pub fn read_full<R: Read>(input: &mut R, buf: &mut [u8]) -> Result<usize, ReadFa
 {
     let mut done = 0;
     while done < buf.len() {
+        // The error is made anew: it tells how far the reading came.
         let Ok(n) = input.read(&mut buf[done..]) else {
             return Err(ReadFailed { after: done });
         };

@@ -80,9 +80,7 @@ pub fn read_part<'a, T: Stored, R: Read>(
 ) -> Result<&'a [T], BrokenOff>
     ensures { IfOk result (λ part. (length part.now ≡ n) × Consumes (R.remaining list.old) (R.remaining list.new) (T.bytes_of part.now)) }
 {
-    let Some(part) = buf.get_mut(..n) else {
-        return Err(BrokenOff);
-    };
+    let part = buf.get_mut(..n).ok_or(BrokenOff)?;
     T::fill(list, part)?;
     Ok(part)
 }

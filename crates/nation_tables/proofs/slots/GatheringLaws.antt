@@ -26,7 +26,7 @@ use Rattle.nation_tables.proofs.tables.KeyedLaws.{countries-few, provinces-few, 
 use Rattle.nation_tables.proofs.tables.OwnLaws.{keyed-own}
 use Rattle.nation_tables.proofs.tables.OwnKeyLaws.{settling-count}
 use Rattle.nation_tables.proofs.tables.SwitchLaws.{runs-few}
-use Rattle.nation_tables.proofs.slots.RoomLaws.{CellsRoom, settling-fit, switches-fit, entered-fit, changes-fit}
+use Rattle.nation_tables.proofs.slots.RoomLaws.{CellsRoom, countries-fit, slots-fit, settling-fit, switches-fit, entered-fit, changes-fit}
 
 -- A part from the first element on has as many elements as were taken.
 length-first : (n k : ℕ) (xs : List ℕ) → n ≤ length xs → n ≡ k → length (take n xs) ≡ k
@@ -45,6 +45,10 @@ module _ (xs : List ℕ) (from : Record) (pre : Begun xs from) where
   -- There are not many.
   pub told-few : length told ≤ most_countries
   told-few = subst (λ ks. length ks ≤ most_countries) (sym pre.countries) (countries-few xs pre.ready.accepted)
+
+  -- Nor more than the bytes allow.
+  told-fit : (m : ℕ) → rows_within most_countries (length xs) ≤ m → length told ≤ m
+  told-fit m l = subst (λ ks. length ks ≤ m) (sym pre.countries) (countries-fit xs pre.ready.accepted m l)
 
   -- Nor many switches.
   pub told-switches-few : length (switch_keys_from 0 told) ≤ most_switches
@@ -71,26 +75,25 @@ module _ (xs : List ℕ) (from : Record) (pre : Begun xs from) where
   own-keyed = keyed-own told told-keyed told-own
 
   -- The countries, the switches and the slots are within their cells.
-  pub countries-within : (n m k : ℕ) → n ≡ length told → m ≡ k → most_countries ≤ k → n ≤ m
-  countries-within n m k e q z = let a = told-few in omega arith
+  pub countries-within : (n m k : ℕ) → n ≡ length told → m ≡ k → rows_within most_countries (length xs) ≤ k → n ≤ m
+  countries-within n m k e q z = let a = told-fit k z in omega arith
 
   pub settling-within : (n m k : ℕ) → n ≡ length (settling_keys_from 0 told) → m ≡ k → rows_within most_settling (length xs) ≤ k → n ≤ m
   settling-within n m k e q z = let a = told-settling-few k z in omega arith
 
-  pub slots-within : (n m : ℕ) → n ≡ length (provinces_left from.provinces) → most_slots ≤ m → n + 1 ≤ m
-  slots-within n m e z = let a = provinces-few xs pre.ready.accepted in let b = ap length pre.ready.rows in omega arith
+  pub slots-within : (n m : ℕ) → n ≡ length (provinces_left from.provinces) → rows_within most_slots (length xs) ≤ m → n + 1 ≤ m
+  slots-within n m e z = let a = slots-fit xs pre.ready.accepted m z in let b = ap length pre.ready.rows in omega arith
+
+  -- What the tables of countries ask.
+  pub tables-asked : (words scratch initials switches : List ℕ) → rows_within most_countries (length xs) ≤ length words
+      → rows_within most_countries (length xs) ≤ length scratch → rows_within most_countries (length xs) ≤ length initials
+      → rows_within most_settling (length xs) ≤ length switches → TablesRoom told words scratch initials switches
+  tables-asked words scratch initials switches w c i s =
+      record { words = told-fit _ w; scratch = told-fit _ c; initials = told-fit _ i; switches = told-settling-few _ s }
 
   -- Room for its tables.
   module _ (words initials switches keys cells slots started : List ℕ) (turns : List Turn)
       (room : CellsRoom (length xs) words initials switches keys cells slots started turns) where
-    -- What the tables of countries ask.
-    pub tables-asked : TablesRoom told words initials switches
-    tables-asked =
-        let a = told-few in
-        let w = room.words in
-        let i = room.initials in
-        record { words = omega arith; initials = omega arith; switches = told-settling-few _ room.switches }
-
     -- The tables of countries and switches are filled.
     module _ (r : Sizes) (p : ℕ) (words₁ initials₁ switches₁ : List ℕ) (f : TablesFilled told r words₁ initials₁ switches₁)
         (provinces : p ≡ length (provinces_left from.provinces)) where
@@ -116,10 +119,10 @@ module _ (xs : List ℕ) (from : Record) (pre : Begun xs from) where
       worded = ap length filled.words ∙ length-map c.countries _ ∙ sym filled.countries
 
       -- What the settling asks.
-      pub holding-asked : (cells₁ : List ℕ) → length cells₁ ≡ length cells
+      pub holding-asked : (cells₁ : List ℕ) → length cells₁ ≡ length cells → (counts : List ℕ) → length counts ≡ length started
           → HoldingAsked xs from.provinces (take r.countries words₁) (take r.countries initials₁) (take r.settling switches₁) keys cells₁
-          (take (length (provinces_left from.provinces) + 1) slots) (take (length (take r.countries words₁)) started) turns
-      holding-asked cells₁ kept =
+          (take (length (provinces_left from.provinces) + 1) slots) (take (length (take r.countries words₁)) counts) turns
+      holding-asked cells₁ kept counts same =
           let g = filled in
           let tables : Tables c.countries (take r.countries words₁) (take r.countries initials₁) (take r.settling switches₁) =
           record {
@@ -133,13 +136,13 @@ module _ (xs : List ℕ) (from : Record) (pre : Begun xs from) where
                 };
             initials = g.initials;
           } in
-          let held : HoldingRoom xs keys cells₁ (take (q + 1) slots) (take (length (take r.countries words₁)) started) turns =
+          let held : HoldingRoom xs keys cells₁ (take (q + 1) slots) (take (length (take r.countries words₁)) counts) turns =
           record {
             keys = entered-fit xs pre.ready.accepted _ room.keys;
             cells = entered-fit xs pre.ready.accepted _ (omega (arith, room.cells, kept));
             turns = entered-fit xs pre.ready.accepted _ room.turns;
             slots = length-first (q + 1) _ slots (slots-within q (length slots) refl room.slots) (omega (arith, slot-count, provinces));
-            started = length-first (length (take r.countries words₁)) _ started (countries-within (length (take r.countries words₁)) _ _ (worded ∙ f.countries) refl room.started) (worded ∙ g.countries);
+            started = length-first (length (take r.countries words₁)) _ counts (countries-within (length (take r.countries words₁)) _ _ (worded ∙ f.countries) same room.started) (worded ∙ g.countries);
           } in
           record { ready = pre.ready; tables = tables; room = held }
 
@@ -167,7 +170,7 @@ module _ (xs : List ℕ) (from : Record) (pre : Begun xs from) where
 
         -- All is arranged, in slices as long as before.
         module _ (links firsts₁ : List Turn) (runs₁ targets : List ℕ) (a : Arranged told (take n turns₁) (take n links) firsts₁ runs₁ targets)
-            (firsts_room : length firsts₁ ≡ most_countries) where
+            (firsts_room : rows_within most_countries (length xs) ≤ length firsts₁) where
           runs-there : take (r.settling - r.countries) runs₁ ≡ run_keys c.countries
           runs-there = ap (λ (m : ℕ). take m runs₁) switched ∙ a.runs ∙ ap run_keys pre.countries
 
@@ -185,7 +188,7 @@ module _ (xs : List ℕ) (from : Record) (pre : Begun xs from) where
 
           -- A row of each country.
           rows-there : (l : List ℕ) → length l ≡ length firsts₁ → length c.countries ≤ length l
-          rows-there l e = let k = countries-few xs pre.ready.accepted in omega arith
+          rows-there l e = let k = countries-fit xs pre.ready.accepted _ firsts_room in omega arith
 
           -- The cells are those of the campaign.
           chronicled : CampaignCells c

@@ -2,9 +2,9 @@
 use Rattle.std.specs.Prelude as code
 use Rattle.std.specs.Prelude.{Ok}
 use mathlib.Core.Path.{◌≡◌, refl, sym, ◌∙◌}
-use mathlib.Core.Bool.{Bool, true, false, not, true≢false}
+use mathlib.Core.Bool.{Bool, true, false, not, ◌&&◌, true≢false}
 use mathlib.Core.List.{List}
-use Prim.Native.Nat.{ℕ, ◌≤◌}
+use Prim.Native.Nat.{ℕ, suc, ◌≤◌}
 use native.Mathlib.Omega.{arith}
 use borrow.Author.Tests.{leb-true, le-leb}
 use lib.Dec.{leb}
@@ -24,11 +24,17 @@ use Rattle.nation_tables.specs.Layout.{most_countries, most_settling, most_slots
 use Rattle.nation_tables.specs.Countries.{switch_keys_from, settling_keys_from}
 use Rattle.nation_tables.specs.Gathering.{Begun, TableRoom, room_of}
 use Rattle.nation_tables.proofs.tables.OwnKeyLaws.{settling-count}
-use Rattle.nation_tables.proofs.tables.KeyedLaws.{settling-few, settling-bytes}
+use Rattle.nation_tables.proofs.tables.KeyedLaws.{countries-few, provinces-few, slots-bytes, settling-few, settling-bytes}
 
 -- ## An accepted record has no more rows than its bytes allow
 
 module _ (xs : List ℕ) (h : refusal xs ≡ 0) (room : ℕ) where
+  pub countries-fit : rows_within most_countries (length xs) ≤ room → length (campaign_of xs).countries ≤ room
+  countries-fit l = omega (arith, countries-few xs h, settling-bytes xs h, settling-count 0 (campaign_of xs).countries)
+
+  pub slots-fit : rows_within most_slots (length xs) ≤ room → suc (length (campaign_of xs).provinces) ≤ room
+  slots-fit l = omega (arith, provinces-few xs h, slots-bytes xs h)
+
   pub settling-fit : rows_within most_settling (length xs) ≤ room → length (settling_keys_from 0 (campaign_of xs).countries) ≤ room
   settling-fit l = omega (arith, settling-few xs h, settling-bytes xs h)
 
@@ -46,41 +52,42 @@ module _ (xs : List ℕ) (h : refusal xs ≡ 0) (room : ℕ) where
 
 -- Cells of the tables that are long enough for any record of so many bytes.
 pub record CellsRoom (bytes : ℕ) (words₀ initials₀ switches₀ keys₀ cells₀ slots₀ started₀ : List ℕ) (turns₀ : List Turn) : Type 0 where
-  pub words : most_countries ≤ length words₀
-  pub initials : most_countries ≤ length initials₀
+  pub words : rows_within most_countries bytes ≤ length words₀
+  pub initials : rows_within most_countries bytes ≤ length initials₀
   pub switches : rows_within most_settling bytes ≤ length switches₀
   pub keys : rows_within most_changes bytes ≤ length keys₀
   pub cells : rows_within most_changes bytes ≤ length cells₀
-  pub slots : most_slots ≤ length slots₀
-  pub started : most_countries ≤ length started₀
+  pub slots : rows_within most_slots bytes ≤ length slots₀
+  pub started : rows_within most_countries bytes ≤ length started₀
   pub turns : rows_within most_changes bytes ≤ length turns₀
 
-module _ {bytes m n : ℕ} (room : TableRoom bytes m n) where
-  -- Arrays for enough keys and changes are.
+module _ {bytes c p m n : ℕ} (room : TableRoom bytes c p m n) where
+  -- Arrays for enough of each are.
   pub cells-room : (words initials switches keys cells slots started : List ℕ) (turns : List Turn)
-      → length words ≡ most_countries → length initials ≡ most_countries → length switches ≡ m → length keys ≡ n → length cells ≡ n
-      → length slots ≡ most_slots → length started ≡ most_countries → length turns ≡ n
+      → length words ≡ c → length initials ≡ c → length switches ≡ m → length keys ≡ n → length cells ≡ n
+      → length slots ≡ p → length started ≡ c → length turns ≡ n
       → CellsRoom bytes words initials switches keys cells slots started turns
-  cells-room words initials switches keys cells slots started turns w i u k c s b t =
+  cells-room words initials switches keys cells slots started turns w i u k e s b t =
       record {
-        words = omega arith;
-        initials = omega arith;
+        words = omega (arith, room.countries);
+        initials = omega (arith, room.countries);
         switches = omega (arith, room.keys);
         keys = omega (arith, room.changes);
         cells = omega (arith, room.changes);
-        slots = omega arith;
-        started = omega arith;
+        slots = omega (arith, room.slots);
+        started = omega (arith, room.countries);
         turns = omega (arith, room.changes);
       }
 
 -- ## The test
 
-module _ (bytes m n : ℕ) where
+module _ (bytes c p m n : ℕ) where
   -- Room is found where it is.
-  room-found : TableRoom bytes m n → room_of bytes m n ≡ true
-  room-found room = rw (le-leb (rows_within most_settling bytes) m room.keys, le-leb (rows_within most_changes bytes) n room.changes) refl
+  room-found : TableRoom bytes c p m n → room_of bytes c p m n ≡ true
+  room-found room =
+      rw (le-leb (rows_within most_countries bytes) c room.countries, le-leb (rows_within most_slots bytes) p room.slots, le-leb (rows_within most_settling bytes) m room.keys, le-leb (rows_within most_changes bytes) n room.changes) refl
 
-  pub room-denied : (b : Bool) → b ≡ room_of bytes m n → not b ≡ true → TableRoom bytes m n → ⊥
+  pub room-denied : (b : Bool) → b ≡ room_of bytes c p m n → not b ≡ true → TableRoom bytes c p m n → ⊥
   room-denied b e f room = denied b (e ∙ room-found room) f
     where
       denied : (b : Bool) → b ≡ true → not b ≡ true → ⊥
@@ -88,10 +95,20 @@ module _ (bytes m n : ℕ) where
       denied false h g = true≢false (sym h)
 
   -- And where it is found, it is.
-  pub room-there : (b : Bool) → b ≡ room_of bytes m n → not b ≡ false → TableRoom bytes m n
+  pub room-there : (b : Bool) → b ≡ room_of bytes c p m n → not b ≡ false → TableRoom bytes c p m n
   room-there b e t =
-      let two = both (leb (rows_within most_settling bytes) m) (leb (rows_within most_changes bytes) n) (sym e ∙ affirmed b t) in
-      record { keys = leb-true (rows_within most_settling bytes) m two.0; changes = leb-true (rows_within most_changes bytes) n two.1 }
+      let countries = leb (rows_within most_countries bytes) c in
+      let slots = leb (rows_within most_slots bytes) p in
+      let keys = leb (rows_within most_settling bytes) m in
+      let four = both (countries && slots && keys) (leb (rows_within most_changes bytes) n) (sym e ∙ affirmed b t) in
+      let three = both (countries && slots) keys four.0 in
+      let two = both countries slots three.0 in
+      record {
+        countries = leb-true (rows_within most_countries bytes) c two.0;
+        slots = leb-true (rows_within most_slots bytes) p two.1;
+        keys = leb-true (rows_within most_settling bytes) m three.1;
+        changes = leb-true (rows_within most_changes bytes) n four.1;
+      }
     where
       affirmed : (b : Bool) → not b ≡ false → b ≡ true
       affirmed true h = refl

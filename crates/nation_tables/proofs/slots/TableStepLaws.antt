@@ -20,16 +20,16 @@ use Rattle.nation_tables.proofs.tables.SwitchLaws.{length_runs, length-targets}
 
 -- The tables, each at the front of its cells.
 pub tables-filled : (ks : List Country) (c m : ℕ) (words₀ words₁ inits₀ inits₁ initials₀ initials₁ switches₀ switches₁ : List ℕ)
-    → Tabled ks c words₀ words₁ inits₀ inits₁ → initials₁ ≡ written (row_keys (take c inits₁)) initials₀ → Filled (settling_keys ks) m switches₀ switches₁
+    → c ≡ length ks → Tabled ks words₀ words₁ inits₀ inits₁ → initials₁ ≡ written (row_keys (take c inits₁)) initials₀ → Filled (settling_keys ks) m switches₀ switches₁
     → TablesFilled ks (record { countries = c; settling = m }) words₁ initials₁ switches₁
-tables-filled ks c m words₀ words₁ inits₀ inits₁ initials₀ initials₁ switches₀ switches₁ q i f =
+tables-filled ks c m words₀ words₁ inits₀ inits₁ initials₀ initials₁ switches₀ switches₁ l q i f =
     record {
-      countries = q.counted;
+      countries = l;
       keyed = f.counted ∙ length-sort leb (settling_keys_from 0 ks);
       words =
           ap (take c) q.tags
-          ∙ take_at (words_of_tags ks) (drop (length (words_of_tags ks)) words₀) c (length-map ks (λ k. k.tag.0) ∙ sym q.counted);
-      initials = initial-table ks c words₀ words₁ inits₀ inits₁ q initials₀ initials₁ i;
+          ∙ take_at (words_of_tags ks) (drop (length (words_of_tags ks)) words₀) c (length-map ks (λ k. k.tag.0) ∙ sym l);
+      initials = initial-table ks c words₀ words₁ inits₀ inits₁ l q initials₀ initials₁ i;
       switches = settling-table ks m switches₀ switches₁ f;
     }
 

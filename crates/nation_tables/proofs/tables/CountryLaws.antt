@@ -59,10 +59,10 @@ word-table ws words₀ words keys₀ keys n l e k =
     let front : take n words ≡ ws = ap (take n) e ∙ take_at ws (drop (length ws) words₀) n (sym l) in
     sorted-front (word_keys 0 ws) keys₀ keys n (rw front at k) (l ∙ sym (length-word-keys 0 ws))
 
-module _ (ks : List Country) (n : ℕ) (tags₀ tags₁ initials₀ initials₁ : List ℕ) (q : Tabled ks n tags₀ tags₁ initials₀ initials₁) (keys₀ keys : List ℕ) where
+module _ (ks : List Country) (n : ℕ) (tags₀ tags₁ initials₀ initials₁ : List ℕ) (l : n ≡ length ks) (q : Tabled ks tags₀ tags₁ initials₀ initials₁) (keys₀ keys : List ℕ) where
   pub initial-table : keys ≡ written (row_keys (take n initials₁)) keys₀ → take n keys ≡ row_keys (initial_words ks)
   initial-table e =
-      word-table (initial_words ks) initials₀ initials₁ keys₀ keys n (q.counted ∙ sym (length-map ks (λ k. (initial_of k).0))) q.initials e
+      word-table (initial_words ks) initials₀ initials₁ keys₀ keys n (l ∙ sym (length-map ks (λ k. (initial_of k).0))) q.initials e
 
 pub settling-table : (ks : List Country) (n : ℕ) (before keys : List ℕ) → Filled (settling_keys ks) n before keys → take n keys ≡ settling_keys ks
 settling-table ks n before keys f = sorted-front (settling_keys_from 0 ks) before keys n f.filled (f.counted ∙ length-sort leb (settling_keys_from 0 ks))

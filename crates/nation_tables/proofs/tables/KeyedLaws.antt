@@ -10,9 +10,14 @@ use lib.ListN.{length, length-append, length-map}
 use Rattle.lists.specs.Lists.{all_of, join_of}
 use Rattle.lists.proofs.ListLaws.{all_map, all-all_of}
 use Rattle.format.specs.declared.rows.Switch.{Switch}
-use Rattle.format.specs.Campaign.{Country, campaign_of}
+use Rattle.format.specs.Head.{head_of, provinces_at}
+use Rattle.format.specs.Rows.{province_at}
+use Rattle.format.specs.Campaign.{Country, province_rows, owner_events, campaign_of}
 use Rattle.format.specs.Refusal.{refusal}
 use Rattle.format.specs.Sound.{GoodSwitch, GoodCountry, GoodProvince}
+use Rattle.format.proofs.AcceptLaws.{accepted, accepted-laid}
+use Rattle.format.proofs.RowLaws.{rows-counted}
+use Rattle.format.proofs.CampaignLaws.{provinces-length}
 use Rattle.format.proofs.SoundLaws.{sound}
 pub use Rattle.format.proofs.BoundLaws.{tag_small, date-small}
 use Rattle.format.proofs.BoundLaws.{date-most, switches-bytes}
@@ -66,6 +71,14 @@ module _ (xs : List ℕ) (h : refusal xs ≡ 0) where
   pub settling-few : length (settling_keys_from 0 (campaign_of xs).countries) ≤ most_settling
   settling-few =
       let a = countries-few in let b = switches-few in omega (arith, settling-count 0 (campaign_of xs).countries)
+
+  -- A province takes 7 bytes of the record, and the head more than 7.
+  pub slots-bytes : 7 * suc (length (campaign_of xs).provinces) ≤ length xs
+  unfolding campaign_of
+  slots-bytes =
+      let grouped = provinces-length (province_rows xs) (owner_events xs) in
+      let counted = rows-counted (province_at xs) 7 xs (provinces_at (head_of xs)) (head_of xs).provinces in
+      omega (arith, (accepted-laid xs (accepted xs h)).inside)
 
   -- A switch takes 7 bytes of the record, and a country 12.
   pub settling-bytes : 7 * length (settling_keys_from 0 (campaign_of xs).countries) ≤ length xs

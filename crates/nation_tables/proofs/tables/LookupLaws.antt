@@ -5,12 +5,13 @@ use mathlib.Core.Option.{Option, none, some}
 use Prim.Native.Nat.{ℕ, ◌+◌, ◌-◌, ◌*◌, ◌≤◌, ◌<◌}
 use native.Mathlib.Nat.{mul-le-mul_right, add-mul}
 use native.Mathlib.Omega.{arith}
-use borrow.Author.Tests.{eqb-true, eqb-false, ltb-true, ltb-false, le-leb, lt-leb, lt-ltb, le-ltb}
+use borrow.Author.Tests.{eqb-true, eqb-false, ltb-true, ltb-false, leb-true, leb-false, le-leb, lt-leb, lt-ltb, le-ltb}
 use lib.Dec.{eqb, leb, ltb}
 use lib.ListN.{length, get_or, get_elem?, take, drop}
 use lib.Seq.{get_or-take, length-take-le, take_at}
 use Rattle.std.specs.Prelude as code
 use Rattle.std.specs.Prelude.{Some, None, unwrap_or}
+use Rattle.std.specs.Bool.{then_some}
 use Rattle.lists.specs.Options.{option_of}
 use Rattle.lists.specs.Lists.{count_of, keep, first_or, last_or, last}
 use Rattle.lists.proofs.ElementLaws.{last_some}
@@ -68,12 +69,12 @@ module _ (low high : ℕ) (keys : List ℕ) (sorted : sort_by leb keys ≡ keys)
   no-first h = sym (ap (λ (ks : List ℕ). get_elem? (map row_in ks) 0) (first_past low high keys (sorted-up keys sorted) i below h))
 
   module _ (key : ℕ) (there : i < length keys) (e : key ≡ get_or keys i 0) where
-    pub first-too-high : high ≤ key → none ≡ first_within low high keys
+    first-too-high : high ≤ key → none ≡ first_within low high keys
     unfolding first_within
     first-too-high l =
         sym (ap (λ (ks : List ℕ). get_elem? (map row_in ks) 0) (first_above low high keys (sorted-up keys sorted) i below there (omega arith)))
 
-    pub first_found : key < high → some (row_in key) ≡ first_within low high keys
+    first_found : key < high → some (row_in key) ≡ first_within low high keys
     unfolding first_within
     first_found l =
         let kept = keep (in_range low high) keys in
@@ -81,6 +82,10 @@ module _ (low high : ℕ) (keys : List ℕ) (sorted : sort_by leb keys ≡ keys)
         ∙ sym (first-there low high keys (sorted-up keys sorted) i below told none there (omega arith))
         ∙ ap (first_or none) (sym (map-then row_in some kept))
         ∙ first_some (map row_in kept)
+
+    pub first-told : (row : ℕ) → row ≡ row_in key → option_of (then_some (ltb key high) row) ≡ first_within low high keys
+    first-told row r =
+        cases (ltb key high) (λ g. simp g (ap some r ∙ first_found (ltb-true key high g))) (λ g. simp g (first-too-high (ltb-false key high g)))
 
 -- And the last of these i is the last that is.
 module _ (low high : ℕ) (keys : List ℕ) (sorted : sort_by leb keys ≡ keys) (i : ℕ) (inside : i ≤ length keys)
@@ -99,13 +104,13 @@ module _ (low high : ℕ) (keys : List ℕ) (sorted : sort_by leb keys ≡ keys)
     last_key : key ≡ get_or keys (i - 1) 0
     last_key = e ∙ ap (λ (n : ℕ). get_or front (n - 1) 0) long ∙ get_or-take i keys (i - 1) 0 (omega (arith, long))
 
-    pub last-too-low : key < low → none ≡ last_within low high keys
+    last-too-low : key < low → none ≡ last_within low high keys
     unfolding last_within
     last-too-low l =
         sym (ap (λ (ks : List ℕ). last (map row_in ks))
         (last-below low high keys (sorted-up keys sorted) i below (omega (arith, long)) (omega (arith, last_key))))
 
-    pub last_found : low ≤ key → some (row_in key) ≡ last_within low high keys
+    last_found : low ≤ key → some (row_in key) ≡ last_within low high keys
     unfolding last_within
     last_found l =
         let kept = keep (in_range low high) keys in
@@ -113,6 +118,10 @@ module _ (low high : ℕ) (keys : List ℕ) (sorted : sort_by leb keys ≡ keys)
         ∙ sym (last-there low high keys (sorted-up keys sorted) i below told none (omega (arith, long)) (omega (arith, last_key)))
         ∙ ap (last_or none) (sym (map-then row_in some kept))
         ∙ last_some (map row_in kept)
+
+    pub last-told : (row : ℕ) → row ≡ row_in key → option_of (then_some (leb low key) row) ≡ last_within low high keys
+    last-told row r =
+        cases (leb low key) (λ g. simp g (ap some r ∙ last_found (leb-true low key g))) (λ g. simp g (last-too-low (leb-false low key g)))
 
 -- A key lies from one part's first on and below the next part's just if it begins with that part.
 pub begins-with : (width part low r : ℕ) → low < width → in_range (r * width) (r * width + width) (part * width + low) ≡ eqb part r

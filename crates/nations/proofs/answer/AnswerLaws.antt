@@ -33,7 +33,7 @@ use Rattle.nation_tables.proofs.tables.KeyedLaws.{countries-few, provinces-few}
 use Rattle.nation_tables.proofs.tables.OwnKeyLaws.{settling-count}
 use Rattle.nation_tables.proofs.tables.SwitchLaws.{run-entries, targets-small}
 use Rattle.nation_tables.proofs.slots.HoldersLaws.{holder-words, held-counted}
-use Rattle.nation_tables.proofs.slots.RoomLaws.{settling-fit, switches-fit, changes-fit}
+use Rattle.nation_tables.proofs.slots.RoomLaws.{countries-fit, slots-fit, settling-fit, switches-fit, changes-fit}
 use Rattle.nation_listing.specs.declared.placing.Listed.{Listed}
 use Rattle.chronicle_rows.specs.declared.counts.NationCounts.{NationCounts}
 use Rattle.chronicle_rows.specs.Cases.{counts_in}
@@ -147,7 +147,7 @@ module _ (xs : List ℕ) (accepted : refusal xs ≡ 0) (z : TableSizes) (countri
 
 module _ (xs : List ℕ) (z : TableSizes) (provinces : Provinces) (words initials runs keys targets slots started : List ℕ) (turns firsts : List Turn)
     (q : Gathered xs z provinces words initials runs keys targets slots started turns firsts)
-    {m n : ℕ} (room : TableRoom (length xs) m n) where
+    {k p m n : ℕ} (room : TableRoom (length xs) k p m n) where
   abbrev accepted : refusal xs ≡ 0
   accepted = q.ready.accepted
 
@@ -161,15 +161,14 @@ module _ (xs : List ℕ) (z : TableSizes) (provinces : Provinces) (words initial
   told : nations ≡ nations_of (campaign_of xs)
   told = cells_told (campaign_of xs) front q.cells
 
-  pub fronts-inside : FrontsInside z m n
+  pub fronts-inside : FrontsInside z k m n
   fronts-inside =
-      let a = countries-few xs accepted in
       let b = q.countries in
       let d = q.changes in
       let e = q.switches in
       let s = settling-count 0 (campaign_of xs).countries in
       record {
-        countries = omega arith;
+        countries = omega (arith, countries-fit xs accepted k room.countries);
         runs = omega (arith, settling-fit xs accepted m room.keys);
         targets = omega (arith, switches-fit xs accepted n room.changes);
         changes = omega (arith, changes-fit xs accepted n room.changes);
@@ -185,11 +184,11 @@ module _ (xs : List ℕ) (z : TableSizes) (provinces : Provinces) (words initial
       z.start (cells-readable (campaign_of xs) front q.cells)
 
   -- What is left for the rest.
-  rest-ready : RestReady xs provinces z slots keys n
+  rest-ready : RestReady xs provinces z slots keys p n
   rest-ready =
       record {
         ready = q.ready;
-        slots = omega (arith, q.slotted, provinces-few xs accepted);
+        slots = omega (arith, q.slotted, slots-fit xs accepted p room.slots);
         changes = fronts-inside.changes;
         sorted = q.sorted;
       }
@@ -218,8 +217,8 @@ module _ (xs : List ℕ) (z : TableSizes) (provinces : Provinces) (words initial
 
       -- All has room.
       placed-told : not b ≡ false → (r : Listed) → PlacedRows nations r rows₀ rows₁ entries₀ entries₁
-          → NationsPlaced xs holders held changes z provinces r slots keys n rows₀ rows₁ entries₀ entries₁
-      placed-told t r p =
+          → NationsPlaced xs holders held changes z provinces r slots keys p n rows₀ rows₁ entries₀ entries₁
+      placed-told t r w =
           record {
             countries = q.countries;
             counted = q.changes;
@@ -227,17 +226,17 @@ module _ (xs : List ℕ) (z : TableSizes) (provinces : Provinces) (words initial
             slots = q.slots;
             ready = rest-ready;
             rest = sym e ∙ not-false b t;
-            placed = subst (λ (ns : List Nation). PlacedRows ns r rows₀ rows₁ entries₀ entries₁) told p;
+            placed = subst (λ (ns : List Nation). PlacedRows ns r rows₀ rows₁ entries₀ entries₁) told w;
           }
 
       -- Whatever the placing tells.
-      module _ {r : code.Result Listed Refusal} (p : fronts_placed z words initials runs targets firsts started keys turns r rows₀ rows₁ entries₀ entries₁) where
+      module _ {r : code.Result Listed Refusal} (placed : fronts_placed z words initials runs targets firsts started keys turns r rows₀ rows₁ entries₀ entries₁) where
         pub none-placed : {e : Refusal} → r ≡ Err e → RefusedBy xs holders held changes (refusal_number e) rows₀ rows₁ entries₀ entries₁
-        none-placed {e} w = placed-refused e (subst (λ (x : code.Result Listed Refusal). placed_told readable nations x rows₀ rows₁ entries₀ entries₁) w p)
+        none-placed {e} w = placed-refused e (subst (λ (x : code.Result Listed Refusal). placed_told readable nations x rows₀ rows₁ entries₀ entries₁) w placed)
 
         pub rows-placed : not b ≡ false → {l : Listed} → r ≡ Ok l
-            → NationsPlaced xs holders held changes z provinces l slots keys n rows₀ rows₁ entries₀ entries₁
-        rows-placed f {l} w = placed-told f l (subst (λ (x : code.Result Listed Refusal). placed_told readable nations x rows₀ rows₁ entries₀ entries₁) w p).1
+            → NationsPlaced xs holders held changes z provinces l slots keys p n rows₀ rows₁ entries₀ entries₁
+        rows-placed f {l} w = placed-told f l (subst (λ (x : code.Result Listed Refusal). placed_told readable nations x rows₀ rows₁ entries₀ entries₁) w placed).1
 
 -- A record that is refused.
 pub record-refused : (xs : List ℕ) (holders held changes : ℕ) (e : Refusal) (rows₀ entries₀ : List ℕ) → refusal_number e ≡ refusal xs
@@ -252,10 +251,10 @@ record-refused xs holders held changes e rows₀ entries₀ h =
 -- ## The nations are written
 
 module _ (xs : List ℕ) (rows₀ entries₀ holders₀ held₀ changes₀ : List ℕ) (z : TableSizes) (provinces : Provinces) (r : Listed)
-    (slots keys : List ℕ) (n : ℕ) (rows₁ entries₁ : List ℕ)
-    (q : NationsPlaced xs (length holders₀) (length held₀) (length changes₀) z provinces r slots keys n rows₀ rows₁ entries₀ entries₁) where
+    (slots keys : List ℕ) (p n : ℕ) (rows₁ entries₁ : List ℕ)
+    (q : NationsPlaced xs (length holders₀) (length held₀) (length changes₀) z provinces r slots keys p n rows₀ rows₁ entries₀ entries₁) where
   -- What the writing of the rest asks.
-  pub rest-asked : RestReady xs provinces z slots keys n
+  pub rest-asked : RestReady xs provinces z slots keys p n
       × (SlotsRoom (take z.slots slots) z.countries holders₀ held₀ × (change_width * z.changes ≤ length changes₀))
   rest-asked =
       let h : Bool = leb z.slots (length holders₀) in

@@ -27,20 +27,20 @@ module _ {xs words initials runs keys targets slots started : List ℕ} {turns f
   pub tables-refused : {e : Refusal} → r ≡ Err e → refusal_number e ≡ refusal xs
   tables-refused e = rw e at told.number
 
-module _ (xs : List ℕ) (holders held changes : ℕ) (slots keys : List ℕ) (n : ℕ) (rows₀ rows₁ entries₀ entries₁ : List ℕ) (r : code.Result NationsTold Refusal)
-    (told : nations_told xs holders held changes r slots keys n rows₀ rows₁ entries₀ entries₁) where
+module _ (xs : List ℕ) (holders held changes : ℕ) (slots keys : List ℕ) (p n : ℕ) (rows₀ rows₁ entries₀ entries₁ : List ℕ) (r : code.Result NationsTold Refusal)
+    (told : nations_told xs holders held changes r slots keys p n rows₀ rows₁ entries₀ entries₁) where
   pub nations-placed : {t : NationsTold} → r ≡ Ok t
-      → NationsPlaced xs holders held changes t.sizes t.provinces t.listed slots keys n rows₀ rows₁ entries₀ entries₁
-  nations-placed e = subst (λ (x : code.Result NationsTold Refusal). nations_told xs holders held changes x slots keys n rows₀ rows₁ entries₀ entries₁) e told
+      → NationsPlaced xs holders held changes t.sizes t.provinces t.listed slots keys p n rows₀ rows₁ entries₀ entries₁
+  nations-placed e = subst (λ (x : code.Result NationsTold Refusal). nations_told xs holders held changes x slots keys p n rows₀ rows₁ entries₀ entries₁) e told
 
   pub none_told : {e : Refusal} → r ≡ Err e → RefusedBy xs holders held changes (refusal_number e) rows₀ rows₁ entries₀ entries₁
-  none_told e = subst (λ (x : code.Result NationsTold Refusal). nations_told xs holders held changes x slots keys n rows₀ rows₁ entries₀ entries₁) e told
+  none_told e = subst (λ (x : code.Result NationsTold Refusal). nations_told xs holders held changes x slots keys p n rows₀ rows₁ entries₀ entries₁) e told
 
 -- What `?` hands on refuses by the same number.
-module _ (xs : List ℕ) (holders held changes : ℕ) (slots keys : List ℕ) (n : ℕ) (rows₀ rows₁ entries₀ entries₁ : List ℕ) where
+module _ (xs : List ℕ) (holders held changes : ℕ) (slots keys : List ℕ) (p n : ℕ) (rows₀ rows₁ entries₀ entries₁ : List ℕ) where
   pub told-on : (r : code.Result NationsTold Refusal) (e : Refusal) → IsErr r × IsErrAnd r (λ x. x ≡ e)
       → RefusedBy xs holders held changes (refusal_number e) rows₀ rows₁ entries₀ entries₁
-      → nations_told xs holders held changes r slots keys n rows₀ rows₁ entries₀ entries₁
+      → nations_told xs holders held changes r slots keys p n rows₀ rows₁ entries₀ entries₁
   told-on (Ok t) e h q = absurd h.1
   told-on (Err x) e h q = rw h.1 q
 

@@ -1,9 +1,12 @@
-use Rattle.lists.specs.Lists.{keep}
-use Rattle.lists.proofs.ScanLaws.{scan-greatest}
-use Rattle.claims.specs.Claims.{claims_in, is_asked, claim_day}
+-- Of the claims that are asked about the one with the greatest date, and of equals the last.
+use Rattle.std.proofs.Common.{rules, tests}
+use Rattle.claims.specs.Claims.{claims_in, is_asked}
+use Rattle.claims.proofs.ClaimLaws.{best-reduced, claims-asked}
 use Rattle.claims.proofs.best.best_claim.Goals as goal
 
-pub loop-claim-init : goal.loop-claim-init
-loop-claim-init c =
-    rw (c.into_iter-claim-iterator.ensures.into_iter_gives, c.of-claim-items.ensures)
-    (scan-greatest claim_day (keep (is_asked c.args.tag c.args.date) (claims_in c.args.chronicle.nations.now c.args.chronicle.entries.now)))
+pub returns : goal.returns
+returns c =
+    let f = c.filter.ensures in
+    best-reduced _ _ (λ x y z q k. search (rules, tests)) _ c.reduce.result
+    (claims-asked _ (is_asked c.args.tag c.args.date) (claims_in c.args.chronicle.nations.now c.args.chronicle.entries.now) c.of.ensures f.source f.closure (λ x b q k. search (rules, tests)))
+    c.reduce.ensures.ran

@@ -17,37 +17,37 @@ use Rattle.histories.proofs.drafts.draft_countries.Goals.{After-sort_keys}
 use Rattle.histories.proofs.drafts.draft_countries.Goals as goal
 
 -- The keys are as many as the countries, sorted, and few.
-counted : (c : After-sort_keys) → c.len-n.result ≡ length (tag_keys_from 0 (tags_left c.args.countries))
-counted c = c.len-n.ensures ∙ sym (length-map (countries_left c.args.countries) (λ k. k.tag)) ∙ sym (length-tag-keys 0 (tags_left c.args.countries))
+counted : (g : _) (c : After-sort_keys g) → c.len-n.result ≡ length (tag_keys_from 0 (tags_left c.args.countries))
+counted g c = c.len-n.ensures ∙ sym (length-map (countries_left c.args.countries) (λ k. k.tag)) ∙ sym (length-tag-keys 0 (tags_left c.args.countries))
 
-indexed : (c : After-sort_keys) → take c.len-n.result (c.sort_keys.new.keys ++ drop c.len-n.result c.fill_countries.new.keys) ≡ sort_by leb (tag_keys_from 0 (tags_left c.args.countries))
-indexed c =
-    keys-indexed _ _ _ _ _ _ c.fill_countries.ensures (counted c) c.sort_keys.ensures.keys
+indexed : (g : _) (c : After-sort_keys g) → take c.len-n.result (c.sort_keys.new.keys ++ drop c.len-n.result c.fill_countries.new.keys) ≡ sort_by leb (tag_keys_from 0 (tags_left c.args.countries))
+indexed g c =
+    keys-indexed _ _ _ _ _ _ c.fill_countries.ensures (counted g c) c.sort_keys.ensures.keys
 
 pub invariant_of-tags : goal.invariant_of-tags
-invariant_of-tags c =
-    record { sorted = keys-again _ _ _ _ _ _ c.fill_countries.ensures (counted (goal.at.invariant_of-tags c).After-sort_keys) c.sort_keys.ensures.keys }
+invariant_of-tags g c =
+    record { sorted = keys-again _ _ _ _ _ _ c.fill_countries.ensures (counted g (goal.at.invariant_of-tags g c).After-sort_keys) c.sort_keys.ensures.keys }
 
-many : (c : After-sort_keys) → length (tags_left c.args.countries) ≤ 2000
-many c = omega (arith, length-map (countries_left c.args.countries) (λ k. k.tag), c.requires.few)
+many : (g : _) (c : After-sort_keys g) → length (tags_left c.args.countries) ≤ g.row.COUNTRIES
+many g c = omega (arith, length-map (countries_left c.args.countries) (λ k. k.tag), c.requires.few)
 
 pub fill_drafts-requires : goal.fill_drafts-requires
-fill_drafts-requires c =
+fill_drafts-requires g c =
     let b = c.requires in
-    let at = goal.at.fill_drafts-requires c in
+    let at = goal.at.fill_drafts-requires g c in
     record {
-      few = omega (arith, many at.After-sort_keys);
-      indexed = indexed at.After-sort_keys;
+      few = omega (arith, many g at.After-sort_keys, b.possible);
+      indexed = indexed g at.After-sort_keys;
       short = b.short;
       room = omega (arith, keep-short (λ (k : Country). k.was_player) (countries_left c.args.countries), b.few, b.room);
     }
 
 pub returns : goal.returns
-returns c =
-    let at = goal.at.returns c in
-    let few = many at.After-sort_keys in
+returns g c =
+    let at = goal.at.returns g c in
+    let few = many g at.After-sort_keys in
     let keys = take c.len-n.result c.fill_countries.new.keys in
-    drafts-told c.args.countries c.args.nations.now c.sort_keys.new.scratch _ _ _ _ _ c.fill_drafts.ensures (omega (arith, few, c.sort_keys.auto.scratch))
-    (λ q. rw c.sort_keys.ensures.scratch (scratch-blank (length keys) 2000 (omega (arith, length-take c.len-n.result c.fill_countries.new.keys, c.fill_countries.auto.keys)) q))
-    (c.mark_nations.ensures (tags_left c.args.countries) (omega (arith, few)) (indexed at.After-sort_keys))
+    drafts-told g.row.COUNTRIES c.args.countries c.args.nations.now c.sort_keys.new.scratch _ _ _ _ _ c.fill_drafts.ensures (omega (arith, few, c.sort_keys.auto.scratch))
+    (λ q. rw c.sort_keys.ensures.scratch (scratch-blank (length keys) g.row.COUNTRIES (omega (arith, length-take c.len-n.result c.fill_countries.new.keys, c.fill_countries.auto.keys)) q))
+    (c.mark_nations.ensures (tags_left c.args.countries) (omega (arith, few, c.requires.possible)) (indexed g at.After-sort_keys))
     c.requires.few (c.fill_drafts.auto.out ∙ c.requires.room)

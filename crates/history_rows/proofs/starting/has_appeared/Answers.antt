@@ -1,10 +1,10 @@
--- Every entry of the nation is asked, by its number.
-use Rattle.std.proofs.Common.{rules, tests, refl, ap, ◌+◌}
-use Rattle.std.proofs.lemmas.Iterator.{YieldsList-from_range}
+-- Every entry that the nation counts is asked.
+use Rattle.std.proofs.Common.{rules, tests, refl}
+use Rattle.std.proofs.lemmas.Iterator.Consumers.{YieldsList-from_first}
 use Rattle.std.proofs.lemmas.Iterator.Search.{any_from_yields_List}
 use Rattle.rules.specs.Chronicle.{is_appeared}
-use Rattle.rules.specs.NationRows.{NationRow}
-use Rattle.chronicle_rows.specs.RowAt.{entry_at}
+use Rattle.chronicle_rows.specs.Cases.{entry_told}
+use Rattle.chronicle_rows.specs.RowAt.{counted_left}
 use Rattle.history_rows.proofs.LackLaws.{bare-history, nation-walk}
 use Rattle.history_rows.proofs.starting.has_appeared.Goals as goal
 
@@ -13,6 +13,6 @@ returns-in_default c = bare-history _ _ c.args.nation (search rules)
 
 pub returns : goal.returns
 returns c =
-    nation-walk _ _ _ c.in-Some.nation _ _ _ (search rules) (ap (λ (r : NationRow). r.first) c.nation_at-row.ensures) (ap (λ (r : NationRow). r.count) c.nation_at-row.ensures)
-    (any_from_yields_List (λ i. is_appeared (entry_at c.args.chronicle.entries.now i).kind) c.any.new.self _ c.any.result c.any.ensures.ran
-    (YieldsList-from_range c.nation_at-row.result.first (c.nation_at-row.result.first + c.nation_at-row.result.count) c.nation_at-row.result.count refl (search rules)) (λ x b q k. search (rules, tests)))
+    nation-walk _ _ _ c.in-Some.nation _ _ _ (search rules) c.nation_at-row.ensures c.entries.ensures
+    (any_from_yields_List (λ e. is_appeared e.kind) c.any.new.self _ c.any.result c.any.ensures.ran
+    (YieldsList-from_first entry_told counted_left _ refl) (λ x b q k. search (rules, tests)))

@@ -8,13 +8,14 @@ use borrow.Author.Tests.{not-true, not-false}
 use Rattle.std.proofs.lemmas.Result.{err_from_is_err_and}
 use Rattle.rules.specs.NationRows.{nations_in, well_shaped}
 use Rattle.rules.specs.HistoryRows.{histories_shaped}
-use Rattle.history_rows.proofs.LackLaws.{nations-many, opened-shaped, chronicle-refused, histories-refused, starting-gives}
+use Rattle.chronicle_rows.proofs.NumberedLaws.{opened_shaped}
+use Rattle.history_rows.proofs.LackLaws.{nations-many, chronicle-refused, histories-refused, starting-gives}
 use Rattle.history_rows.proofs.starting.starting_country.Goals.{After-is_history_shaped}
 use Rattle.history_rows.proofs.starting.starting_country.Goals as goal
 
 -- The chronicle is well shaped, and the histories were tested beside its nations.
 shaped : (c : After-is_history_shaped) → well_shaped c.args.nations.now c.args.entries.now ≡ true
-shaped c = opened-shaped _ _ c.in_ok-chronicle.ensures.number
+shaped c = opened_shaped _ _ c.in_ok-chronicle.ensures.number
 
 tested : (c : After-is_history_shaped) → c.is_history_shaped.result ≡ histories_shaped (nations_in c.args.nations.now c.args.entries.now) c.args.histories.now
 tested c = c.is_history_shaped.ensures _ (c.nation_count.ensures ∙ sym (nations-many _ _ (shaped c)))

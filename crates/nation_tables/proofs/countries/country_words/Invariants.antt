@@ -6,5 +6,7 @@ use Rattle.nation_tables.proofs.countries.country_words.Given as goal
 
 abbrev pub invariant-loop-row : goal.invariant-loop-row
 invariant-loop-row l =
-    Filling (words_of_tags (countries_left l.fn.countries)) (words_of_tags (countries_left l.row-iterator)) l.initial.tags l.n l.tags
-    × Filling (initial_words (countries_left l.fn.countries)) (initial_words (countries_left l.row-iterator)) l.initial.initials l.n l.initials
+    let left = countries_left l.row-iterator.iter in
+    let row = l.row-iterator.count in
+    Filling (words_of_tags (countries_left l.fn.countries)) (words_of_tags left) l.initial.tags row l.tags
+    × Filling (initial_words (countries_left l.fn.countries)) (initial_words left) l.initial.initials row l.initials

@@ -6,38 +6,34 @@ use lib.ListN.{length, replicate, length-replicate}
 use lib.Seq.{length-take-le}
 use Rattle.nation_tables.specs.Layout.{most_countries}
 use Rattle.nation_tables.proofs.slots.TableStepLaws.{tables-filled}
-use Rattle.nation_tables.proofs.gathering.fill_tables.Goals.{After-country_words-c}
+use Rattle.nation_tables.proofs.gathering.fill_tables.Goals.{After-country_words}
 use Rattle.nation_tables.proofs.gathering.fill_tables.Goals as goal
 
--- New cells are as many as were asked for.
-made : (n : ℕ) → length {A = ℕ} (replicate n 0) ≡ n
-made n = length-replicate {A = ℕ} n 0
-
-pub slice_bounds-country_words-end : goal.slice_bounds-country_words-end
-slice_bounds-country_words-end c = sym (made most_countries)
-
-pub country_words-c-requires : goal.country_words-c-requires
-country_words-c-requires c = (c.requires.words, omega (arith, c.args.all.few, made most_countries))
+pub country_words-requires : goal.country_words-requires
+country_words-requires c = (c.requires.words, c.requires.scratch)
 
 -- There are no more countries than initial words.
-inside : (c : After-country_words-c) → c.country_words-c.result ≤ length c.country_words-c.new.initials
-inside c = omega (arith, c.country_words-c.ensures.counted, c.args.all.few, c.country_words-c.auto.initials, made most_countries)
+inside : (c : After-country_words) → c.len-c.result ≤ length c.country_words.new.initials
+inside c = omega (arith, c.len-c.ensures, c.requires.scratch, c.country_words.auto.initials)
 
 pub slice_bounds-row_keys-end : goal.slice_bounds-row_keys-end
-slice_bounds-row_keys-end c = sym (length-take-le _ _ (inside (goal.at.slice_bounds-row_keys-end c).After-country_words-c))
+slice_bounds-row_keys-end c = inside (goal.at.slice_bounds-row_keys-end c).After-country_words
 
 pub row_keys-requires : goal.row_keys-requires
 row_keys-requires c =
     let p = c.requires in
-    let n = c.country_words-c.ensures.counted in
-    let l = length-take-le _ _ (inside (goal.at.row_keys-requires c).After-country_words-c) in
+    let n = c.len-c.ensures in
+    let l = length-take-le _ _ (inside (goal.at.row_keys-requires c).After-country_words) in
     (omega (arith, n, l, c.args.all.few), omega (arith, n, l, p.initials))
 
 pub settling_keys-m-requires : goal.settling_keys-m-requires
 settling_keys-m-requires c = c.requires.switches
 
 pub shape_of-tag_words : goal.shape_of-tag_words
-shape_of-tag_words c = c.country_words-c.auto.tags
+shape_of-tag_words c = c.country_words.auto.tags
+
+pub shape_of-initial_words : goal.shape_of-initial_words
+shape_of-initial_words c = c.country_words.auto.initials
 
 pub shape_of-initial_keys : goal.shape_of-initial_keys
 shape_of-initial_keys c = c.row_keys.auto.keys
@@ -49,4 +45,4 @@ pub shape_of-scratch : goal.shape_of-scratch
 shape_of-scratch c = c.settling_keys-m.auto.scratch ∙ c.row_keys.auto.scratch
 
 pub returns : goal.returns
-returns c = tables-filled _ _ _ _ _ _ _ _ _ _ _ c.country_words-c.ensures c.row_keys.ensures c.settling_keys-m.ensures
+returns c = tables-filled _ _ _ _ _ _ _ _ _ _ _ c.len-c.ensures c.country_words.ensures c.row_keys.ensures c.settling_keys-m.ensures

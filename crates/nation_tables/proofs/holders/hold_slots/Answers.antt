@@ -1,10 +1,12 @@
--- The start, then the steps, then the pass over them. There is room for as many changes as there are.
-use mathlib.Core.Path.{◌≡◌, sym, ◌∙◌}
-use mathlib.Core.List.{List}
-use Prim.Native.Nat.{ℕ, ◌≤◌}
+-- The start, then the steps, then the pass over them. There is room for as many changes as there are, and what is written at the front of a slice is
+-- found there.
+use mathlib.Core.Path.{◌≡◌, sym, ap, ◌∙◌}
+use mathlib.Core.List.{List, ◌++◌}
+use Prim.Native.Nat.{ℕ, ◌+◌, ◌≤◌}
 use native.Mathlib.Omega.{arith}
-use lib.ListN.{length}
-use lib.Seq.{length-take-le}
+use lib.ListN.{length, drop, length-take, length-map}
+use lib.Seq.{length-take-le, take_at}
+use Rattle.record.specs.Cursors.{provinces_left}
 use Rattle.record.specs.declared.provinces.Provinces.{Provinces}
 use Rattle.change_keys.specs.ChangeSteps.{entered}
 use Rattle.nation_tables.specs.declared.layout.Turn.{Turn}
@@ -27,7 +29,7 @@ count : (c : After-sort_steps-n) → c.sort_steps-n.result ≡ length (entered c
 count c = (c.sort_steps-n.ensures _ (steps-asked c.requires.1)).counted
 
 pub start_slots-requires : goal.start_slots-requires
-start_slots-requires c = (c.requires.0, start-asked c.requires.1)
+start_slots-requires c = (c.requires.0, rw c.len-p.ensures (start-asked c.requires.1))
 
 pub sort_steps-n-requires : goal.sort_steps-n-requires
 sort_steps-n-requires c = (c.requires.0, steps-asked c.requires.1)
@@ -54,11 +56,11 @@ slice_bounds-pass-end-3 c = cells-long (goal.at.slice_bounds-pass-end-3 c).After
 pub slice_bounds-pass-end-4 : goal.slice_bounds-pass-end-4
 slice_bounds-pass-end-4 c = sym (length-take-le _ _ (cells-long (goal.at.slice_bounds-pass-end-4 c).After-sort_steps-n))
 
-pub slice_bounds-pass-end-5 : goal.slice_bounds-pass-end-5
-slice_bounds-pass-end-5 c = turns-long (goal.at.slice_bounds-pass-end-5 c).After-sort_steps-n
+pub slice_bounds-pass-end-7 : goal.slice_bounds-pass-end-7
+slice_bounds-pass-end-7 c = turns-long (goal.at.slice_bounds-pass-end-7 c).After-sort_steps-n
 
-pub slice_bounds-pass-end-6 : goal.slice_bounds-pass-end-6
-slice_bounds-pass-end-6 c = sym (length-take-le _ _ (turns-long (goal.at.slice_bounds-pass-end-6 c).After-sort_steps-n))
+pub slice_bounds-pass-end-8 : goal.slice_bounds-pass-end-8
+slice_bounds-pass-end-8 c = sym (length-take-le _ _ (turns-long (goal.at.slice_bounds-pass-end-8 c).After-sort_steps-n))
 
 pub pass-requires : goal.pass-requires
 pass-requires c =
@@ -71,15 +73,17 @@ shape_of-keys c = c.sort_steps-n.auto.keys
 pub shape_of-cells : goal.shape_of-cells
 shape_of-cells c = c.sort_steps-n.auto.cells
 
-pub shape_of-slots : goal.shape_of-slots
-shape_of-slots c = c.pass.auto.slots ∙ c.start_slots.auto.slots
-
-pub shape_of-started : goal.shape_of-started
-shape_of-started c = c.start_slots.auto.started
-
-pub shape_of-turns : goal.shape_of-turns
-shape_of-turns c = c.turns-1.given.1
-
 pub returns : goal.returns
 returns c = λ xs asked.
-    held xs asked.ready.accepted _ _ _ _ _ (c.start_slots.ensures xs (start-asked asked)) (c.sort_steps-n.ensures xs (steps-asked asked)) _ _ _ c.pass.ensures
+    let q : ℕ = length (provinces_left c.args.provinces) in
+    let n : c.len-p.result ≡ q = c.len-p.ensures in
+    let s : length c.start_slots.new.slots ≡ q + 1 =
+    omega (arith, n, c.start_slots.auto.slots, asked.room.slots, ap length asked.ready.rows, length-take (q + 1) c.args.slots.now, length-take (c.len-p.result + 1) c.args.slots.now) in
+    let t : length c.start_slots.new.started ≡ length c.args.tag_words.now =
+    c.start_slots.auto.started ∙ asked.room.started ∙ sym (ap length asked.tables.settler.words ∙ length-map _ _) in
+    let first = take_at c.start_slots.new.slots (drop (c.len-p.result + 1) c.args.slots.now) (c.len-p.result + 1) (omega (arith, s, n)) in
+    let behind : List ℕ = drop (c.len-p.result + 1) (c.start_slots.new.slots ++ drop (c.len-p.result + 1) c.args.slots.now) in
+    let a = take_at c.pass.new.slots behind (q + 1) (c.pass.auto.slots ∙ ap length first ∙ s) in
+    let b = take_at c.start_slots.new.started (drop (length c.args.tag_words.now) c.args.started.now) (length c.args.tag_words.now) t in
+    rw (a, b)
+    (held xs asked.ready.accepted _ _ _ _ _ (c.start_slots.ensures xs (rw n (start-asked asked))) (c.sort_steps-n.ensures xs (steps-asked asked)) _ _ _ (rw first at c.pass.ensures))

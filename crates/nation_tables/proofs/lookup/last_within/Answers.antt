@@ -1,23 +1,18 @@
 -- The last of the keys below `high`: if it is not below `low`, it is the last between.
-use Rattle.std.proofs.Common.{sym, ap, ◌∙◌, is_some, ltb-false}
-use mathlib.Core.Option.{some}
-use Rattle.nation_tables.proofs.tables.LookupLaws.{no_last, last-too-low, last_found}
+use Rattle.std.proofs.Common.{sym, ap, ◌∙◌, arith, ltb-false, ltb-true}
+use Rattle.lists.specs.Options.{option_of}
+use Rattle.nation_tables.proofs.tables.LookupLaws.{no_last, last-told}
 use Rattle.nation_tables.proofs.lookup.last_within.Goals as goal
 
-pub returns-in-Some : goal.returns-in-Some
-returns-in-Some c =
-    let found = c.in-Some.ensures.item.3 in
+pub returns-in_err-key : goal.returns-in_err-key
+returns-in_err-key c =
     let below = c.count_below.ensures in
-    ap some c.row_in.ensures
-    ∙ last_found _ _ c.args.sorted.keys.now c.args.sorted.sorted _ below.inside below.value _ found.0 (found.1 0) c.if-low-key.true
+    ap option_of c.from_residual.ensures
+    ∙ no_last _ _ c.args.sorted.keys.now c.args.sorted.sorted _ below.inside below.value (ltb-false _ _ (sym c.in_err-key.ensures.item.0))
 
-pub returns-in_default : goal.returns-in_default
-returns-in_default c =
-    let found = c.in-Some.ensures.item.3 in
+pub returns : goal.returns
+returns c =
+    let item = c.in_ok-key.ensures.item in
     let below = c.count_below.ensures in
-    last-too-low _ _ c.args.sorted.keys.now c.args.sorted.sorted _ below.inside below.value _ found.0 (found.1 0) c.if-low-key.false
-
-pub returns-in_default-2 : goal.returns-in_default-2
-returns-in_default-2 c =
-    let below = c.count_below.ensures in
-    no_last _ _ c.args.sorted.keys.now c.args.sorted.sorted _ below.inside below.value (ltb-false _ _ (sym c.last.ensures.item.0 ∙ ap is_some c.in_default.is))
+    ap option_of c.then_some.ensures
+    ∙ last-told _ _ c.args.sorted.keys.now c.args.sorted.sorted _ below.inside below.value _ (ltb-true _ _ (sym item.0)) (item.4 (omega arith) 0) _ c.row_in.ensures

@@ -27,12 +27,12 @@ returns g c =
 
 pub returns-in_err-gathered : goal.returns-in_err-gathered
 returns-in_err-gathered g c =
-    told-on _ _ _ _ _ _ _ _ _ _ _ c.from_residual.result c.in_err-gathered.field-0.0 c.from_residual.ensures
+    told-on _ _ _ _ _ _ _ _ _ _ _ _ c.from_residual.result c.in_err-gathered.field-0.0 c.from_residual.ensures
     (record-refused _ _ _ _ c.in_err-gathered.field-0.0 _ _
     (tables-refused (c.gather_tables.ensures c.requires) c.in_err-gathered.was))
 
 pub returns-in_err-listed : goal.returns-in_err-listed
 returns-in_err-listed g c =
-    told-on _ _ _ _ _ _ _ _ _ _ _ c.from_residual-in_err-listed.result c.in_err-listed.field-0.0 c.from_residual-in_err-listed.ensures
+    told-on _ _ _ _ _ _ _ _ _ _ _ _ c.from_residual-in_err-listed.result c.in_err-listed.field-0.0 c.from_residual-in_err-listed.ensures
     (none-placed _ _ _ _ _ _ _ _ _ _ _ _ (gathered g (goal.at.returns-in_err-listed g c).In_ok-gathered) c.requires _ _ _ _
     c.rest_fits.ensures _ _ _ _ c.place_fronts.ensures c.in_err-listed.was)

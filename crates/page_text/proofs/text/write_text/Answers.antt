@@ -1,6 +1,8 @@
 -- Refused by its rows or its selection, or the lines of the tags that were read.
-use Rattle.std.proofs.Common.{◌≡◌, sym, ap, ◌∙◌, ◌++◌, length}
+use Rattle.std.proofs.Common.{◌≡◌, sym, ap, ◌∙◌, ◌++◌, length, arith}
 use Rattle.std.proofs.Math.Option.{map}
+use Rattle.std.proofs.lemmas.Result.{err_from_is_err_and}
+use Rattle.format.specs.declared.refused.Refusal.TheVariants.{BadQuestion}
 use Rattle.rules.specs.Page.{selection_of, tags_read}
 use Rattle.page_lines.specs.Lines.{heading}
 use Rattle.page_lines.specs.Selecting.{tags_left}
@@ -17,14 +19,17 @@ passed : (c : Else-n-living) → rows_number c.args.nations.now c.args.living.no
 passed c =
     rows_taken c.args.nations.now c.args.selection.now c.args.out.now c.args.living.now _ c.nation_count-n.ensures c.if-n-living.false
 
-pub returns-in_default : goal.returns-in_default
-returns-in_default c =
-    tags-refused c.args.nations.now c.args.selection.now c.args.out.now c.args.living.now (passed (goal.at.returns-in_default c).Else-n-living)
-    (sym (ap (map length) c.in_default.ensures))
+pub returns-in_err-tags : goal.returns-in_err-tags
+returns-in_err-tags c =
+    let p = err_from_is_err_and c.from_residual.result c.from_residual.ensures.1 in
+    let same : c.in_err-tags.field-0.0 ≡ BadQuestion = grind arith in
+    rw (p.1, p.2, same)
+    (tags-refused c.args.nations.now c.args.selection.now c.args.out.now c.args.living.now (passed (goal.at.returns-in_err-tags c).Else-n-living)
+    (sym (ap (map length) (rw c.in_err-tags.ensures.ok_part at c.read_selection.ensures))))
 
 pub returns : goal.returns
 returns c =
-    let told : selection_of c.args.selection.now ≡ _ = c.in-Some.ensures in
+    let told : selection_of c.args.selection.now ≡ _ = rw c.in_ok-tags.ensures.ok_part at c.read_selection.ensures in
     c.write_lines.ensures
-    ∙ ap (λ ts. call_lines (heading (length (tags_left c.in-Some.tags)) ++ lines_of c.args.nations.now c.args.living.now ts) c.args.out.now) (sym (ap tags_read told))
+    ∙ ap (λ ts. call_lines (heading (length (tags_left c.in_ok-tags.tags)) ++ lines_of c.args.nations.now c.args.living.now ts) c.args.out.now) (sym (ap tags_read told))
     ∙ lines-taken c.args.nations.now c.args.selection.now c.args.out.now c.args.living.now (passed (goal.at.returns c).Else-n-living) (sym (ap (map length) told))

@@ -1,7 +1,11 @@
 -- The tests in turn: limits, room for the rows, totals and strings.
-use mathlib.Core.Path.{◌≡◌, sym, ◌∙◌}
+use mathlib.Core.Path.{◌≡◌, sym, ap, ◌∙◌}
 use mathlib.Core.Bool.{◌&&◌}
+use native.Mathlib.Omega.{arith}
+use Rattle.format.specs.declared.refused.Refusal.TheVariants.{WrongSizes}
+use Rattle.format.specs.Refused.{refusal_number}
 use Rattle.format.specs.Refusal.{sizes_agree}
+use Rattle.format.proofs.RefusedLaws.{handed-on}
 use Rattle.record_check.proofs.TotalLaws.{few-rows, sizes-limits, sizes-short, sizes-told}
 use Rattle.record_check.proofs.VerdictLaws.{zero-if, number-if}
 use Rattle.record_check.proofs.sizes.sizes_checked.Goals.{After-strings_fill}
@@ -11,16 +15,22 @@ pub returns-then-not-within_limits-clause-number : goal.returns-then-not-within_
 returns-then-not-within_limits-clause-number c =
     number-if 3 (sizes-limits c.args.s.now c.read_head-head.result c.read_head-head.ensures (sym c.within_limits.ensures ∙ c.if-not-within_limits.true))
 
-pub returns-in_default-clause-number : goal.returns-in_default-clause-number
-returns-in_default-clause-number c = number-if 3 (sizes-short c.args.s.now c.read_head-head.result c.read_head-head.ensures c.in_default.ensures)
+pub returns-in_err-sections-clause-number : goal.returns-in_err-sections-clause-number
+returns-in_err-sections-clause-number c =
+    let short = rw c.in_err-sections.ensures.ok_part at c.sections_of.ensures in
+    let same : c.in_err-sections.field-0.0 ≡ WrongSizes = grind arith in
+    handed-on c.from_residual.result _ c.from_residual.ensures ∙ ap refusal_number same
+    ∙ number-if 3 (sizes-short c.args.s.now c.read_head-head.result c.read_head-head.ensures short)
 
 pub totals_agree-requires : goal.totals_agree-requires
 totals_agree-requires c =
-    few-rows c.args.s.now c.read_head-head.result c.in-Some.sections (sym c.within_limits.ensures ∙ c.if-not-within_limits.false) c.in-Some.ensures
+    let read = rw c.in_ok-sections.ensures.ok_part at c.sections_of.ensures in
+    few-rows c.args.s.now c.read_head-head.result c.in_ok-sections.sections (sym c.within_limits.ensures ∙ c.if-not-within_limits.false) read
 
 told : (c : After-strings_fill) → c.totals_agree.result && c.strings_fill.result ≡ sizes_agree c.args.s.now
 told c =
-    sizes-told c.args.s.now c.read_head-head.result c.in-Some.sections c.totals_agree.result c.strings_fill.result c.read_head-head.ensures c.in-Some.ensures
+    let read = rw c.in_ok-sections.ensures.ok_part at c.sections_of.ensures in
+    sizes-told c.args.s.now c.read_head-head.result c.in_ok-sections.sections c.totals_agree.result c.strings_fill.result c.read_head-head.ensures read
     (sym c.within_limits.ensures ∙ c.if-not-within_limits.false) c.totals_agree.ensures c.strings_fill.ensures
 
 pub returns-then-totals_agree-strings_fill-clause-number : goal.returns-then-totals_agree-strings_fill-clause-number

@@ -1,33 +1,28 @@
--- The tests in their order.
-use borrow.Author.Rules.{rules}
-use native.Mathlib.Numerals.{add-one}
-use mathlib.Core.Path.{◌∙◌}
-use lib.Seq.{drop-cons}
+-- The chronicle's test, and then those of the tag and the dates as one.
+use Rattle.std.proofs.Common.{rules, tests, ◌≡◌, ◌∙◌}
+use Rattle.std.specs.List.{list_all}
+use Rattle.std.proofs.lemmas.Iterator.{YieldsList-from_slice}
+use Rattle.std.proofs.lemmas.Iterator.Search.{all_from_yields_List}
+use Rattle.format.specs.Dates.{good_date}
 use Rattle.format.proofs.RefusedLaws.{refuses, handed-on}
-use Rattle.resolver.proofs.ResolverAnswerLaws.{asked-torn, asked-bad, asked-begun, date-bad, date-good, dates-done}
+use Rattle.resolver.proofs.ResolverAnswerLaws.{asked-torn, asked-bad, asked-good}
+use Rattle.resolver.proofs.forms.open_asked.Goals.{After-all}
 use Rattle.resolver.proofs.forms.open_asked.Goals as goal
+
+-- Whether every date is good.
+all-good : (c : After-all) → c.all.result ≡ list_all good_date c.args.dates.now
+all-good c =
+    all_from_yields_List good_date c.all.new.self _ c.all.result c.all.ensures.ran
+    (YieldsList-from_slice c.args.dates.now c.iter.ensures.rest) (λ x b q k. search (rules, tests))
 
 pub returns-in_err-chronicle-clause-number : goal.returns-in_err-chronicle-clause-number
 returns-in_err-chronicle-clause-number c =
     handed-on _ _ c.from_residual.ensures ∙ asked-torn _ _ _ _ _ (refuses _) c.in_err-chronicle.ensures.number
 
-pub returns-then-not-good-clause-number : goal.returns-then-not-good-clause-number
-returns-then-not-good-clause-number c =
-    asked-bad _ _ _ _ c.in_ok-chronicle.ensures.number _ c.good.ensures c.if-not-good.true-raw
-
-pub loop-date-init : goal.loop-date-init
-loop-date-init c = asked-begun _ _ _ _ c.in_ok-chronicle.ensures.number _ c.good.ensures c.if-not-good.false-raw
-
-pub returns-then-not-good-2-clause-number : goal.returns-then-not-good-2-clause-number
-returns-then-not-good-2-clause-number c =
-    date-bad c.args.nations.now c.args.entries.now c.args.tag c.args.dates.now c.loop-date.date-index _ _ (rw add-one (drop-cons c.args.dates.now c.loop-date.date-index (record { 0 = 0 }) (search rules)))
-    c.loop-date.invariant _ c.good-in-loop-date.ensures c.if-not-good-2.true-raw
-
-pub loop-date-preserved : goal.loop-date-preserved
-loop-date-preserved c =
-    date-good c.args.nations.now c.args.entries.now c.args.tag c.args.dates.now c.loop-date.date-index _ _ (rw add-one (drop-cons c.args.dates.now c.loop-date.date-index (record { 0 = 0 }) (search rules)))
-    c.loop-date.invariant _ c.good-in-loop-date.ensures c.if-not-good-2.false-raw
+pub returns-then-not-good-all-clause-number : goal.returns-then-not-good-all-clause-number
+returns-then-not-good-all-clause-number c =
+    asked-bad _ _ _ _ c.in_ok-chronicle.ensures.number _ _ c.good.ensures (all-good (goal.at.returns-then-not-good-all-clause-number c).After-all) c.if-not-good-all.true
 
 pub returns-clause-number : goal.returns-clause-number
 returns-clause-number c =
-    dates-done c.args.nations.now c.args.entries.now c.args.tag c.args.dates.now c.loop-date.date-index _ (search rules) c.loop-date.invariant
+    asked-good _ _ _ _ c.in_ok-chronicle.ensures.number _ _ c.good.ensures (all-good (goal.at.returns-clause-number c).After-all) c.if-not-good-all.false

@@ -1,9 +1,10 @@
--- Invariant: the entries from at on, behind the tag worn so far, tell what all of them tell.
+-- Invariant: the entries that are left, behind the tag worn so far, tell what all of them tell.
 use mathlib.Core.Path.{◌≡◌}
 use Rattle.lists.specs.Options.{option_of}
+use Rattle.chronicle_rows.specs.RowAt.{counted_left}
 use Rattle.resolver.specs.Found.{worn_in}
-use Rattle.resolver.proofs.WornLaws.{worn_from}
+use Rattle.resolver.proofs.WornLaws.{worn_along}
 use Rattle.resolver.proofs.worn.worn_on.Given as goal
 
-abbrev pub invariant-loop-at : goal.invariant-loop-at
-invariant-loop-at l = worn_from l.entries l.day l.at l.at-end (option_of l.worn) ≡ worn_in l.entries l.day l.fn.row.first l.fn.row.count
+abbrev pub invariant-loop-entry : goal.invariant-loop-entry
+invariant-loop-entry l = worn_along l.day (counted_left l.entry-iterator) (option_of l.worn) ≡ worn_in l.entries l.day l.fn.row.first l.fn.row.count

@@ -1,7 +1,11 @@
--- Invariant: what is left from the entry at hand on is what was left.
-use mathlib.Core.Path.{◌≡◌}
+-- Invariant: what is left is what was left: an entry that was passed is no switch. The entries left measure the loop.
+use Rattle.std.proofs.Common.{◌≡◌, length}
+use Rattle.chronicle_rows.specs.RowAt.{counted_left}
 use Rattle.claims.specs.Claims.{claims_left}
 use Rattle.claims.proofs.claims.ClaimsIterator.next.Given as goal
 
-abbrev pub invariant-loop-number : goal.invariant-loop-number
-invariant-loop-number l = (l.self ≡ l.fn.self) × (claims_left (record (l.self) { entry = l.number }) ≡ claims_left l.fn.self)
+abbrev pub invariant-loop-entry : goal.invariant-loop-entry
+invariant-loop-entry l = claims_left l.initial.self ≡ claims_left l.self
+
+abbrev pub decreases-loop-entry : goal.decreases-loop-entry
+decreases-loop-entry l = length (counted_left l.self.own)

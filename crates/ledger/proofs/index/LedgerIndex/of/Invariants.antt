@@ -1,7 +1,10 @@
 -- The invariant: the names passed have their keys and places in front, and the others are left.
+use Rattle.std.specs.Iterator.Adapters.{enumerate_source, enumerate_count}
 use Rattle.record.specs.Cursors.{ledgers_left}
 use Rattle.ledger.proofs.IndexLaws.{Naming}
 use Rattle.ledger.proofs.index.LedgerIndex.of.Given as goal
 
-abbrev pub invariant-loop-row : goal.invariant-loop-row
-invariant-loop-row g l = Naming l.frame.ledgers (ledgers_left l.row-iterator) g.row.NAMES l.names l.first l.initial.keys l.keys l.places
+abbrev pub invariant-loop-number : goal.invariant-loop-number
+invariant-loop-number g l =
+    let left = l.number-iterator in
+    Naming l.frame.ledgers (ledgers_left (enumerate_source left)) g.row.NAMES (enumerate_count left) l.first l.initial.keys l.keys l.places

@@ -18,4 +18,5 @@ pub bounds-self-number : goal.bounds-self-number
 bounds-self-number c = found_inside c.args.self.now.indexed c.args.tag _ c.first_place.ensures c.in_ok-number.was
 
 pub returns : goal.returns
-returns c = found-points c.args.self.now.indexed c.args.tag _ c.first_place.ensures c.in_ok-number.was _ _ c.points_from.ensures
+returns c =
+    found-points c.args.self.now.indexed c.args.tag _ c.first_place.ensures c.in_ok-number.was _ _ (rw c.len.ensures.value at c.points_from.ensures)

@@ -5,7 +5,7 @@ use lib.ListN.{length, length-append}
 use Rattle.rules.proofs.RowLaws.{all_entries}
 use Rattle.nation_listing.specs.Reading.{cells_in}
 use Rattle.nation_listing.specs.Entries.{entries_left}
-use Rattle.nation_listing.specs.Listing.{nations_left}
+use Rattle.nation_listing.specs.Listing.{listed_left}
 use Rattle.nation_listing.proofs.ListingLaws.{nations-few}
 use Rattle.nation_listing.proofs.tables.ReadableTables.count_nations.Goals as goal
 
@@ -23,5 +23,5 @@ overflow_add-entries c =
       c.loop-nation.invariant.entries,
       c.len-entries.ensures,
       ap (λ ns. length (all_entries ns)) c.in-Some.ensures.steps,
-      length-append (entries_left c.in-Some.nation.entries) (all_entries (nations_left c.next.new.self)),
+      length-append (entries_left c.in-Some.nation.entries) (all_entries (listed_left c.next.new.self)),
     )

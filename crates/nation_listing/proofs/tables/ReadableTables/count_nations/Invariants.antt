@@ -4,13 +4,13 @@ use Prim.Native.Nat.{◌+◌}
 use lib.ListN.{length}
 use Rattle.rules.proofs.RowLaws.{all_entries}
 use Rattle.nation_listing.specs.Reading.{cells_in}
-use Rattle.nation_listing.specs.Listing.{nations_at, nations_left}
+use Rattle.nation_listing.specs.Listing.{nations_at, listed_left}
 use Rattle.nation_listing.proofs.tables.ReadableTables.count_nations.Given as goal
 
 abbrev pub invariant-loop-nation : goal.invariant-loop-nation
 invariant-loop-nation l =
     let all = nations_at (cells_in l.self) l.self.initial_keys.keys.now in
-    let left = nations_left l.nation-iterator in
+    let left = listed_left l.nation-iterator in
     record {
       nations : l.nations + length left ≡ length all;
       entries : l.entries + length (all_entries left) ≡ length (all_entries all);

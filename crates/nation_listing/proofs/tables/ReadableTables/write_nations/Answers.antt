@@ -8,7 +8,7 @@ use lib.ListN.{length}
 use Rattle.std.specs.Iterator.Adapters.{enumerate_source, enumerate_count}
 use Rattle.nation_tables.specs.Layout.{word_span}
 use Rattle.nation_listing.specs.Reading.{cells_in}
-use Rattle.nation_listing.specs.Listing.{nation_in, nations_at, nations_left}
+use Rattle.nation_listing.specs.Listing.{listed_in, nations_at, listed_left}
 use Rattle.nation_listing.proofs.ListingLaws.{nations-few}
 use Rattle.nation_listing.proofs.WriteNationsLaws.{Placing, placing-none, placing-same, place-few, place-room, place-more, placing-done}
 use Rattle.nation_listing.proofs.tables.ReadableTables.write_nations.Goals.{In-Some}
@@ -24,17 +24,17 @@ pub loop-n-init : goal.loop-n-init
 loop-n-init c =
     let gives = c.into_iter-n-iterator.ensures.into_iter_gives in
     placing-none _ _ _ _ _
-    (ap (λ it. nations_left (enumerate_source it)) gives ∙ (ap nations_left c.enumerate-n-items.ensures.source ∙ c.nations.ensures))
+    (ap (λ it. listed_left (enumerate_source it)) gives ∙ (ap listed_left c.enumerate-n-items.ensures.source ∙ c.nations.ensures))
     (ap (λ it. enumerate_count it) gives ∙ c.enumerate-n-items.ensures.count)
     c.requires
 
 -- The nation at hand is the first of those left.
 here : (c : In-Some) → Placing (nations_at (cells_in c.args.self.now) c.args.self.now.initial_keys.keys.now)
-    (nation_in c.in-Some.nation ∷ nations_left (enumerate_source c.next.new.self)) c.in-Some.n c.loop-n.first
+    (listed_in c.in-Some.nation ∷ listed_left (enumerate_source c.next.new.self)) c.in-Some.n c.loop-n.first
     c.args.nations.now c.loop-n.nations c.args.entries.now c.loop-n.entries
 here c = placing-same _ _ _ _ _ _ _ _ _ _ c.in-Some.ensures.steps.0 c.in-Some.ensures.steps.1 c.loop-n.invariant
 
-few : (c : In-Some) → c.loop-n.first + length (nation_in c.in-Some.nation).entries < word_span
+few : (c : In-Some) → c.loop-n.first + length (listed_in c.in-Some.nation).entries < word_span
 few c = place-few _ _ _ _ _ _ _ _ _ (here c) (nations-few (cells_in c.args.self.now) c.args.self.now.readable).1
 
 pub write_nation-count-requires-clause-few : goal.write_nation-count-requires-clause-few

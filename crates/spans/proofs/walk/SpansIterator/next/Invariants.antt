@@ -1,12 +1,12 @@
--- The invariant: what was left is what is left of what is running, from the entry at hand on.
-use mathlib.Core.Path.{◌≡◌}
+-- The invariant: what was left is what is left of what is running, with the entries that are left. These measure the loop.
+use Rattle.std.proofs.Common.{◌≡◌, length}
+use Rattle.rules.specs.Ledger.{spans_from}
+use Rattle.chronicle_rows.specs.RowAt.{counted_left}
 use Rattle.spans.specs.SpanSteps.{running_in, spans_left}
-use Rattle.spans.proofs.SpanLaws.{spans_on}
 use Rattle.spans.proofs.walk.SpansIterator.next.Given as goal
 
-abbrev pub invariant-loop-number : goal.invariant-loop-number
-invariant-loop-number l =
-    record {
-      unchanged : l.self ≡ l.initial.self;
-      left : spans_left l.initial.self ≡ spans_on l.self.entries.now l.self.current l.self.end (running_in l.running) l.number;
-    }
+abbrev pub invariant-loop-entry : goal.invariant-loop-entry
+invariant-loop-entry l = spans_left l.initial.self ≡ spans_from l.self.current (running_in l.running) (counted_left l.self.entries)
+
+abbrev pub decreases-loop-entry : goal.decreases-loop-entry
+decreases-loop-entry l = length (counted_left l.self.entries)
