@@ -12,7 +12,7 @@ use chronicle_rows::{ENTRY_WIDTH, NATION_WIDTH};
 use record::Eu4Date;
 use std::io;
 use std::io::Read;
-use stored_input::{BrokenOff, Counts, Replay, read_head, read_part, replay_file, take_part};
+use stored_input::{BrokenOff, Counts, Replay, read_numbers, read_part, replay_file, take_part};
 
 // How many bytes a record has at most, and how many rows of each kind a chronicle.
 const RECORD_BYTES: usize = 4096;
@@ -43,7 +43,7 @@ fn wrong_days<R: Read>(list: &mut R, s: &[u8], days: u32) -> Result<usize, Broke
 {
     let mut wrong = 0;
     for _ in 0..days {
-        let [date, first, count]: [u32; 3] = read_head(list)?;
+        let [date, first, count]: [u32; 3] = read_numbers(list)?;
         let run = DateRun {
             first: first as usize,
             count: count as usize,
@@ -55,7 +55,7 @@ fn wrong_days<R: Read>(list: &mut R, s: &[u8], days: u32) -> Result<usize, Broke
 
 // What is stored of a campaign's nations: how many rows and slots, and their words.
 #[derive(Clone, Copy)]
-struct Stored<'a> {
+struct ExpectedNations<'a> {
     counts: NationCounts,
     nations: &'a [u32],
     entries: &'a [u32],
@@ -64,7 +64,7 @@ struct Stored<'a> {
 }
 
 // Whether nations, entries, holders and slots held are the stored ones, and so many.
-fn same_nations(s: &[u8], stored: Stored<'_>) -> bool {
+fn same_nations(s: &[u8], stored: ExpectedNations<'_>) -> bool {
     let mut nations = [0u32; NATION_WIDTH * MOST_ROWS];
     let mut entries = [0u32; ENTRY_WIDTH * MOST_ROWS];
     let mut holders = [0u32; MOST_ROWS];
@@ -92,7 +92,7 @@ impl Replay for Campaigns {
     ghost comes_to = { λ _ _ _. ⊤ };
 
     fn replay<R: Read>(&mut self, len: u32, list: &mut R) -> Result<Counts, BrokenOff> {
-        let [changes, days, nations, entries, slots, countries]: [u32; 6] = read_head(list)?;
+        let [changes, days, nations, entries, slots, countries]: [u32; 6] = read_numbers(list)?;
         let counts = NationCounts {
             nations: nations as usize,
             entries: entries as usize,
@@ -108,7 +108,7 @@ impl Replay for Campaigns {
         let entry_words = ENTRY_WIDTH * counts.entries;
         let n = nation_words + entry_words + counts.slots + counts.countries;
         let mut left = read_part(list, n, &mut self.numbers)?;
-        let stored = Stored {
+        let stored = ExpectedNations {
             counts,
             nations: take_part(&mut left, nation_words)?,
             entries: take_part(&mut left, entry_words)?,

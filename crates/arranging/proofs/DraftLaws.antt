@@ -61,9 +61,9 @@ pub record Placed {A : Type 0} (all came : List A) (x : A) : Type 0 where
   pub inside : length came < length all
   pub here : x ≡ get_or all (length came) x
 
-pub placed : {S A B : Type 0} {steps : S → code.Option A → S → Type 0} {v : A → B} {s : S} {all : List B} → YieldsList steps v s all
+pub draft-placed : {S A B : Type 0} {steps : S → code.Option A → S → Type 0} {v : A → B} {s : S} {all : List B} → YieldsList steps v s all
     → (xs : List A) (t : S) → Yields steps s xs t → (r : code.Option A) (u : S) (x : A) → r ≡ Some x → steps t r u → Placed all (map v xs) (v x)
-placed {v} road xs t y r u x is step =
+draft-placed {v} road xs t y r u x is step =
     let place = YieldsList-turn road xs t y r u x is step in
     let size : length (map v xs) ≡ length xs = length-map xs v in
     record { front = rw size (YieldsList-so_far road xs t y); inside = rw size place.0; here = rw size place.1 }

@@ -3,9 +3,10 @@ use Rattle.std.specs.Prelude as code
 use Rattle.std.specs.Prelude.{◌≡◌, is_some, IfSome, Bool, true, false, cond, ◌&&◌, List, [], ◌∷◌, ◌++◌, map, ℕ, ◌+◌, ◌-◌, ◌*◌, ◌%◌, ◌≤◌, ◌<◌, leb, ltb, eqb, length, take, drop, set}
 use Rattle.lists.specs.Lists.{All, any_of, all_of, keep, one, last_or, sum_of, join_of}
 use Rattle.format.specs.declared.tag.CountryTag.{CountryTag}
+use Rattle.search.specs.Places.{keys_per_tag}
 use Rattle.rules.specs.Lent.{refused, Outcome, room_number, outcome}
 use Rattle.rules.specs.PlayerOutcomes.{HistoryCounts, HistoryCells, both_fit, both_written}
-use Rattle.rules.specs.HistoryRows.{HistoryRow, history_row_words}
+use Rattle.rules.specs.HistoryRows.{history_width, HistoryRow, history_row_words}
 use Rattle.arranging.specs.declared.drafts.Draft.{Draft}
 use Rattle.arranging.specs.Drafts.{is_played, is_leftover}
 
@@ -28,7 +29,7 @@ histories_from first (d ∷ ds) = history_from d first ∷ histories_from (first
 
 -- The name of a key, and those that a draft leads to.
 abbrev pub name_in : ℕ → ℕ
-name_in key = key % 65536
+name_in key = key % keys_per_tag
 
 abbrev pub names_at : List ℕ → Draft → List ℕ
 names_at keys d = map name_in (take d.count (drop d.first keys))
@@ -55,7 +56,7 @@ last_initial ds = last_or (record { 0 = 0 }) (map (λ d. d.initial) ds)
 -- There is room for the histories of few drafts, and numbers of names are small.
 pub record WriteReady (ds : List Draft) (names : ℕ) (out : List ℕ) : Type 0 where
   pub many : length ds ≤ 2000
-  pub room : 7 * length ds ≤ length out
+  pub room : history_width * length ds ≤ length out
   pub few : names + sum_of (λ d. d.count) ds ≤ 4294967295
 
 -- The words of all histories with players and of so many leftovers.
@@ -88,7 +89,7 @@ pub record HistoriesReady (ds : List Draft) (v : code.Option CountryTag) (kept n
   pub few : names ≤ 4294967295
   pub many : length ds ≤ 2000
   pub sole : is_some v ≡ true → 0 < length (keep is_played ds)
-  pub room : 7 * (length (keep is_played ds) + kept) ≤ length out
+  pub room : history_width * (length (keep is_played ds) + kept) ≤ length out
 
 -- Few drafts, and each leads to keys, of which there are few.
 pub record ArrangeReady (ds : List Draft) (keys : List ℕ) : Type 0 where

@@ -3,7 +3,7 @@ ghost use Rattle.std.specs.Prelude.{◌≡◌, is_some, List, ◌*◌, length};
 ghost use Rattle.std.specs.Iterator.{AlwaysYields, IsFinite};
 ghost use Rattle.lists.specs.Lists.{keep, join_of};
 ghost use Rattle.rules.specs.Lent.{written};
-ghost use Rattle.rules.specs.HistoryRows.{history_row_words};
+ghost use Rattle.rules.specs.HistoryRows.{history_width, history_row_words};
 ghost use Rattle.history_rows.specs.Cases.{history_told};
 ghost use Rattle.arranging.specs.declared.drafts.Draft as D;
 ghost use Rattle.arranging.specs.Drafts.{is_played};
@@ -12,7 +12,7 @@ ghost use Rattle.arranging.specs.Arranging.{history_from, histories_from, WriteR
 use crate::drafts::Draft;
 use chronicle_rows::put;
 use format::CountryTag;
-use history_rows::{HISTORY_WIDTH, History};
+use history_rows::{HISTORY_WIDTH, HistoryRow};
 
 // The initial of the leftover that vanishes: of the last one, in ironman, where the only history with players is a released country's.
 pub(crate) fn vanishing(drafts: &[Draft], ironman: bool, played: usize) -> Option<CountryTag>
@@ -31,10 +31,10 @@ pub(crate) fn vanishing(drafts: &[Draft], ironman: bool, played: usize) -> Optio
 }
 
 // The history of a draft, with the number of names before its own.
-fn finish(draft: Draft, first: u32) -> History
+fn finish(draft: Draft, first: u32) -> HistoryRow
     ensures { history_told result ≡ history_from draft first }
 {
-    History {
+    HistoryRow {
         initial: draft.initial,
         latest: draft.latest,
         stored: draft.stored,
@@ -52,7 +52,7 @@ fn write_drafts<I: Iterator<Item = Draft> + Drop>(drafts: I, names: u32, out: &m
     requires can { I.can_next drafts }
     requires ends { IsFinite (I.remaining drafts) }
     requires ready { (all : List D.Draft) × AlwaysYields I.next_gives (λ d. d) drafts all × WriteReady all names out.old }
-    ensures { (all : List D.Draft) → AlwaysYields I.next_gives (λ d. d) drafts all → (result ≡ 7 * length all) × (out.new ≡ written (join_of history_row_words (histories_from names all)) out.old) }
+    ensures { (all : List D.Draft) → AlwaysYields I.next_gives (λ d. d) drafts all → (result ≡ history_width * length all) × (out.new ≡ written (join_of history_row_words (histories_from names all)) out.old) }
 {
     let mut first = names;
     let mut at = 0;

@@ -11,7 +11,7 @@ use lib.Seq.{take_at, drop_at, drop-drop, length-take-le, take_all}
 use Rattle.std.proofs.lemmas.List.{drop_all}
 use Rattle.chronicle_rows.specs.RowAt as Cells
 use Rattle.rules.specs.Bookings.{Joining}
-use Rattle.bookings.specs.Passes.{row_here, row_put, rows_by}
+use Rattle.bookings.specs.Passes.{row_here, row_put_at, rows_by}
 
 module _ (row : Joining → List ℕ → List ℕ) (all : List Joining) (before : List ℕ) where
   pub record Passing (left : List Joining) (k : ℕ) (now : List ℕ) : Type 0 where
@@ -23,7 +23,7 @@ module _ (row : Joining → List ℕ → List ℕ) (all : List Joining) (before 
     pub passing-room : {j : Joining} {rest : List Joining} → left ≡ j ∷ rest → k + 3 ≤ length now
     passing-room e = let r = p.room in let l = p.long in omega (arith, ap length e)
 
-    pub passing-next : {j : Joining} {rest : List Joining} → left ≡ j ∷ rest → length (row j (row_here k now)) ≡ 3 → (new : List ℕ) → new ≡ row_put k (row j (row_here k now)) now
+    pub passing-next : {j : Joining} {rest : List Joining} → left ≡ j ∷ rest → length (row j (row_here k now)) ≡ 3 → (new : List ℕ) → new ≡ row_put_at k (row j (row_here k now)) now
         → Passing rest (k + 3) new
     unfolding rows_by
     passing-next {j} {rest} e w new q =
@@ -57,7 +57,7 @@ module _ (row : Joining → List ℕ → List ℕ) (all : List Joining) (before 
 -- The row was made anew at the front of the cells from its place on, which are as many as before: so it has three words.
 row-made : (row : List ℕ → List ℕ) (out made : List ℕ) (k : ℕ) → k + 3 ≤ length out
     → made ≡ Cells.row_put 3 (row (take 3 (take (length out - k) (drop k out)))) (take (length out - k) (drop k out)) → length made ≡ length (take (length out - k) (drop k out))
-    → (length (row (row_here k out)) ≡ 3) × (take k out ++ (made ++ drop (length out - k) (drop k out)) ≡ row_put k (row (row_here k out)) out)
+    → (length (row (row_here k out)) ≡ 3) × (take k out ++ (made ++ drop (length out - k) (drop k out)) ≡ row_put_at k (row (row_here k out)) out)
 row-made row out made k h e l =
     let cells : List ℕ = drop k out in
     let words : List ℕ = row (row_here k out) in

@@ -20,13 +20,9 @@ use Rattle.std.specs.Prelude.{Some, None, Ok}
 use Rattle.record.specs.declared.opened.Record.{Record}
 use Rattle.record.specs.Opened.{RightlyOpened}
 use Rattle.std.specs.Iterator.{YieldsFirstBy}
-use Rattle.record.specs.declared.rows.Rows.{Rows}
 use Rattle.record.specs.declared.cursors.Wars.{Wars}
-use Rattle.record.specs.Cursors.{war_events_left, wars_left}
+use Rattle.record.specs.Cursors.{WarEvents, war_events_left, wars_left}
 use Rattle.bookings.specs.AtHand.{wars_told}
-use Rattle.bookings.specs.declared.joinings.Joining as CodeJoining
-use Rattle.bookings.specs.declared.joinings.Joinings.{Joinings}
-use Rattle.bookings.specs.Walking.{joining_of, joinings_left}
 use Rattle.rules.specs.Bookings.{Joining, war_joinings, joinings_from, joinings_of}
 use Rattle.bookings.specs.Passes.{GoodJoining}
 
@@ -52,7 +48,7 @@ module _ (war : ℕ) (es : List WarEvent) (ws : List (List WarEvent)) where
   step-joining e h = simp (le-leb e.kind 1 h)
 
 -- No war is at hand.
-pub walk_none : (war : ℕ) (at : code.Option (Rows WarEvent 8)) (wars : Wars) → ((events : Rows WarEvent 8) → at ≡ Some events → ⊥) → joinings_from war (wars_told at wars) ≡ []
+pub walk_none : (war : ℕ) (at : code.Option WarEvents) (wars : Wars) → ((events : WarEvents) → at ≡ Some events → ⊥) → joinings_from war (wars_told at wars) ≡ []
 unfolding joinings_from
 walk_none war None wars h = refl
 walk_none war (Some events) wars h = absurd (h events refl)
@@ -62,18 +58,9 @@ unfolding joinings_from
 nowhere war = refl
 
 -- The next war comes to hand.
-pub wars-next : (old : Wars) (r : code.Option (Rows WarEvent 8)) (new : Wars) → YieldsFirstBy war_events_left wars_left old r new → wars_left old ≡ wars_told r new
+pub wars-next : (old : Wars) (r : code.Option WarEvents) (new : Wars) → YieldsFirstBy war_events_left wars_left old r new → wars_left old ≡ wars_told r new
 wars-next old (Some events) new h = h
 wars-next old None new h = h.0
-
--- A step over an event leaves one less to take.
-pub walk-less : (e : WarEvent) (events left : Rows WarEvent 8) (wars : Wars) → war_events_left events ≡ e ∷ war_events_left left
-    → war_steps (wars_told (Some left) wars) < war_steps (wars_told (Some events) wars)
-walk-less e events left wars first = omega (arith, ap length first)
-
--- A step that gave a joining leaves one less.
-pub joining-less : (s : Joinings) (x : CodeJoining.Joining) (t : Joinings) → YieldsFirstBy joining_of joinings_left s (Some x) t → length (joinings_left s) ≡ length (joinings_left t) + 1
-joining-less s x t told = omega (arith, ap length told)
 
 -- ## The joinings of an accepted record
 

@@ -2,12 +2,8 @@
 use Rattle.std.specs.Prelude as code
 use Rattle.std.specs.Prelude.{List, ℕ}
 use Rattle.format.specs.declared.refused.Refusal.{Refusal}
-use Rattle.rules.specs.Lent.{Answer, answer_of, Outcome, outcome_of}
+use Rattle.rules.specs.Lent.{Outcome, outcome_of}
 
--- How many rows were written, or the number of the refusal.
-abbrev pub bookings_answer : code.Result ℕ Refusal → Answer ℕ
-bookings_answer r = answer_of (λ n. n) r
-
--- The answer with the lent slice after the call.
+-- How many rows were written, or the number of the refusal, with the lent slice after the call.
 abbrev pub bookings_outcome : code.Result ℕ Refusal → List ℕ → Outcome ℕ (List ℕ)
 bookings_outcome r after = outcome_of (λ n. n) r after

@@ -6,7 +6,7 @@ use Rattle.lists.specs.Lists.{All}
 use Rattle.format.specs.declared.tag.CountryTag.{CountryTag}
 use Rattle.format.specs.Tags.{is_tag}
 use Rattle.rules.specs.NationRows.{well_shaped}
-use Rattle.rules.specs.Bookings.{Joining}
+use Rattle.rules.specs.Bookings.{Joining, booking_width}
 use Rattle.chronicle_rows.specs.RowAt.{nation_row_at}
 use Rattle.claims.specs.declared.claims.Claim.{Claim}
 use Rattle.claims.specs.Claims.{claims_in, best_of}
@@ -18,16 +18,16 @@ use Rattle.questions.specs.Passes.{claim_words, updated, row_owner}
 
 -- The row that begins at word k.
 abbrev pub row_here : ℕ → List ℕ → List ℕ
-row_here k out = take 3 (drop k out)
+row_here k out = take booking_width (drop k out)
 
 -- The words with a row written there.
-abbrev pub row_put : ℕ → List ℕ → List ℕ → List ℕ
-row_put k row out = take k out ++ (row ++ drop (k + 3) out)
+abbrev pub row_put_at : ℕ → List ℕ → List ℕ → List ℕ
+row_put_at k row out = take k out ++ (row ++ drop (k + booking_width) out)
 
 -- A row for each joining, from the row that stood there; behind them the words stay.
 unfoldable pub rows_by : (Joining → List ℕ → List ℕ) → List Joining → List ℕ → List ℕ
 rows_by row [] out = out
-rows_by row (j ∷ js) out = row j (take 3 out) ++ rows_by row js (drop 3 out)
+rows_by row (j ∷ js) out = row j (take booking_width out) ++ rows_by row js (drop booking_width out)
 
 -- ## The rows of each pass
 
@@ -67,4 +67,4 @@ pub record GoodJoining (j : Joining) : Type 0 where
 pub record BookingReady (js : List Joining) (ws es out : List ℕ) : Type 0 where
   pub good : All GoodJoining js
   pub shaped : well_shaped ws es ≡ true
-  pub room : 3 * length js ≤ length out
+  pub room : booking_width * length js ≤ length out

@@ -8,3 +8,4 @@ mod passes;
 mod rows;
 
 pub use answers::war_participants;
+pub use rows::BOOKING_WIDTH;

@@ -1,5 +1,6 @@
 // Passes over the rows of the answer, each beside the joinings.
 ghost use Rattle.std.specs.Prelude.{◌≡◌, ◌*◌, ◌≤◌, take, length};
+ghost use Rattle.rules.specs.Bookings.{booking_width};
 ghost use Rattle.chronicle_rows.specs.RowAt.{row_put};
 ghost use Rattle.bookings.specs.Walking.{joining_of, joinings_left};
 ghost use Rattle.bookings.specs.Passes.{BookingReady, rows_by, held_row, claimed_row};
@@ -19,7 +20,7 @@ pub(crate) struct CountedJoinings<'a> {
 
 // Makes the row at the front of the cells anew by a pass; where there is none, they stay as they are.
 fn make_row<P: Pass>(pass: &P, joining: Joining, out: &mut [u32])
-    ensures { out.new ≡ row_put 3 (P.row_of pass.now (joining_of joining) (take 3 out.old)) out.old }
+    ensures { out.new ≡ row_put booking_width (P.pass_row pass.now (joining_of joining) (take booking_width out.old)) out.old }
 {
     if let Some(row) = out.first_chunk_mut::<BOOKING_WIDTH>() {
         *row = pass.row(joining, *row);
@@ -28,8 +29,8 @@ fn make_row<P: Pass>(pass: &P, joining: Joining, out: &mut [u32])
 
 // Makes the row of each joining anew by a pass. By places, not by `as_chunks_mut`: of what is written through its parts a proof knows the lengths alone.
 fn pass_over<P: Pass>(pass: &P, joinings: Joinings, out: &mut [u32])
-    requires { 3 * length (joinings_left joinings) ≤ length out.old }
-    ensures { out.new ≡ rows_by (P.row_of pass.now) (joinings_left joinings.entry) out.old }
+    requires { booking_width * length (joinings_left joinings) ≤ length out.old }
+    ensures { out.new ≡ rows_by (P.pass_row pass.now) (joinings_left joinings.entry) out.old }
 {
     for (i, joining) in joinings.enumerate() {
         make_row(pass, joining, &mut out[BOOKING_WIDTH * i..]);
@@ -38,7 +39,7 @@ fn pass_over<P: Pass>(pass: &P, joinings: Joinings, out: &mut [u32])
 
 // Each row's best claim so far is held against that of a block.
 impl BlockPass for CountedJoinings<'_> {
-    ghost words = { λ pass. 3 * length (joinings_left pass.joinings) };
+    ghost words = { λ pass. booking_width * length (joinings_left pass.joinings) };
 
     ghost held = { λ pass keys owners out. rows_by (held_row keys owners) (joinings_left pass.joinings) out };
 

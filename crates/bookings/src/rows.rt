@@ -7,19 +7,19 @@ ghost use Rattle.bookings.specs.Walking.{joining_of};
 ghost use Rattle.bookings.specs.Passes.{held_row, stored_tag, row_with, final_row, claimed_row};
 
 use crate::joinings::Joining;
-use chronicle_rows::{Chronicle, nation_at};
+use chronicle_rows::{Chronicle, nation_row_at};
 use claims::best_claim;
 use questions::{ClaimBlock, row_owner};
 
 // How many words a row has.
-pub(crate) const BOOKING_WIDTH: usize = 3;
+pub const BOOKING_WIDTH: usize = 3;
 
 // A pass over the rows: what it makes of a joining's row.
 pub(crate) trait Pass {
-    ghost row_of: { Self → RulesJoining → List ℕ → List ℕ };
+    ghost pass_row: { Self → RulesJoining → List ℕ → List ℕ };
 
     fn row(&self, joining: Joining, before: [u32; BOOKING_WIDTH]) -> [u32; BOOKING_WIDTH]
-        ensures { result ≡ row_of self.now (joining_of joining) before };
+        ensures { result ≡ pass_row self.now (joining_of joining) before };
 }
 
 // Holds a row's best claim so far against that of a block.
@@ -29,7 +29,7 @@ pub(crate) struct HoldBlock<'a> {
 }
 
 impl Pass for HoldBlock<'_> {
-    ghost row_of = { λ pass. held_row pass.block.sorted.keys.now pass.block.owners.now };
+    ghost pass_row = { λ pass. held_row pass.block.sorted.keys.now pass.block.owners.now };
 
     fn row(&self, joining: Joining, before: [u32; BOOKING_WIDTH]) -> [u32; BOOKING_WIDTH] {
         let [_, best, owner] = before;
@@ -45,7 +45,7 @@ fn booking(nations: &[u32], joining: Joining, nation: Option<usize>) -> [u32; BO
     ensures { result ≡ row_with (joining_of joining) (stored_tag nations.now joining.tag (option_of nation)) }
 {
     let stored = match nation {
-        Some(number) => nation_at(nations, number).stored,
+        Some(number) => nation_row_at(nations, number).stored,
         None => joining.tag,
     };
     [joining.war, joining.tag.into(), stored.into()]
@@ -58,7 +58,7 @@ pub(crate) struct Finish<'a> {
 }
 
 impl Pass for Finish<'_> {
-    ghost row_of = { λ pass. final_row pass.nations.now };
+    ghost pass_row = { λ pass. final_row pass.nations.now };
 
     fn row(&self, joining: Joining, before: [u32; BOOKING_WIDTH]) -> [u32; BOOKING_WIDTH] {
         let [_, _, owner] = before;
@@ -73,7 +73,7 @@ pub(crate) struct BookEach<'a> {
 }
 
 impl Pass for BookEach<'_> {
-    ghost row_of = { λ pass j _. claimed_row pass.chronicle.nations.now pass.chronicle.entries.now j };
+    ghost pass_row = { λ pass j _. claimed_row pass.chronicle.nations.now pass.chronicle.entries.now j };
 
     fn row(&self, joining: Joining, _before: [u32; BOOKING_WIDTH]) -> [u32; BOOKING_WIDTH] {
         let best = best_claim(self.chronicle, joining.tag, joining.date);

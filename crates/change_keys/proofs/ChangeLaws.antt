@@ -2,15 +2,15 @@
 use Rattle.std.specs.Prelude as code
 use Rattle.std.specs.Prelude.{Some, None}
 use Rattle.std.specs.Iterator.{YieldsFirstBy}
-use mathlib.Core.Path.{◌≡◌, sym, ap}
+use mathlib.Core.Path.{◌≡◌, sym}
 use mathlib.Core.Bool.{true, false}
 use mathlib.Core.List.{List, [], ◌∷◌}
-use Prim.Native.Nat.{ℕ, ◌+◌, ◌*◌, ◌≤◌, ◌<◌}
+use Prim.Native.Nat.{ℕ, ◌+◌, ◌*◌, ◌≤◌}
 use native.Mathlib.Omega.{arith}
 use lib.ListN.{length, length-append}
 use Rattle.lists.specs.Lists.{join_of, sum_of}
 use Rattle.lists.proofs.BoolLaws.{cases}
-use Rattle.lists.proofs.ListLaws.{all_map, all_join, length-joined}
+use Rattle.lists.proofs.ListLaws.{all_map, all_join}
 use Rattle.lists.specs.Lists.{All}
 use Rattle.sorting.proofs.SortLaws.{length-sort}
 use Rattle.format.specs.declared.tag.CountryTag.{CountryTag}
@@ -20,15 +20,13 @@ use Rattle.record.specs.declared.provinces.ProvinceRow.{ProvinceRow}
 use Rattle.record.specs.declared.provinces.Provinces.{Provinces}
 use Rattle.format.specs.Tags.{same_tag}
 use Rattle.format.specs.Campaign.{Province, campaign_of}
-use Rattle.record.specs.declared.rows.Rows.{Rows}
-use Rattle.record.specs.Cursors.{owner_events_left, province_of, provinces_left, all_owner_events}
-use Rattle.record.proofs.SharedLaws.{events-shared}
+use Rattle.record.specs.Cursors.{province_of, provinces_left}
 use Rattle.format.specs.Refusal.{refusal}
-use Rattle.format.proofs.BoundLaws.{small-provinces, few-events, events-bytes}
+use Rattle.format.proofs.BoundLaws.{small-provinces, few-events}
+use Rattle.record.specs.Width.{row_bytes}
+use Rattle.record.proofs.WidthLaws.{events-within}
 use Rattle.rules.specs.Changes.{changes_from, province_changes, by_date_and_id, changes_of}
-use Rattle.change_keys.specs.declared.changes.OwnerChange.{OwnerChange}
-use Rattle.change_keys.specs.declared.changes.Changes.{Changes}
-use Rattle.change_keys.specs.ChangeSteps.{change_of, slots_left, changes_left, changes_ahead, entered, most_changes}
+use Rattle.change_keys.specs.ChangeSteps.{slots_left, changes_ahead, entered, most_changes}
 pub use Rattle.change_keys.specs.ChangeSteps.{Narrow}
 use Rattle.rules.proofs.CampaignLaws.{all-changes}
 
@@ -67,15 +65,6 @@ module _ (id : ProvinceId) (owner : CountryTag) (ps : List Province) where
     unfolding changes_from
     walk-change t = rw more (simp t)
 
--- A step over an event leaves one less to take.
-pub walk-less : (p : ProvinceRow) (rest : Provinces) (e : OwnerEvent) (events : Rows OwnerEvent 7) → owner_events_left p.events ≡ e ∷ owner_events_left events
-    → steps (slots_left (Some (record { id = p.id; owner = e.tag; events = events })) rest) < steps (slots_left (Some p) rest)
-walk-less p rest e events first = omega (arith, ap length first)
-
--- A step that gave a change leaves one less.
-pub change-less : (s : Changes) (x : OwnerChange) (t : Changes) → YieldsFirstBy change_of changes_left s (Some x) t → length (changes_left s) ≡ length (changes_left t) + 1
-change-less s x t told = omega (arith, ap length told)
-
 -- ## How many changes
 
 slot-few : (id : ProvinceId) (tag : CountryTag) (es : List OwnerEvent) → length (changes_from id tag es) ≤ length es
@@ -91,18 +80,16 @@ all-few [] = omega arith
 all-few (p ∷ ps) =
     omega (arith, length-append (province_changes p) (join_of province_changes ps), slot-few p.id p.owner p.events, all-few ps)
 
--- No more changes are ahead than the provinces left share owner events.
-pub ahead_within : (c : Provinces) → length (changes_ahead c) ≤ length (all_owner_events c)
-ahead_within c =
-    let left = provinces_left c in
-    omega (arith, all-few left, length-joined (λ (p : Province). p.events) left, events-shared c)
+-- No more changes are ahead than the provinces left have owner events.
+pub ahead_within : (c : Provinces) → length (changes_ahead c) ≤ sum_of (λ p. length p.events) (provinces_left c)
+ahead_within c = all-few (provinces_left c)
 
 pub entered-few : (xs : List ℕ) → refusal xs ≡ 0 → length (entered xs) ≤ most_changes
 entered-few xs h = omega (arith, all-few (campaign_of xs).provinces, few-events xs h)
 
--- An owner event takes 7 bytes of the record, and a change is of one.
-pub entered-bytes : (xs : List ℕ) → refusal xs ≡ 0 → 7 * length (entered xs) ≤ length xs
-entered-bytes xs h = omega (arith, all-few (campaign_of xs).provinces, events-bytes xs h)
+-- A change is of an owner event.
+pub entered-bytes : (xs : List ℕ) → refusal xs ≡ 0 → row_bytes * length (entered xs) ≤ length xs
+entered-bytes xs h = omega (arith, all-few (campaign_of xs).provinces, events-within xs h)
 
 pub changes-few : (xs : List ℕ) → refusal xs ≡ 0 → length (changes_of (campaign_of xs)) ≤ most_changes
 unfolding changes_of

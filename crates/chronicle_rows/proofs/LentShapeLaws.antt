@@ -29,13 +29,6 @@ unfolding kind_shaped
 life_shaped zero target h = absurd (h refl)
 life_shaped (suc k) target h = refl
 
--- ## All rows
-
--- The rows from a number on tell of all rows, as long as each before it fits.
-module _ {A : Type 0} (p : A → Bool) (rows : List A) (i j : ℕ) (row : A) (next : drop i rows ≡ row ∷ drop j rows) (so_far : all_of p (drop i rows) ≡ all_of p rows) where
-  pub all_pass : p row ≡ true → all_of p (drop j rows) ≡ all_of p rows
-  all_pass h = rw (next, h) at so_far
-
 -- ## Without gap
 
 pub gap-beyond : (first end : ℕ) (rs : List NationRow) → end < first → without_gap first rs end ≡ false

@@ -10,7 +10,6 @@ use Rattle.std.specs.Simd.{first_chunks}
 use Rattle.lists.specs.Lists.{rows_in, whole_rows}
 use Rattle.lists.proofs.ListLaws.{map-then}
 use Rattle.chronicle_rows.specs.Cases.{nation_told, nation_in}
-use Rattle.format.specs.declared.date.Eu4Date.{Eu4Date}
 use Rattle.rules.specs.NationRows.{nation_width, nation_row_of, entry_width, entry_row_of, nation_rows_in, entry_rows_in}
 use Rattle.chronicle_rows.specs.RowAt.{nation_row_at, entry_row_at, entry_at, entries_at}
 
@@ -68,15 +67,11 @@ module _ (ws : List ℕ) where
     nations-next h = rows_next nation_width nation_row_of ws i h
 
 -- The rows that an iterator over the words has left are what the words make.
-pub nations_told : (ws : List ℕ) → map nation_told (map nation_in (first_chunks nation_width (length ws / nation_width) ws)) ≡ nation_rows_in ws
+pub nation_rows_told : (ws : List ℕ) → map nation_told (map nation_in (first_chunks nation_width (length ws / nation_width) ws)) ≡ nation_rows_in ws
 unfolding nation_rows_in
-nations_told ws = map-then nation_in nation_told (first_chunks nation_width (length ws / nation_width) ws) ∙ ap (map nation_row_of) (chunks-rows nation_width (length ws / nation_width) ws)
+nation_rows_told ws = map-then nation_in nation_told (first_chunks nation_width (length ws / nation_width) ws) ∙ ap (map nation_row_of) (chunks-rows nation_width (length ws / nation_width) ws)
 
 -- ## Entry rows
-
--- A row whose date has this word.
-pub entry-row : (d : Eu4Date) (w kind target : ℕ) → d.0 ≡ w → record { date = d; kind = kind; target = target } ≡ entry_row_of (w ∷ kind ∷ target ∷ [])
-entry-row d w kind target e = rw (← e)
 
 module _ (es : List ℕ) where
   module _ (i : ℕ) where
@@ -101,4 +96,4 @@ module _ (es : List ℕ) where
     pub counted_end : end ≤ at → entries_at es at (end - at) ≡ []
     counted_end h = let e : end - at ≡ 0 = omega arith in rw e
 
-pub ruleset counted = (counted_all, counted_next, counted_end)
+pub ruleset counted_entries = (counted_all, counted_next, counted_end)

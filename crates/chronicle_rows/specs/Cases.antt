@@ -1,19 +1,19 @@
 -- What a row by value stands for among the rules, by case.
 use Rattle.std.specs.Prelude.{List, ℕ, zero, suc, get_or}
-use Rattle.chronicle_rows.specs.declared.counts.NationCounts.{NationCounts}
-use Rattle.chronicle_rows.specs.declared.rows.Nation as Nation
+use Rattle.chronicle_rows.specs.declared.counts.NationCounts as code_counts
+use Rattle.chronicle_rows.specs.declared.rows.NationRow as NationRow
 use Rattle.chronicle_rows.specs.declared.rows.Kind as Kind
 use Rattle.chronicle_rows.specs.declared.rows.Entry as Entry
 use Rattle.rules.specs.Chronicle as R
 use Rattle.rules.specs.NationRows as N
-use Rattle.rules.specs.Outcomes.{Counts}
+use Rattle.rules.specs.Outcomes.{NationCounts}
 
 -- A nation row.
-abbrev pub nation_told : Nation.Nation → N.NationRow
+abbrev pub nation_told : NationRow.NationRow → N.NationRow
 nation_told n = record { initial = n.initial; latest = n.latest; stored = n.stored; first = n.first; count = n.count }
 
 -- The nation row that words tell.
-abbrev pub nation_in : List ℕ → Nation.Nation
+abbrev pub nation_in : List ℕ → NationRow.NationRow
 nation_in ws =
     record {
       initial = record { 0 = get_or ws 0 0 };
@@ -44,7 +44,7 @@ abbrev pub entry_in : List ℕ → Entry.Entry
 entry_in ws = record { date = record { 0 = get_or ws 0 0 }; kind = kind_in (get_or ws 1 0) (get_or ws 2 0) }
 
 -- How many nations, entries, slots, countries and changes there are.
-abbrev pub counts_in : NationCounts → Counts
+abbrev pub counts_in : code_counts.NationCounts → NationCounts
 counts_in r =
     record {
       nations = r.nations;

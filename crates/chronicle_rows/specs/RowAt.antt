@@ -5,16 +5,16 @@ use Rattle.format.specs.declared.tag.CountryTag.{CountryTag}
 use Rattle.rules.specs.Chronicle.{Entry, Nation}
 use Rattle.chronicle_rows.specs.declared.entries.NationEntries.{NationEntries}
 use Rattle.chronicle_rows.specs.declared.rows.LentRows.{LentRows}
-use Rattle.chronicle_rows.specs.declared.rows.Nation as Nation
+use Rattle.chronicle_rows.specs.declared.rows.NationRow as NationRow
 use Rattle.chronicle_rows.specs.Cases.{nation_told, nation_in}
-use Rattle.rules.specs.NationRows.{NationRow, nation_row_of, EntryRow, entry_row_of, entry_of, nation_rows_in, entry_rows_in}
+use Rattle.rules.specs.NationRows.{nation_width, NationRow, nation_row_of, EntryRow, entry_row_of, entry_of, nation_rows_in, entry_rows_in}
 
 -- Nation row number i.
 unfoldable pub nation_row_at : List ℕ → ℕ → NationRow
 nation_row_at ws i = get_or (nation_rows_in ws) i (nation_row_of [])
 
 -- The nation rows that an iterator has left.
-abbrev pub nations_left : LentRows Nation.Nation 5 → List NationRow
+abbrev pub nations_left : LentRows NationRow.NationRow nation_width → List NationRow
 nations_left rows = map nation_told (map nation_in rows.rows.now)
 
 -- Entry row number i.

@@ -4,7 +4,7 @@ ghost use Rattle.std.specs.Iterator.{YieldsFirstBy, item_count};
 ghost use Rattle.chronicle_rows.specs.Cases.{entry_told};
 ghost use Rattle.chronicle_rows.specs.RowAt.{entries_at, counted_left};
 
-use crate::rows::{Entry, Nation, entry_at};
+use crate::rows::{Entry, NationRow, entry_at};
 
 // An iterator over the entries that a nation's row counts, by their numbers: of any words a row may count entries past the last one, which read as
 // zeros. Two numbers and no `Range`, which is not `Copy` as this iterator is.
@@ -15,8 +15,8 @@ pub struct NationEntries<'a> {
     pub(crate) end: usize,
 }
 
-#[tactic(auto, using(crate::proofs::RowAtLaws::counted))]
-impl Nation {
+#[tactic(auto, using(crate::proofs::RowAtLaws::counted_entries))]
+impl NationRow {
     // The entries of the words that its row counts.
     pub fn entries<'a>(self, words: &'a [u32]) -> NationEntries<'a>
         ensures { counted_left result ≡ entries_at words.now self.first self.count }
@@ -30,7 +30,7 @@ impl Nation {
     }
 }
 
-#[tactic(auto, using(crate::proofs::RowAtLaws::counted))]
+#[tactic(auto, using(crate::proofs::RowAtLaws::counted_entries))]
 impl NationEntries<'_> {
     // No entries, as before a first nation.
     pub fn none() -> Self
@@ -44,7 +44,7 @@ impl NationEntries<'_> {
     }
 }
 
-#[tactic(auto, using(crate::proofs::RowAtLaws::counted))]
+#[tactic(auto, using(crate::proofs::RowAtLaws::counted_entries))]
 impl Iterator for NationEntries<'_> {
     type Item = Entry;
 

@@ -12,6 +12,6 @@ pub use chronicle::Chronicle;
 pub use counts::NationCounts;
 pub use entries::NationEntries;
 pub use rows::{
-    ENTRY_WIDTH, Entry, Kind, LentRows, NATION_WIDTH, Nation, Nations, Row, nation_at,
-    nation_count, put, row_at,
+    ENTRY_WIDTH, Entry, Kind, LentRows, NATION_WIDTH, NationRow, Nations, Row, nation_count,
+    nation_row_at, put, row_at,
 };

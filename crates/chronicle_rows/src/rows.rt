@@ -93,7 +93,7 @@ pub fn put<const WIDTH: usize>(row: [u32; WIDTH], out: &mut [u32]) -> bool
 // A nation row: three tags, the number of its first entry row, and how many it has. The three are fields of their own, here, in a history and in a
 // draft: whoever reads a row asks for one of them, and `nation.tags.initial` everywhere would spare two tests of all three a line or two.
 #[derive(Clone, Copy, Debug, PartialEq, Eq)]
-pub struct Nation {
+pub struct NationRow {
     pub initial: CountryTag,
     pub latest: CountryTag,
     pub stored: CountryTag,
@@ -110,7 +110,7 @@ pub enum Kind {
 }
 
 // The nation rows of lent words.
-pub type Nations<'a> = LentRows<'a, Nation, NATION_WIDTH>;
+pub type Nations<'a> = LentRows<'a, NationRow, NATION_WIDTH>;
 
 // An entry of a nation: what it tells, and from which date on.
 #[derive(Clone, Copy, Debug, PartialEq, Eq)]
@@ -129,12 +129,12 @@ pub fn nation_count(nations: &[u32]) -> usize
 }
 
 // What a nation row's words tell. Anybody may have written them, and reading refuses none: `is_well_shaped` tests every tag.
-impl From<[u32; NATION_WIDTH]> for Nation {
+impl From<[u32; NATION_WIDTH]> for NationRow {
     ghost from_gives = { λ row nation. nation ≡ nation_in row };
 
-    fn from(row: [u32; NATION_WIDTH]) -> Nation {
+    fn from(row: [u32; NATION_WIDTH]) -> NationRow {
         let [initial, latest, stored, first, count] = row;
-        Nation {
+        NationRow {
             initial: CountryTag::kept(initial),
             latest: CountryTag::kept(latest),
             stored: CountryTag::kept(stored),
@@ -158,10 +158,10 @@ impl From<[u32; ENTRY_WIDTH]> for Entry {
 }
 
 // The words of a nation row: initial, latest, stored, first entry, how many.
-impl From<Nation> for [u32; NATION_WIDTH] {
+impl From<NationRow> for [u32; NATION_WIDTH] {
     ghost from_gives = { λ nation row. row ≡ nation_row_words (nation_told nation) };
 
-    fn from(nation: Nation) -> [u32; NATION_WIDTH] {
+    fn from(nation: NationRow) -> [u32; NATION_WIDTH] {
         [
             u32::from(nation.initial),
             u32::from(nation.latest),
@@ -186,7 +186,7 @@ impl From<Entry> for [u32; ENTRY_WIDTH] {
     }
 }
 
-impl Row<NATION_WIDTH> for Nation {
+impl Row<NATION_WIDTH> for NationRow {
     ghost told = { nation_in };
 
     ghost read = { λ words row e. e };
@@ -221,7 +221,7 @@ impl Kind {
 
 // Nation row number i. Its tags are tested by `is_well_shaped` alone.
 #[tactic(auto, using(crate::proofs::RowAtLaws::nation_here))]
-pub fn nation_at(nations: &[u32], i: usize) -> Nation
+pub fn nation_row_at(nations: &[u32], i: usize) -> NationRow
     ensures { nation_told result ≡ nation_row_at nations.now i }
 {
     row_at(nations, i)

@@ -4,7 +4,7 @@ ghost use Rattle.lists.specs.Lists.{all_of};
 ghost use Rattle.rules.specs.NationRows.{nation_row_of, entry_row_of, tags_shaped, kind_shaped, entry_shaped, without_gap, well_shaped};
 ghost use Rattle.chronicle_rows.specs.Cases.{nation_told};
 
-use crate::rows::{ENTRY_WIDTH, NATION_WIDTH, Nation};
+use crate::rows::{ENTRY_WIDTH, NATION_WIDTH, NationRow};
 use format::{CountryTag, Eu4Date};
 
 // Whether a kind is one of three, with a tag as target for a switch and 0 for the others. It is asked of the row's numbers, for `Kind` has no case for
@@ -35,7 +35,7 @@ fn entries_shaped(entries: &[[u32; ENTRY_WIDTH]]) -> bool
 }
 
 // Whether a nation's three tags are tags.
-fn tags_shaped(nation: Nation) -> bool
+fn tags_shaped(nation: NationRow) -> bool
     ensures { result ≡ tags_shaped (nation_told nation) }
 {
     nation.initial.good() & nation.latest.good() & nation.stored.good()
@@ -48,7 +48,7 @@ fn nations_shaped(nations: &[[u32; NATION_WIDTH]], end: usize) -> bool
 {
     let mut next: usize = 0;
     for &row in nations {
-        let nation = Nation::from(row);
+        let nation = NationRow::from(row);
         let first = nation.first as usize;
         let count = nation.count as usize;
         let follows = tags_shaped(nation) & (first == next) & (count <= end - next);

@@ -17,10 +17,10 @@ use Rattle.format.specs.Tags.{same_tag}
 use Rattle.rules.specs.Chronicle.{Entry}
 use Rattle.rules.specs.NationRows.{NationRow, nation_width, nation_rows_in}
 use Rattle.chronicle_rows.specs.RowAt.{counted_left, nation_row_at, entries_at, nations_left}
-use Rattle.chronicle_rows.specs.declared.rows.Nation as Row
+use Rattle.chronicle_rows.specs.declared.rows.NationRow as Row
 use Rattle.chronicle_rows.specs.declared.rows.Kind as Code
 use Rattle.chronicle_rows.specs.Cases.{nation_told, nation_in, kind_told}
-use Rattle.chronicle_rows.proofs.RowAtLaws.{nations-next, nations_told}
+use Rattle.chronicle_rows.proofs.RowAtLaws.{nations-next, nation_rows_told}
 use Rattle.chronicle_rows.proofs.NumberedLaws.{dropped-numbers}
 use Rattle.claims.specs.declared.claims.Claim.{Claim}
 use Rattle.claims.specs.Claims.{switch_claims, initial_claim, initials_from, initial_claims, nation_claims, claims_from, claims_in, left_of, claim_day, last_to, claims_left}
@@ -46,10 +46,10 @@ use Rattle.claims.specs.declared.claims.Claims.{Claims}
 -- ## Step by step
 
 -- Before the first nation: no entries are left, but all rows, as the code has divided the words.
-pub claims_all : (ws es : List ℕ) (owner : ℕ) (own : List Entry) (rows : List Row.Nation) → own ≡ [] → rows ≡ map nation_in (first_chunks nation_width (length ws / nation_width) ws)
+pub claims_all : (ws es : List ℕ) (owner : ℕ) (own : List Entry) (rows : List Row.NationRow) → own ≡ [] → rows ≡ map nation_in (first_chunks nation_width (length ws / nation_width) ws)
     → left_of es owner own 0 (map nation_told rows) ≡ claims_in ws es
 unfolding left_of claims_in
-claims_all ws es owner own rows n e = rw (n, e, nations_told) refl
+claims_all ws es owner own rows n e = rw (n, e, nation_rows_told) refl
 
 -- What is left of a walk that begins is all claims.
 pub walk-start : (ws : List ℕ) (c : Claims) → counted_left c.own ≡ [] → c.coming ≡ 0 → nations_left c.nations ≡ nation_rows_in ws → claims_left c ≡ claims_in ws c.entries.now
@@ -58,12 +58,12 @@ walk-start ws c a b d = rw (a, b, d) refl
 
 module _ (es : List ℕ) (owner i : ℕ) (own : List Entry) where
   -- Where no entry is left and no nation, no claim is.
-  pub claims-end : (rows : List Row.Nation) → own ≡ [] → rows ≡ [] → left_of es owner own i (map nation_told rows) ≡ []
+  pub claims-end : (rows : List Row.NationRow) → own ≡ [] → rows ≡ [] → left_of es owner own i (map nation_told rows) ≡ []
   unfolding left_of
   claims-end rows h e = rw (h, e)
 
   -- The row of the nation that comes has been read.
-  pub claims-initial : (row : Row.Nation) (left rest : List Row.Nation) (coming : List Entry) → own ≡ [] → left ≡ row ∷ rest → coming ≡ entries_at es row.first row.count
+  pub claims-initial : (row : Row.NationRow) (left rest : List Row.NationRow) (coming : List Entry) → own ≡ [] → left ≡ row ∷ rest → coming ≡ entries_at es row.first row.count
       → left_of es owner own i (map nation_told left) ≡ initial_claim i (nation_told row) ∷ left_of es i coming (i + 1) (map nation_told rest)
   unfolding left_of
   claims-initial row left rest coming h e f = rw (h, e, f) refl
@@ -117,15 +117,15 @@ module _ (ws : List ℕ) where
 
 -- ## The last initial
 
-abbrev pub nation_steps : LentRows Row.Nation 5 → code.Option Row.Nation → LentRows Row.Nation 5 → Type 0
+abbrev pub nation_steps : LentRows Row.NationRow nation_width → code.Option Row.NationRow → LentRows Row.NationRow nation_width → Type 0
 nation_steps = YieldsFirst (λ rows. map nation_in rows.rows.now)
 
 -- The claim of a nation's number and its row.
-abbrev pub numbered-claim : ℕ × Row.Nation → Claim
+abbrev pub numbered-claim : ℕ × Row.NationRow → Claim
 numbered-claim p = initial_claim p.0 (nation_told p.1)
 
 -- The nations that are kept by their initial, as the code numbers them, have the claims to it.
-numbered-kept : (tag : CountryTag) (i : ℕ) (rows : List Row.Nation)
+numbered-kept : (tag : CountryTag) (i : ℕ) (rows : List Row.NationRow)
     → map numbered-claim (filter (λ p. same_tag p.1.initial tag) (enumerate_from i rows)) ≡ keep (λ c. same_tag c.tag tag) (initials_from i (map nation_told rows))
 numbered-kept tag i [] = refl
 numbered-kept tag i (row ∷ rows) =
@@ -149,14 +149,14 @@ option-mapped f P made (Some x) None d = elim d [ ]
 option-mapped f P made (Some x) (Some y) d = ap Some (made x y d)
 
 -- The last of them that came, and its claim.
-pub initial-last : {F : Type 0} {it : LentRows Row.Nation 5} {en : Enumerate (LentRows Row.Nation 5)} {s : Filter (Enumerate (LentRows Row.Nation 5)) F}
-    (g : Mut F (Bor (ℕ × Row.Nation) × Unit {0}) Bool) (tag : CountryTag) {f : F} (ws : List ℕ)
+pub initial-last : {F : Type 0} {it : LentRows Row.NationRow nation_width} {en : Enumerate (LentRows Row.NationRow nation_width)} {s : Filter (Enumerate (LentRows Row.NationRow nation_width)) F}
+    (g : Mut F (Bor (ℕ × Row.NationRow) × Unit {0}) Bool) (tag : CountryTag) {f : F} (ws : List ℕ)
     → nations_left it ≡ nation_rows_in ws → enumerate_source en ≡ it → enumerate_count en ≡ 0 → filter_source s ≡ en → filter_callee s ≡ f
-    → ((x : ℕ × Row.Nation) (b : Bool) (q : F) → CalledAt g f x b q → (q ≡ f) × (b ≡ same_tag x.1.initial tag))
-    → (xs : List (ℕ × Row.Nation)) → Drains (filter_steps (enumerate_steps nation_steps) g) s xs → (r : code.Option (ℕ × Row.Nation)) → r ≡ code-last None xs
+    → ((x : ℕ × Row.NationRow) (b : Bool) (q : F) → CalledAt g f x b q → (q ≡ f) × (b ≡ same_tag x.1.initial tag))
+    → (xs : List (ℕ × Row.NationRow)) → Drains (filter_steps (enumerate_steps nation_steps) g) s xs → (r : code.Option (ℕ × Row.NationRow)) → r ≡ code-last None xs
     → (m : code.Option Claim) → m ≡ option_map numbered-claim r → option_of m ≡ last_to tag (initial_claims ws)
 initial-last {it = it} g tag ws rows source count from callee called xs d r e m k =
-    let all : List (ℕ × Row.Nation) = enumerate_from 0 (map nation_in it.rows.now) in
+    let all : List (ℕ × Row.NationRow) = enumerate_from 0 (map nation_in it.rows.now) in
     let road =
     YieldsList-from_filter g (λ p. same_tag p.1.initial tag)
     (YieldsList-at from (YieldsList-from_enumerate (YieldsList-at source (YieldsList-from_first (λ n. n) (λ rs. map nation_in rs.rows.now) {s = it} (map nation_in it.rows.now) refl)) count))

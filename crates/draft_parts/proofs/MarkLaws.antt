@@ -23,7 +23,7 @@ use Rattle.search.proofs.PlaceLaws.{place_inside, place-has}
 use Rattle.chronicle_rows.specs.RowAt.{nation_row_at, tags_stored}
 use Rattle.chronicle_rows.proofs.RowAtLaws.{nations-next}
 use Rattle.chronicle_rows.proofs.NumberedLaws.{dropped-numbers}
-use Rattle.draft_parts.specs.Marks.{stored_word, marked_at, marked_from, cell_at}
+use Rattle.draft_parts.specs.Marks.{stored_word, marked_at, marked_from, cell_at_place}
 
 -- ## A mark for each nation
 
@@ -103,7 +103,7 @@ module _ (ts : List CountryTag) (t : CountryTag) (p : ℕ) (at : place_from 0 t 
 
   -- From cells of nothing, each place's cell is the first nation's stored under its tag.
   pub stored-word : (ws cells : List ℕ) → length ts ≤ length cells → ((q : ℕ) → get_or cells q 0 ≡ 0)
-      → cell_at (marked_from ts cells 0 (tags_stored ws)) (place_from 0 t ts) ≡ stored_word ws t
+      → cell_at_place (marked_from ts cells 0 (tags_stored ws)) (place_from 0 t ts) ≡ stored_word ws t
   stored-word ws cells h blank = rw at (marked-word (tags_stored ws) 0 cells h ∙ rw (blank p) refl)
 
 -- ## Every country has a place

@@ -22,11 +22,11 @@ marked_from ts cells a [] = cells
 marked_from ts cells a (x ∷ xs) = marked_from ts (marked_at cells (place_from 0 x ts) (a + 1)) (a + 1) xs
 
 -- The cell at a place; 0 for none.
-abbrev pub cell_at : List ℕ → Option ℕ → ℕ
-cell_at cells none = 0
-cell_at cells (some p) = get_or cells p 0
+abbrev pub cell_at_place : List ℕ → Option ℕ → ℕ
+cell_at_place cells none = 0
+cell_at_place cells (some p) = get_or cells p 0
 
 -- The number that a cell holds, of which 32 bits are kept.
-abbrev pub number_in : ℕ → code.Option ℕ
-number_in zero = None
-number_in (suc n) = Some (n % 4294967296)
+abbrev pub number_in_cell : ℕ → code.Option ℕ
+number_in_cell zero = None
+number_in_cell (suc n) = Some (n % 4294967296)

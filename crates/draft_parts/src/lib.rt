@@ -5,4 +5,4 @@ mod marks;
 mod parts;
 
 pub use marks::{mark_nations, stored_nation};
-pub use parts::{draft_of, nation_of, open_numbered};
+pub use parts::{draft_of, nation_or_bare, open_numbered};

@@ -4,9 +4,9 @@ ghost use Rattle.std.specs.Prelude.{◌≡◌, List, ◌≤◌, leb, length};
 ghost use Rattle.lists.specs.Options.{option_of};
 ghost use Rattle.sorting.specs.Sort.{sort_by};
 ghost use Rattle.format.specs.declared.tag.CountryTag.{CountryTag};
-ghost use Rattle.search.specs.Places.{tag_keys_from, place_from};
+ghost use Rattle.search.specs.Places.{keys_per_tag, tag_keys_from, place_from};
 ghost use Rattle.chronicle_rows.specs.RowAt.{tags_stored};
-ghost use Rattle.draft_parts.specs.Marks.{marked_at, marked_from, cell_at, number_in};
+ghost use Rattle.draft_parts.specs.Marks.{marked_at, marked_from, cell_at_place, number_in_cell};
 
 use chronicle_rows::Nations;
 use record::CountryTag;
@@ -30,7 +30,7 @@ fn mark_cell(cells: &mut [u64], place: Option<usize>, word: u64)
 
 // Marks each country with the first nation that is stored under it.
 pub fn mark_nations(nations: &[u32], countries: SortedKeys<'_>, cells: &mut [u64])
-    ensures { (ts : List CountryTag) → length ts ≤ 65536 → countries.entry.keys.now ≡ sort_by leb (tag_keys_from 0 ts) → cells.new ≡ marked_from ts cells.old 0 (tags_stored nations.now) }
+    ensures { (ts : List CountryTag) → length ts ≤ keys_per_tag → countries.entry.keys.now ≡ sort_by leb (tag_keys_from 0 ts) → cells.new ≡ marked_from ts cells.old 0 (tags_stored nations.now) }
 {
     for (number, row) in Nations::of(nations).enumerate() {
         mark_cell(cells, first_place(countries, row.stored), number as u64 + 1);
@@ -40,7 +40,7 @@ pub fn mark_nations(nations: &[u32], countries: SortedKeys<'_>, cells: &mut [u64
 // The number of the nation that is stored under a tag, if one is. What `as` turns has to fit, so the remainder is taken
 // first.
 pub fn stored_nation(countries: SortedKeys<'_>, cells: &[u64], tag: CountryTag) -> Option<u32>
-    ensures { (ts : List CountryTag) → length ts ≤ 65536 → countries.entry.keys.now ≡ sort_by leb (tag_keys_from 0 ts) → result ≡ number_in (cell_at cells.now (place_from 0 tag ts)) }
+    ensures { (ts : List CountryTag) → length ts ≤ keys_per_tag → countries.entry.keys.now ≡ sort_by leb (tag_keys_from 0 ts) → result ≡ number_in_cell (cell_at_place cells.now (place_from 0 tag ts)) }
 {
     let place = first_place(countries, tag)?;
     let number = cells.get(place)?.checked_sub(1)?;

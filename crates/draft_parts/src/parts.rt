@@ -6,7 +6,7 @@ ghost use Rattle.chronicle_rows.specs.Cases.{nation_told};
 ghost use Rattle.draft_parts.specs.Parts.{told_by, released_by, draft_by};
 
 use arranging::Draft;
-use chronicle_rows::{Chronicle, Nation, nation_at, nation_count};
+use chronicle_rows::{Chronicle, NationRow, nation_count, nation_row_at};
 use format::Refusal;
 use record::{CountryRow, CountryTag};
 
@@ -26,12 +26,12 @@ pub fn open_numbered<'a>(nations: &'a [u32], entries: &'a [u32]) -> Result<Chron
 }
 
 // The nation of a number; without one a bare nation, for which the tag stands three times.
-pub fn nation_of(nations: &[u32], tag: CountryTag, number: Option<u32>) -> Nation
+pub fn nation_or_bare(nations: &[u32], tag: CountryTag, number: Option<u32>) -> NationRow
     ensures { nation_told result ≡ told_by nations.now tag number }
 {
     match number {
-        Some(number) => nation_at(nations, number as usize),
-        None => Nation {
+        Some(number) => nation_row_at(nations, number as usize),
+        None => NationRow {
             initial: tag,
             latest: tag,
             stored: tag,
@@ -42,7 +42,7 @@ pub fn nation_of(nations: &[u32], tag: CountryTag, number: Option<u32>) -> Natio
 }
 
 // Whether a country with so many players was released and is played on.
-fn is_released(row: CountryRow<'_>, n: Nation, count: u32) -> bool
+fn is_released(row: CountryRow<'_>, n: NationRow, count: u32) -> bool
     ensures { result ≡ released_by row.entry.human row.entry.has_switched_nation row.entry.cities (nation_told n) count }
 {
     row.human & (count == 1) & (n.stored == n.latest) & row.has_switched_nation & (0 < row.cities)
@@ -52,7 +52,7 @@ fn is_released(row: CountryRow<'_>, n: Nation, count: u32) -> bool
 // `open_numbered` lets no nation have, wraps to none.
 pub fn draft_of(
     row: CountryRow<'_>,
-    n: Nation,
+    n: NationRow,
     number: Option<u32>,
     first: u32,
     count: u32,

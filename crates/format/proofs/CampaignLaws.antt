@@ -1,9 +1,8 @@
--- What a step that gave a row leaves: one row less. How many rows there are: a row that owns others is one row of its section: what it owns does not change how many there are. All of them together own no
+-- How many rows there are: a row that owns others is one row of its section: what it owns does not change how many there are. All of them together own no
 -- more than the section has that they share.
-use mathlib.Core.Path.{◌≡◌, refl, sym, ap, ◌∙◌}
+use mathlib.Core.Path.{◌≡◌, refl, ap}
 use mathlib.Core.List.{List, [], ◌∷◌, ◌++◌}
 use Prim.Native.Nat.{ℕ, zero, suc, ◌+◌, ◌<◌, ◌≤◌}
-use native.Mathlib.Numerals.{add-one}
 use native.Mathlib.Omega.{arith}
 use native.Mathlib.Decide.{dec_le}
 use borrow.Author.Tests.{le-leb, lt-leb}
@@ -17,20 +16,6 @@ use Rattle.format.specs.declared.rows.Point.{Point}
 use Rattle.format.specs.Bytes.{byte_at}
 use Rattle.format.specs.Rows.{PackedCountry, PackedProvince, PackedLedger, strings_from}
 use Rattle.format.specs.Campaign.{group_countries, group_provinces, group_wars, group_ledgers}
-
--- ## A step that gave a row
-
--- `told` says what was left of what a step gave, and an arm of a `match` knows which result that is
-module _ {A Next : Type 0} (told : Next → List A) {left rest : List A} {row : A} {r given : Next} where
-  pub told-row : left ≡ told r → r ≡ given → told given ≡ row ∷ rest → left ≡ row ∷ rest
-  told-row e q f = e ∙ ap told q ∙ f
-
-  pub told-length : left ≡ told r → r ≡ given → told given ≡ row ∷ rest → length left ≡ length rest + 1
-  told-length e q f = ap length (told-row e q f) ∙ sym (add-one (length rest))
-
--- and one that gave none
-pub told-end : {A Next : Type 0} (told : Next → List A) {left : List A} {r given : Next} → left ≡ told r → r ≡ given → told given ≡ [] → left ≡ []
-told-end told e q f = e ∙ ap told q ∙ f
 
 -- ## How many strings are left
 

@@ -1,14 +1,12 @@
 -- What a head within its limits tells, and a section's rows by the head.
-use mathlib.Core.Path.{◌≡◌, ap, ◌∙◌}
+use mathlib.Core.Path.{◌≡◌}
 use mathlib.Core.Bool.{true, ◌&&◌}
-use mathlib.Core.List.{List}
-use Prim.Native.Nat.{ℕ, ◌≤◌}
+use Prim.Native.Nat.{◌≤◌}
 use borrow.Author.Tests.{leb-true}
 use lib.Dec.{leb}
 use Rattle.lists.proofs.BoolLaws.{and_left, and_right}
 use Rattle.format.specs.declared.head.Head.{Head}
-use Rattle.format.specs.Head.{head_of, within_limits}
-use Rattle.format.specs.Rows.{rows_at}
+use Rattle.format.specs.Head.{within_limits}
 
 pub record Limits (h : Head) : Type 0 where
   pub countries : h.countries ≤ 2000
@@ -54,10 +52,3 @@ limits_of h t0 =
       ledgers = leb-true h.ledgers 2000 (and_right v (leb h.ledgers 2000) tg);
       points = leb-true h.points 1000000 (and_right g (leb h.points 1000000) t0);
     }
-
--- an answer about the rows that stand where a head says, told of the head in the bytes
-pub section-told : {A B : Type 0} (f : List A → B) (row : ℕ → A) (width : ℕ) (xs : List ℕ) (place count : Head → ℕ) (h : Head) (at : ℕ)
-    → h ≡ head_of xs → at ≡ place h
-    → f (rows_at row width xs at (count h)) ≡ f (rows_at row width xs (place (head_of xs)) (count (head_of xs)))
-section-told f row width xs place count h at e p =
-    ap (λ (a : ℕ). f (rows_at row width xs a (count h))) p ∙ ap (λ (k : Head). f (rows_at row width xs (place k) (count k))) e

@@ -56,11 +56,11 @@ impl CountryTag {
     }
 
     // The tag of three bytes as they stand. Nothing is tested: `create` does. No `From<[u8; 3]>`, which would pass for a tested one beside
-    // `TryFrom<u32>`.
+    // `TryFrom<u32>`. As a sum, and not by `from_be_bytes`: where the word is divided again at once, the compiler takes the bytes as they stood.
     pub fn read(a: u8, b: u8, c: u8) -> CountryTag
         ensures { result ≡ tag_of a b c }
     {
-        CountryTag(u32::from_be_bytes([0, a, b, c]))
+        CountryTag(u32::from(a) * 65536 + u32::from(b) * 256 + u32::from(c))
     }
 
     // Whether it is the tag of no one.

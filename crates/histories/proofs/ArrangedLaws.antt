@@ -15,14 +15,14 @@ use Rattle.lists.proofs.ListLaws.{join-append, join-none, all_map, map-then}
 use Rattle.sorting.proofs.SortLaws.{all-kept}
 use Rattle.rules.specs.Histories.{History, has_players, is_released, takes_initial, arranged, names_in}
 use Rattle.rules.specs.HistoryRows.{history_row_words, history_rows_from, history_words}
-use Rattle.histories.specs.Drafts.{draft_of}
+use Rattle.histories.specs.Drafts.{history_draft}
 use Rattle.arranging.specs.declared.drafts.Draft.{Draft}
 use Rattle.arranging.specs.Drafts.{is_played, is_leftover}
 use Rattle.arranging.specs.Arranging.{last_initial, is_popped, histories_from, names_at, kept_of, draft_words}
 
 module _ (keys : List ℕ) where
   abbrev draft : History → Draft
-  draft = draft_of keys
+  draft = history_draft keys
 
   -- ## Words
 

@@ -21,8 +21,8 @@ use Rattle.rules.specs.Lent.{written}
 use Rattle.arranging.specs.declared.drafts.Draft.{Draft}
 use Rattle.search.specs.Places.{place_from}
 use Rattle.chronicle_rows.specs.RowAt.{tags_stored}
-use Rattle.draft_parts.specs.Marks.{stored_word, marked_from, cell_at}
-use Rattle.histories.specs.Tables.{tags_left}
+use Rattle.draft_parts.specs.Marks.{stored_word, marked_from, cell_at_place}
+use Rattle.histories.specs.Tables.{country_tags_left}
 use Rattle.histories.specs.Drafts.{played_left, draft_with, draft_for, FillsDrafts, HoldsDrafts}
 use Rattle.draft_parts.proofs.MarkLaws.{stored-word, all-placed}
 
@@ -55,23 +55,23 @@ scratch-blank n m h q =
 -- ## From the cells to the nations
 
 module _ (most : ℕ) (c : Countries) (ws zeros cells keys : List ℕ) (count : ℕ) (out₀ out₁ : List Draft) where
-  told-drafts : length (tags_left c) ≤ length zeros → ((q : ℕ) → get_or zeros q 0 ≡ 0) → cells ≡ marked_from (tags_left c) zeros 0 (tags_stored ws)
-      → map (draft_for ws (tags_left c) cells keys) (played_left c) ≡ map (λ k. draft_with ws keys k (stored_word ws k.tag)) (played_left c)
+  told-drafts : length (country_tags_left c) ≤ length zeros → ((q : ℕ) → get_or zeros q 0 ≡ 0) → cells ≡ marked_from (country_tags_left c) zeros 0 (tags_stored ws)
+      → map (draft_for ws (country_tags_left c) cells keys) (played_left c) ≡ map (λ k. draft_with ws keys k (stored_word ws k.tag)) (played_left c)
   told-drafts room blank marked =
       map_same _ _ (played_left c)
-      (all_keep (λ k. draft_for ws (tags_left c) cells keys k ≡ draft_with ws keys k (stored_word ws k.tag)) (λ k. k.was_player) (countries_left c)
+      (all_keep (λ k. draft_for ws (country_tags_left c) cells keys k ≡ draft_with ws keys k (stored_word ws k.tag)) (λ k. k.was_player) (countries_left c)
       (all_map
       (λ (k : Country) found.
       ap (draft_with ws keys k)
-      (ap (λ (m : List ℕ). cell_at m (place_from 0 k.tag (tags_left c))) marked ∙ stored-word (tags_left c) k.tag found.0 found.1 ws zeros room blank))
+      (ap (λ (m : List ℕ). cell_at_place m (place_from 0 k.tag (country_tags_left c))) marked ∙ stored-word (country_tags_left c) k.tag found.0 found.1 ws zeros room blank))
       (countries_left c) (all-placed [] (countries_left c))))
 
-  pub drafts-told : FillsDrafts c ws cells keys count out₀ out₁ → length (tags_left c) ≤ length zeros → ((q : ℕ) → get_or zeros q 0 ≡ 0)
-      → cells ≡ marked_from (tags_left c) zeros 0 (tags_stored ws) → length (countries_left c) ≤ most
+  pub drafts-told : FillsDrafts c ws cells keys count out₀ out₁ → length (country_tags_left c) ≤ length zeros → ((q : ℕ) → get_or zeros q 0 ≡ 0)
+      → cells ≡ marked_from (country_tags_left c) zeros 0 (tags_stored ws) → length (countries_left c) ≤ most
       → length out₁ ≡ most → HoldsDrafts most c ws keys count out₁
   drafts-told f room blank marked few long =
-      let ds : List Draft = map (draft_for ws (tags_left c) cells keys) (played_left c) in
-      let many : length ds ≡ count = length-map (played_left c) (draft_for ws (tags_left c) cells keys) ∙ sym f.counted in
+      let ds : List Draft = map (draft_for ws (country_tags_left c) cells keys) (played_left c) in
+      let many : length ds ≡ count = length-map (played_left c) (draft_for ws (country_tags_left c) cells keys) ∙ sym f.counted in
       record {
         counted = f.counted;
         few = omega (arith, f.counted, keep-short (λ (k : Country). k.was_player) (countries_left c), few);

@@ -21,7 +21,7 @@ use Rattle.chronicle_rows.proofs.NumberedLaws.{nations-numbered}
 use Rattle.search.specs.Places.{place_from}
 use Rattle.search.proofs.PlaceLaws.{place_inside}
 use Rattle.draft_parts.specs.Marks.{stored_word}
-use Rattle.histories.specs.Drafts.{run_length, draft_with, draft_of}
+use Rattle.histories.specs.Drafts.{run_length, draft_with, history_draft}
 
 -- ## The first nation stored under a country
 
@@ -48,7 +48,7 @@ history-parts names k a (n ∷ ns) = cases (same_tag n.stored k.tag) (λ e. simp
 module _ (ws es keys : List ℕ) (shaped : well_shaped ws es ≡ true) (few : length (nation_rows_in ws) ≤ 4294967295) (names : List ℕ) (k : Country)
     (counted : length names ≡ run_length keys k.tag) where
   draft-at : (o : Option ℕ) → ((i : ℕ) → o ≡ some i → i < 4294967295)
-      → draft_with ws keys k (nation_word o) ≡ draft_of keys (history_at names k (nation_numbered ws es) o)
+      → draft_with ws keys k (nation_word o) ≡ history_draft keys (history_at names k (nation_numbered ws es) o)
   unfolding is_released
   draft-at none small = rw (← counted) refl
   draft-at (some i) small =
@@ -57,10 +57,10 @@ module _ (ws es keys : List ℕ) (shaped : well_shaped ws es ≡ true) (few : le
       let z : suc i % 4294967296 ≡ suc i = omega arith in
       rw (add-one i, y, add-one i, z, ← counted) refl
 
-  pub draft-history : draft_with ws keys k (stored_word ws k.tag) ≡ draft_of keys (history_of names k 0 (nations_in ws es))
+  pub draft-history : draft_with ws keys k (stored_word ws k.tag) ≡ history_draft keys (history_of names k 0 (nations_in ws es))
   draft-history =
       let n : ℕ = length (nation_rows_in ws) in
       let o : Option ℕ = place_from 0 k.tag (stored_tags ws 0 n) in
       let wide : length (stored_tags ws 0 n) ≡ n = length-map (numbers_from 0 n) _ ∙ length-numbers 0 n in
       draft-at o (λ i e. omega (arith, place_inside k.tag (stored_tags ws 0 n) i e, wide))
-      ∙ ap (draft_of keys) (sym (ap (history_of names k 0) (nations-numbered ws es shaped) ∙ history-placed names k (nation_numbered ws es) n 0))
+      ∙ ap (history_draft keys) (sym (ap (history_of names k 0) (nations-numbered ws es shaped) ∙ history-placed names k (nation_numbered ws es) n 0))

@@ -38,7 +38,7 @@ use Rattle.players.proofs.PlayerLaws.{PlayersTold}
 use Rattle.history_rows.proofs.LackLaws.{nations-many}
 use Rattle.draft_parts.specs.Marks.{stored_word}
 use Rattle.histories.specs.Tables.{player_key}
-use Rattle.histories.specs.Drafts.{played_left, keys_before, run_length, draft_with, draft_of}
+use Rattle.histories.specs.Drafts.{played_left, keys_before, run_length, draft_with, history_draft}
 use Rattle.arranging.specs.Arranging.{is_popped, name_in, names_at, ArrangeReady, drafted_cells, drafted_counts, drafted_outcome, arranged_outcome}
 use Rattle.arranging.proofs.ArrangeLaws.{arranged-ready}
 use Rattle.histories.proofs.NameLaws.{players-rising, names-told}
@@ -69,7 +69,7 @@ module _ (c : Campaign) (ws es : List ℕ) (shaped : well_shaped ws es ≡ true)
       ∙ length-take (run_length keys k.tag) (drop (keys_before keys k.tag) keys)
       ∙ omega (arith, length-drop (keys_before keys k.tag) keys, run_inside keys k.tag)
 
-  draft-names : (k : Country) → names_at keys (draft_of keys (history k)) ≡ (history k).names
+  draft-names : (k : Country) → names_at keys (history_draft keys (history k)) ≡ (history k).names
   draft-names k =
       let parts = history-parts (names_of (players_of c) k.tag) k 0 (nations_in ws es) in
       let many : length (history k).names ≡ run_length keys k.tag = ap length parts.1 ∙ length-here k in
@@ -77,13 +77,13 @@ module _ (c : Campaign) (ws es : List ℕ) (shaped : well_shaped ws es ≡ true)
       rw (many, start) (names-here k ∙ sym parts.1)
 
   pub drafts-histories : (ks : List Country)
-      → map (λ k. draft_with ws keys k (stored_word ws k.tag)) ks ≡ map (draft_of keys) (map history ks)
+      → map (λ k. draft_with ws keys k (stored_word ws k.tag)) ks ≡ map (history_draft keys) (map history ks)
   drafts-histories ks =
-      map_same _ (λ k. draft_of keys (history k)) ks (all-each (λ k. draft-history ws es keys shaped numbered (names_of (players_of c) k.tag) k (length-here k)) ks)
-      ∙ sym (map-then history (draft_of keys) ks)
+      map_same _ (λ k. history_draft keys (history k)) ks (all-each (λ k. draft-history ws es keys shaped numbered (names_of (players_of c) k.tag) k (length-here k)) ks)
+      ∙ sym (map-then history (history_draft keys) ks)
 
-  pub all_named : (ks : List Country) → All (λ h. names_at keys (draft_of keys h) ≡ h.names) (map history ks)
-  all_named ks = all-images (λ h. names_at keys (draft_of keys h) ≡ h.names) history draft-names ks
+  pub all_named : (ks : List Country) → All (λ h. names_at keys (history_draft keys h) ≡ h.names) (map history ks)
+  all_named ks = all-images (λ h. names_at keys (history_draft keys h) ≡ h.names) history draft-names ks
 
 -- ## From what the functions give to the outcome
 
@@ -125,28 +125,28 @@ module _ (xs : List ℕ) (r : Record) (o : RightlyOpened xs (Ok r)) where
       whole-keys : keys ≡ sort_by leb (map player_key (players_of camp))
       whole-keys = sorted ∙ ap (λ (ps : List Player). sort_by leb (map player_key ps)) walk.all
 
-      drafts : ds ≡ map (draft_of keys) hs
+      drafts : ds ≡ map (history_draft keys) hs
       unfolding played_histories
       drafts =
           rows
           ∙ ap (λ (ks : List Country). map (λ k. draft_with ws keys k (stored_word ws k.tag)) (keep (λ k. k.was_player) ks)) o.rows.countries
           ∙ rw whole-keys (drafts-histories camp ws es shaped numbered (sound xs accepted).few_strings (keep (λ k. k.was_player) camp.countries))
 
-      named : All (λ h. names_at keys (draft_of keys h) ≡ h.names) hs
+      named : All (λ h. names_at keys (history_draft keys h) ≡ h.names) hs
       unfolding played_histories
       named = rw whole-keys (all_named camp ws es shaped numbered (sound xs accepted).few_strings (keep (λ k. k.was_player) camp.countries))
 
-      cells_same : drafted_cells (is_popped camp.ironman (map (draft_of keys) hs)) (map (draft_of keys) hs) keys ≡ history_cells_of (histories_of camp (nations_in ws es))
+      cells_same : drafted_cells (is_popped camp.ironman (map (history_draft keys) hs)) (map (history_draft keys) hs) keys ≡ history_cells_of (histories_of camp (nations_in ws es))
       unfolding history_cells_of histories_of
       cells_same =
           ap₂ (λ (x y : List ℕ). record { rows = x; names = y }) (words_same keys camp.ironman hs named) (names_same keys camp.ironman hs named)
 
-      counts_same : drafted_counts (is_popped camp.ironman (map (draft_of keys) hs)) (map (draft_of keys) hs) ≡ history_counts_of (histories_of camp (nations_in ws es))
+      counts_same : drafted_counts (is_popped camp.ironman (map (history_draft keys) hs)) (map (history_draft keys) hs) ≡ history_counts_of (histories_of camp (nations_in ws es))
       unfolding history_counts_of histories_of
       counts_same =
           ap₂ (λ (x y : ℕ). record { histories = x; names = y })
           (count_same keys camp.ironman hs named)
-          (sym (length-all-names keys (map (draft_of keys) hs) (rw drafts at ready-told.inside)) ∙ ap length (names_same keys camp.ironman hs named))
+          (sym (length-all-names keys (map (history_draft keys) hs) (rw drafts at ready-told.inside)) ∙ ap length (names_same keys camp.ironman hs named))
 
       number : first_of (refusal xs ∷ chronicle_number ws es ∷ numbered_number (nations_in ws es) ∷ room_number (both_fit (history_cells_of (histories_of camp (nations_in ws es))) before) ∷ [])
           ≡ room_number (both_fit (history_cells_of (histories_of camp (nations_in ws es))) before)

@@ -10,10 +10,10 @@ use Rattle.record.specs.Cursors.{countries_left}
 use Rattle.rules.specs.Histories.{History, is_released}
 use Rattle.rules.specs.HistoryRows.{nation_word}
 use Rattle.arranging.specs.declared.drafts.Draft.{Draft}
-use Rattle.search.specs.Places.{tag_keys_from, place_from}
-use Rattle.draft_parts.specs.Marks.{cell_at, stored_word, number_in}
+use Rattle.search.specs.Places.{keys_per_tag, tag_keys_from, place_from}
+use Rattle.draft_parts.specs.Marks.{cell_at_place, stored_word, number_in_cell}
 use Rattle.draft_parts.specs.Parts.{told_by, draft_by}
-use Rattle.histories.specs.Tables.{tags_left}
+use Rattle.histories.specs.Tables.{country_tags_left}
 
 -- ## The countries that were played
 
@@ -24,10 +24,10 @@ played_left c = keep (λ k. k.was_player) (countries_left c)
 
 -- How many keys stand before those of a tag, and how many are its own.
 abbrev pub keys_before : List ℕ → CountryTag → ℕ
-keys_before keys tag = count_of (λ k. ltb k (tag.0 * 65536)) keys
+keys_before keys tag = count_of (λ k. ltb k (tag.0 * keys_per_tag)) keys
 
 abbrev pub run_length : List ℕ → CountryTag → ℕ
-run_length keys tag = count_of (λ k. ltb k (tag.0 * 65536 + 65536)) keys - keys_before keys tag
+run_length keys tag = count_of (λ k. ltb k (tag.0 * keys_per_tag + keys_per_tag)) keys - keys_before keys tag
 
 -- The run that the code holds.
 pub record RunOf (keys : List ℕ) (tag : CountryTag) (r : Range ℕ) : Type 0 where
@@ -41,25 +41,25 @@ pub record RunOf (keys : List ℕ) (tag : CountryTag) (r : Range ℕ) : Type 0 w
 -- A country's draft with the nation that this word of a cell counts from 1.
 abbrev pub draft_with : List ℕ → List ℕ → Country → ℕ → Draft
 draft_with ws keys k word =
-    draft_by k.human k.has_switched_nation k.cities (number_in word) (told_by ws k.tag (number_in word)) (keys_before keys k.tag) (run_length keys k.tag)
+    draft_by k.human k.has_switched_nation k.cities (number_in_cell word) (told_by ws k.tag (number_in_cell word)) (keys_before keys k.tag) (run_length keys k.tag)
 
 -- The same, with the word of its cell.
 abbrev pub draft_for : List ℕ → List CountryTag → List ℕ → List ℕ → Country → Draft
-draft_for ws ts cells keys k = draft_with ws keys k (cell_at cells (place_from 0 k.tag ts))
+draft_for ws ts cells keys k = draft_with ws keys k (cell_at_place cells (place_from 0 k.tag ts))
 
 -- ## All drafts
 
 -- The tables are in order, and there is room for a draft of each country that was played.
 pub record FillReady (c : Countries) (tags keys : List ℕ) (out : List Draft) : Type 0 where
-  pub few : length (tags_left c) ≤ 65536
-  pub indexed : tags ≡ sort_by leb (tag_keys_from 0 (tags_left c))
+  pub few : length (country_tags_left c) ≤ keys_per_tag
+  pub indexed : tags ≡ sort_by leb (tag_keys_from 0 (country_tags_left c))
   pub short : length keys ≤ 1000
   pub room : length (played_left c) ≤ length out
 
 -- So many drafts, by the cells.
 pub record FillsDrafts (c : Countries) (ws cells keys : List ℕ) (count : ℕ) (out₀ out₁ : List Draft) : Type 0 where
   pub counted : count ≡ length (played_left c)
-  pub drafts : out₁ ≡ map (draft_for ws (tags_left c) cells keys) (played_left c) ++ drop count out₀
+  pub drafts : out₁ ≡ map (draft_for ws (country_tags_left c) cells keys) (played_left c) ++ drop count out₀
 
 -- At most so many countries, no more than a record has, and room for each.
 pub record DraftReady (most : ℕ) (c : Countries) (keys : List ℕ) (out : List Draft) : Type 0 where
@@ -78,8 +78,8 @@ pub record HoldsDrafts (most : ℕ) (c : Countries) (ws keys : List ℕ) (count 
 -- ## The draft of a history
 
 -- From the history itself.
-abbrev pub draft_of : List ℕ → History → Draft
-draft_of keys h =
+abbrev pub history_draft : List ℕ → History → Draft
+history_draft keys h =
     record {
       initial = h.initial;
       latest = h.latest;

@@ -3,19 +3,19 @@ ghost use Rattle.std.specs.Prelude.{◌≡◌, List, ◌≤◌, leb, length};
 ghost use Rattle.sorting.specs.Sort.{sort_by};
 ghost use Rattle.format.specs.declared.tag.CountryTag.{CountryTag};
 ghost use Rattle.record.specs.Cursors.{country_of};
-ghost use Rattle.search.specs.Places.{tag_keys_from};
+ghost use Rattle.search.specs.Places.{keys_per_tag, tag_keys_from};
 ghost use Rattle.histories.specs.Drafts.{RunOf, draft_for, FillReady, FillsDrafts, DraftReady, HoldsDrafts};
 
 use crate::tables;
 use arranging::Draft;
-use draft_parts::{draft_of, mark_nations, nation_of, stored_nation};
+use draft_parts::{draft_of, mark_nations, nation_or_bare, stored_nation};
 use record::{Countries, CountryRow, CountryTag};
 use search::{KEYS_PER_TAG, SortedKeys, tag_key};
 use sorting::sort_keys;
 use std::ops::Range;
 
 // Where the players of a tag stand among all.
-fn run_of(players: SortedKeys<'_>, tag: CountryTag) -> Range<usize>
+fn player_run(players: SortedKeys<'_>, tag: CountryTag) -> Range<usize>
     ensures { RunOf players.entry.keys.now tag result }
 {
     let low = tag_key(tag, 0);
@@ -32,12 +32,12 @@ fn draft_for(
     players: SortedKeys<'_>,
 ) -> Draft
     requires { length players.keys.now ≤ 1000 }
-    ensures { (ts : List CountryTag) → length ts ≤ 65536 → tags.entry.keys.now ≡ sort_by leb (tag_keys_from 0 ts) → result ≡ draft_for nations.now ts cells.now players.entry.keys.now (country_of row.entry) }
+    ensures { (ts : List CountryTag) → length ts ≤ keys_per_tag → tags.entry.keys.now ≡ sort_by leb (tag_keys_from 0 ts) → result ≡ draft_for nations.now ts cells.now players.entry.keys.now (country_of row.entry) }
 {
     let tag = row.tag;
     let number = stored_nation(tags, cells, tag);
-    let nation = nation_of(nations, tag, number);
-    let run = run_of(players, tag);
+    let nation = nation_or_bare(nations, tag, number);
+    let run = player_run(players, tag);
     draft_of(row, nation, number, run.start as u32, run.len() as u32)
 }
 

@@ -2,9 +2,9 @@
 ghost use Rattle.std.specs.Prelude.{◌≡◌, map, ◌≤◌, leb, length};
 ghost use Rattle.sorting.specs.Sort.{sort_by};
 ghost use Rattle.rules.specs.Lent.{written};
-ghost use Rattle.search.specs.Places.{tag_keys_from};
+ghost use Rattle.search.specs.Places.{keys_per_tag, tag_keys_from};
 ghost use Rattle.players.specs.PlayerSteps.{players_left};
-ghost use Rattle.histories.specs.Tables.{tags_left, player_key};
+ghost use Rattle.histories.specs.Tables.{country_tags_left, player_key};
 
 use format::MOST_STRINGS;
 use players::PlayersOf;
@@ -17,8 +17,8 @@ use sorting::sort_keys;
 // lines, and the two loops 18 with their contracts.
 #[tactic(auto, unfolding(search::specs::Places::tag_keys_from))]
 pub(crate) fn fill_countries(countries: Countries<'_>, keys: &mut [u64])
-    requires { (length (tags_left countries) ≤ length keys.old) × (length keys.old ≤ 65536) }
-    ensures { keys.new ≡ written (tag_keys_from 0 (tags_left countries.entry)) keys.old }
+    requires { (length (country_tags_left countries) ≤ length keys.old) × (length keys.old ≤ keys_per_tag) }
+    ensures { keys.new ≡ written (tag_keys_from 0 (country_tags_left countries.entry)) keys.old }
 {
     for (n, row) in countries.enumerate() {
         keys[n] = tag_key(row.tag, n);

@@ -34,7 +34,7 @@ use Rattle.rules.specs.PlayerOutcomes.{call_starting_country}
 use Rattle.rules.proofs.LentLaws.{answered-gives}
 use Rattle.chronicle_rows.specs.RowAt.{nation_row_at, entries_at, nation_numbered}
 use Rattle.chronicle_rows.proofs.NumberedLaws.{nations-numbered}
-use Rattle.history_rows.specs.declared.rows.History.{History}
+use Rattle.history_rows.specs.declared.rows.HistoryRow as HistoryRow
 use Rattle.history_rows.specs.Cases.{history_told}
 use Rattle.history_rows.specs.HistoryAt.{history_row_at}
 use Rattle.history_rows.specs.LackSteps.{entries_behind, appeared_in, lacks_in}
@@ -56,7 +56,7 @@ module _ (ws es : List ℕ) (nation : ℕ) where
 -- ## What is left tells the starting country
 
 -- No history lacks it: a sole one was read.
-pub sole-told : (hs : List ℕ) (ks : List HistoryRow) → ks ≡ [] → (n : ℕ) → n ≡ length (history_rows_in hs) → (row : History) → history_told row ≡ history_row_at hs 0
+pub sole-told : (hs : List ℕ) (ks : List HistoryRow) → ks ≡ [] → (n : ℕ) → n ≡ length (history_rows_in hs) → (row : HistoryRow.HistoryRow) → history_told row ≡ history_row_at hs 0
     → (r : code.Option CountryTag) → r ≡ then_some (eqb n 1) row.initial → option_of r ≡ starting_of ks (history_rows_in hs)
 unfolding starting_of history_row_at
 sole-told hs ks e n q row f r g = rw (e, g, q) (go (history_rows_in hs) (ap (λ (d : HistoryRow). d.initial) f))

@@ -16,23 +16,23 @@ use Rattle.std.proofs.lemmas.Iterator.Consumers.{YieldsList-at, YieldsList-from_
 use Rattle.lists.specs.Lists.{keep}
 use Rattle.lists.proofs.CodeLaws.{filter_keep}
 use Rattle.chronicle_rows.specs.declared.rows.LentRows.{LentRows}
-use Rattle.rules.specs.HistoryRows.{HistoryRow}
-use Rattle.history_rows.specs.declared.rows.History.{History}
+use Rattle.rules.specs.HistoryRows.{history_width, HistoryRow}
+use Rattle.history_rows.specs.declared.rows.HistoryRow as HistoryRow
 use Rattle.history_rows.specs.Cases.{history_told, history_in}
 use Rattle.history_rows.specs.HistoryAt.{histories_left}
 
 -- The rows of a walk.
-abbrev pub walk_steps : LentRows History 7 → code.Option History → LentRows History 7 → Type 0
+abbrev pub walk_steps : LentRows HistoryRow.HistoryRow history_width → code.Option HistoryRow.HistoryRow → LentRows HistoryRow.HistoryRow history_width → Type 0
 walk_steps = YieldsFirst (λ rows. map history_in rows.rows.now)
 
-pub rows-walked : {s : LentRows History 7} (ds : List HistoryRow) → histories_left s ≡ ds → YieldsList walk_steps history_told s ds
+pub rows-walked : {s : LentRows HistoryRow.HistoryRow history_width} (ds : List HistoryRow) → histories_left s ≡ ds → YieldsList walk_steps history_told s ds
 rows-walked {s} ds e =
     subst (YieldsList walk_steps history_told s) e
     (YieldsList-from_shown walk_steps history_told histories_left (λ t u h. ap length (ap (map history_told) h.0)) (λ t x u h. ap (map history_told) h) s)
 
 -- Those that pass a test.
-pub rows-kept : {F : Type 0} {s : Filter (LentRows History 7) F} (g : Mut F (Bor History × Unit {0}) Bool) (p : HistoryRow → Bool) {f : F} (rows : LentRows History 7)
-    (ds : List HistoryRow) → histories_left rows ≡ ds → filter_source s ≡ rows → filter_callee s ≡ f → ((x : History) (b : Bool) (q : F) → CalledAt g f x b q → (q ≡ f) × (b ≡ p (history_told x)))
+pub rows-kept : {F : Type 0} {s : Filter (LentRows HistoryRow.HistoryRow history_width) F} (g : Mut F (Bor HistoryRow.HistoryRow × Unit {0}) Bool) (p : HistoryRow → Bool) {f : F} (rows : LentRows HistoryRow.HistoryRow history_width)
+    (ds : List HistoryRow) → histories_left rows ≡ ds → filter_source s ≡ rows → filter_callee s ≡ f → ((x : HistoryRow.HistoryRow) (b : Bool) (q : F) → CalledAt g f x b q → (q ≡ f) × (b ≡ p (history_told x)))
     → YieldsList (filter_steps walk_steps g) history_told s (keep p ds)
 rows-kept g p rows ds told source callee called =
     rw (← filter_keep p ds) (YieldsList-from_filter g p (YieldsList-at source (rows-walked ds told)) callee called)

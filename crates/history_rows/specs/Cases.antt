@@ -8,10 +8,10 @@ use Rattle.format.specs.declared.tag.CountryTag.{CountryTag}
 use Rattle.format.specs.declared.refused.Refusal.{Refusal}
 use Rattle.rules.specs.Lent.{Answer, answer_of}
 use Rattle.rules.specs.HistoryRows.{HistoryRow}
-use Rattle.history_rows.specs.declared.rows.History as History
+use Rattle.history_rows.specs.declared.rows.HistoryRow as HistoryRow
 
 -- A history row.
-abbrev pub history_told : History.History → HistoryRow
+abbrev pub history_told : HistoryRow.HistoryRow → HistoryRow
 history_told h =
     record {
       initial = h.initial;
@@ -23,8 +23,8 @@ history_told h =
       count = h.count;
     }
 
--- The history that words tell.
-abbrev pub history_in : List ℕ → History.History
+-- The history row that words tell.
+abbrev pub history_in : List ℕ → HistoryRow.HistoryRow
 history_in ws =
     record {
       initial = record { 0 = get_or ws 0 0 };

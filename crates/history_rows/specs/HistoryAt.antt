@@ -1,8 +1,8 @@
 -- The history rows of lent words by their number, from 0. Past the last one stands the row of no words, all zeros.
 use Rattle.std.specs.Prelude.{List, [], map, ℕ, get_or}
-use Rattle.rules.specs.HistoryRows.{HistoryRow, history_row_of, history_rows_in}
+use Rattle.rules.specs.HistoryRows.{history_width, HistoryRow, history_row_of, history_rows_in}
 use Rattle.chronicle_rows.specs.declared.rows.LentRows.{LentRows}
-use Rattle.history_rows.specs.declared.rows.History.{History}
+use Rattle.history_rows.specs.declared.rows.HistoryRow as HistoryRow
 use Rattle.history_rows.specs.Cases.{history_told, history_in}
 
 -- History row number i.
@@ -10,5 +10,5 @@ unfoldable pub history_row_at : List ℕ → ℕ → HistoryRow
 history_row_at ws i = get_or (history_rows_in ws) i (history_row_of [])
 
 -- The history rows that an iterator has left.
-abbrev pub histories_left : LentRows History 7 → List HistoryRow
+abbrev pub histories_left : LentRows HistoryRow.HistoryRow history_width → List HistoryRow
 histories_left rows = map history_told (map history_in rows.rows.now)

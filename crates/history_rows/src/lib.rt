@@ -4,5 +4,7 @@
 mod rows;
 mod starting;
 
-pub use rows::{HISTORY_WIDTH, Histories, History, history_at, history_count, is_history_shaped};
+pub use rows::{
+    HISTORY_WIDTH, Histories, HistoryRow, history_count, history_row_at, is_history_shaped,
+};
 pub use starting::starting_country;

@@ -13,12 +13,12 @@ use format::CountryTag;
 pub const HISTORY_WIDTH: usize = 7;
 
 // The history rows of lent words.
-pub type Histories<'a> = LentRows<'a, History, HISTORY_WIDTH>;
+pub type Histories<'a> = LentRows<'a, HistoryRow, HISTORY_WIDTH>;
 
 // A history row: three tags; its nation, counted from 1, or 0; 1 for a human; where its names begin in the list of names, and how many. Words as they
 // stand, for anybody may have written them.
 #[derive(Clone, Copy, Debug, PartialEq, Eq)]
-pub struct History {
+pub struct HistoryRow {
     pub initial: CountryTag,
     pub latest: CountryTag,
     pub stored: CountryTag,
@@ -29,12 +29,12 @@ pub struct History {
 }
 
 // What a history row's words tell. Anybody may have written them, and reading refuses none: `is_history_shaped` tests every tag.
-impl From<[u32; HISTORY_WIDTH]> for History {
+impl From<[u32; HISTORY_WIDTH]> for HistoryRow {
     ghost from_gives = { λ row history. history ≡ history_in row };
 
-    fn from(row: [u32; HISTORY_WIDTH]) -> History {
+    fn from(row: [u32; HISTORY_WIDTH]) -> HistoryRow {
         let [initial, latest, stored, nation, human, first, count] = row;
-        History {
+        HistoryRow {
             initial: CountryTag::kept(initial),
             latest: CountryTag::kept(latest),
             stored: CountryTag::kept(stored),
@@ -47,10 +47,10 @@ impl From<[u32; HISTORY_WIDTH]> for History {
 }
 
 // The words of a history row, in that order.
-impl From<History> for [u32; HISTORY_WIDTH] {
+impl From<HistoryRow> for [u32; HISTORY_WIDTH] {
     ghost from_gives = { λ history row. row ≡ history_row_words (history_told history) };
 
-    fn from(history: History) -> [u32; HISTORY_WIDTH] {
+    fn from(history: HistoryRow) -> [u32; HISTORY_WIDTH] {
         [
             u32::from(history.initial),
             u32::from(history.latest),
@@ -63,7 +63,7 @@ impl From<History> for [u32; HISTORY_WIDTH] {
     }
 }
 
-impl Row<HISTORY_WIDTH> for History {
+impl Row<HISTORY_WIDTH> for HistoryRow {
     ghost told = { history_in };
 
     ghost read = { λ words row e. e };
@@ -83,7 +83,7 @@ pub fn history_count(histories: &[u32]) -> usize
 
 // History row number i. Its words are tested by `is_history_shaped` alone.
 #[tactic(auto, using(crate::proofs::HistoryLaws::history_here))]
-pub fn history_at(histories: &[u32], i: usize) -> History
+pub fn history_row_at(histories: &[u32], i: usize) -> HistoryRow
     ensures { history_told result ≡ history_row_at histories.now i }
 {
     row_at(histories, i)
@@ -93,7 +93,7 @@ pub fn history_at(histories: &[u32], i: usize) -> History
 fn row_shaped(row: &[u32; HISTORY_WIDTH], nations: usize) -> bool
     ensures { result ≡ history_shaped nations (history_row_of row.now) }
 {
-    let row = History::from(*row);
+    let row = HistoryRow::from(*row);
     row.initial.good() & row.latest.good() & row.stored.good() & (row.nation as usize <= nations)
 }
 

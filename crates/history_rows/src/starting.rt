@@ -10,8 +10,8 @@ ghost use Rattle.chronicle_rows.specs.Cases.{kind_told};
 ghost use Rattle.history_rows.specs.Cases.{starting_answer};
 ghost use Rattle.history_rows.specs.LackSteps.{appeared_in, lacks_in};
 
-use crate::rows::{Histories, history_at, history_count, is_history_shaped};
-use chronicle_rows::{Chronicle, Kind, nation_at, nation_count};
+use crate::rows::{Histories, history_count, history_row_at, is_history_shaped};
+use chronicle_rows::{Chronicle, Kind, nation_count, nation_row_at};
 use format::{CountryTag, Refusal};
 
 // Whether it is Appeared. Not by `==`, which is promised of the code's kinds and not of those of the definitions.
@@ -28,7 +28,7 @@ fn has_appeared(chronicle: Chronicle<'_>, nation: u32) -> bool
     let Some(nation) = nation.checked_sub(1) else {
         return false;
     };
-    let row = nation_at(chronicle.nations, nation as usize);
+    let row = nation_row_at(chronicle.nations, nation as usize);
     row.entries(chronicle.entries)
         .any(|entry| is_appeared(entry.kind))
 }
@@ -40,7 +40,7 @@ fn starting_in(histories: &[u32], chronicle: Chronicle<'_>) -> Option<CountryTag
     let mut lacking = Histories::of(histories).filter(|row| !has_appeared(chronicle, row.nation));
     let Some(row) = lacking.next() else {
         let sole = history_count(histories) == 1;
-        return sole.then_some(history_at(histories, 0).initial);
+        return sole.then_some(history_row_at(histories, 0).initial);
     };
     match lacking.next() {
         None => Some(row.initial),

@@ -4,7 +4,7 @@ use Rattle.std.specs.Prelude.{◌≡◌, List, [], ◌∷◌, ℕ, ℤ, pos, neg
 use Rattle.std.proofs.Math.Option.{Option, none, some}
 use Rattle.rules.specs.Lent.{Answer, refused, gives, written, fits, room_number, Outcome, outcome}
 use Rattle.rules.specs.Changes.{DateRun}
-use Rattle.rules.specs.Outcomes.{call_events_on, NationCells, Counts, call_nation_events}
+use Rattle.rules.specs.Outcomes.{call_events_on, NationCells, NationCounts, call_nation_events}
 
 -- The number that is given, or minus the refusal number.
 abbrev pub returned : Answer ℕ → ℤ
@@ -51,8 +51,12 @@ call_events_on_cells xs date before = in_cells (call_events_on xs date) before
 
 -- ## `nation_events`, with the counts in a lent slice of their own
 
--- Five words: how many nations, entries, slots, countries and changes there are.
-abbrev pub count_words : Counts → List ℕ
+-- How many counts there are.
+abbrev pub count_width : ℕ
+count_width = 5
+
+-- A word each: how many nations, entries, slots, countries and changes there are.
+abbrev pub count_words : NationCounts → List ℕ
 count_words r = r.nations ∷ r.entries ∷ r.slots ∷ r.countries ∷ r.changes ∷ []
 
 -- What the C function is lent: the slices of the call, and one for the counts.
@@ -65,7 +69,7 @@ nation_slices cells counts = record { cells = cells; counts = counts }
 
 -- The number of counts, and all slices with their words in them. Refused as before, or by 10 if the slice for the counts is too short:
 -- then all slices are as they were lent.
-abbrev pub with_counts : Answer Counts → NationCells → NationSlices → Outcome ℕ NationSlices
+abbrev pub with_counts : Answer NationCounts → NationCells → NationSlices → Outcome ℕ NationSlices
 with_counts (refused n) after before = record { answer = refused n; memory = nation_slices after before.counts }
 with_counts (gives r) after before =
     outcome (room_number (fits (count_words r) before.counts))

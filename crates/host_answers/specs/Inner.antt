@@ -2,12 +2,15 @@
 use Rattle.std.specs.Prelude.{List, [], ◌∷◌, ℕ, ◌%◌}
 use Rattle.chronicle_rows.specs.declared.counts.NationCounts.{NationCounts}
 
--- The lowest 32 bits of each count.
+-- The lowest 32 bits of a count, and of each.
+abbrev pub low_word : ℕ → ℕ
+low_word count = count % 4294967296
+
 abbrev pub low_counts : NationCounts → List ℕ
 low_counts r =
-    r.nations % 4294967296
-    ∷ r.entries % 4294967296
-    ∷ r.slots % 4294967296
-    ∷ r.countries % 4294967296
-    ∷ r.changes % 4294967296
+    low_word r.nations
+    ∷ low_word r.entries
+    ∷ low_word r.slots
+    ∷ low_word r.countries
+    ∷ low_word r.changes
     ∷ []

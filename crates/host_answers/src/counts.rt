@@ -1,7 +1,7 @@
 // The counts of nations, in a lent slice of their own.
-ghost use Rattle.std.specs.Prelude.{◌≡◌, ◌%◌, leb, length};
-ghost use Rattle.host_answers.specs.Host.{Returns, word_cells};
-ghost use Rattle.host_answers.specs.Inner.{low_counts};
+ghost use Rattle.std.specs.Prelude.{◌≡◌, leb, length};
+ghost use Rattle.host_answers.specs.Host.{count_width, Returns, word_cells};
+ghost use Rattle.host_answers.specs.Inner.{low_word, low_counts};
 
 use crate::found::put_words;
 use chronicle_rows::NationCounts;
@@ -14,14 +14,14 @@ const WORDS: usize = 1 << 32;
 
 // Whether a slice has room for the counts.
 pub fn has_counts(out: &[u32]) -> bool
-    ensures { result ≡ leb 5 (length out.now) }
+    ensures { result ≡ leb count_width (length out.now) }
 {
     COUNTS <= out.len()
 }
 
 // The lowest 32 bits of a count: what `as` turns has to fit, so the remainder is taken first.
 fn low_word(count: usize) -> u32
-    ensures { result ≡ count % 4294967296 }
+    ensures { result ≡ low_word count }
 {
     (count % WORDS) as u32
 }

@@ -3,12 +3,13 @@ use mathlib.Core.Path.{◌≡◌, refl, sym, ap, subst, ◌∙◌}
 use mathlib.Core.List.{List, [], ◌∷◌, ◌++◌, map, append_assoc, append-nil}
 use mathlib.Core.Option
 use mathlib.Core.Option.{none, some}
-use Prim.Native.Nat.{ℕ, zero, suc, ◌+◌, ◌-◌, ◌%◌, ◌<◌, ◌≤◌}
+use Prim.Native.Nat.{ℕ, ◌+◌, ◌-◌, ◌%◌, ◌<◌, ◌≤◌}
 use native.Mathlib.Nat.{mod-eq_of_lt, sub-zero}
 use native.Mathlib.Omega.{arith}
 use lib.Dec.{leb}
 use lib.ListN.{length, take, drop, set, get_or, length-append, length-map, length-set}
 use lib.Seq.{take_at, drop-drop}
+use Rattle.std.proofs.Math.Seq.{take-append_seam, drop-append_seam}
 use Rattle.std.specs.Prelude as code
 use Rattle.std.specs.Prelude.{Some, None}
 use Rattle.std.specs.declared.ops.Range.{Range}
@@ -23,15 +24,13 @@ use Rattle.sorting.proofs.SortedKeyLaws.{sorted_front}
 use Rattle.format.specs.declared.tag.CountryTag.{CountryTag}
 use Rattle.format.specs.declared.rows.Point.{Point}
 use Rattle.format.specs.Tags.{same_tag}
-use Rattle.format.specs.declared.packed.PackedLedger.{PackedLedger}
-use Rattle.format.specs.Rows.{ledger_at}
-use Rattle.format.specs.Campaign.{Ledger, group_ledgers}
+use Rattle.format.specs.Campaign.{Ledger}
 use Rattle.record.specs.declared.ledger.LedgerRow.{LedgerRow}
 use Rattle.record.specs.declared.ledger.Ledgers.{Ledgers}
-use Rattle.record.specs.Cursors.{points_left, ledger_of, ledgers_left, all_points}
+use Rattle.record.specs.Cursors.{points_left, ledger_of, ledgers_left}
 use Rattle.search.specs.Places.{tag_key, tag_keys_from, place_from}
 use Rattle.search.proofs.PlaceLaws.{tag-keys-nil, tag-keys-cons, length-tag-keys, first-placed, place_inside}
-use Rattle.ledger.specs.Index.{name_keys, points_at, IsIndex}
+use Rattle.ledger.specs.Index.{name_keys, all_points, points_in_range, IsIndex}
 
 abbrev ledger_tags : List Ledger → List CountryTag
 ledger_tags ls = map (λ l. l.tag) ls
@@ -44,39 +43,24 @@ length-names ls = length-tag-keys 0 (ledger_tags ls) ∙ length-map ls (λ l. l.
 
 -- ## Where points stand
 
-module _ {A : Type 0} where
-  same-taken : (n : ℕ) (xs : List A) → take (length (take n xs)) xs ≡ take n xs
-  same-taken zero xs = refl
-  same-taken (suc n) [] = refl
-  same-taken (suc n) (x ∷ xs) = ap (λ (l : List A). x ∷ l) (same-taken n xs)
-
-  same-dropped : (n : ℕ) (xs : List A) → drop (length (take n xs)) xs ≡ drop n xs
-  same-dropped zero xs = refl
-  same-dropped (suc n) [] = refl
-  same-dropped (suc n) (x ∷ xs) = same-dropped n xs
-
 -- The points of these names stand behind each other among all, from a number on.
 abbrev Standing : List Point → ℕ → List Ledger → Type 0
 Standing all first [] = Unit {0}
 Standing all first (l ∷ ls) = (l.points ≡ take (length l.points) (drop first all)) × Standing all (first + length l.points) ls
 
-standing : (all : List Point) (rs : List PackedLedger) (first : ℕ) → Standing all first (group_ledgers rs (drop first all))
-unfolding group_ledgers
-standing all [] first = tt
-standing all (r ∷ rs) first =
-    let own : List Point = take r.points (drop first all) in
-    let behind : drop r.points (drop first all) ≡ drop (first + length own) all = sym (same-dropped r.points (drop first all)) ∙ drop-drop (length own) first all in (
-      sym (same-taken r.points (drop first all)),
-      subst (λ (ps : List Point). Standing all (first + length own) (group_ledgers rs ps)) (sym behind) (standing all rs (first + length own)),
-    )
+standing : (all : List Point) (ls : List Ledger) (first : ℕ) → drop first all ≡ all_points ls → Standing all first ls
+standing all [] first e = tt
+standing all (l ∷ ls) first e =
+    let behind : drop (first + length l.points) all ≡ all_points ls = sym (drop-drop (length l.points) first all) ∙ ap (drop (length l.points)) e ∙ drop-append_seam l.points (all_points ls) in
+    (sym (ap (take (length l.points)) e ∙ take-append_seam l.points (all_points ls)), standing all ls (first + length l.points) behind)
 
 -- ## Filled name by name
 
 -- So many names are done, and the others are left; the next point has the number `first`.
 pub record Naming (c : Ledgers) (left : List Ledger) (cells count first : ℕ) (keys₀ keys : List ℕ) (places : List (Range ℕ)) : Type 0 where
   pub keys-so-far : Filling (name_keys (ledgers_left c)) (tag_keys_from count (ledger_tags left)) keys₀ count keys
-  pub points-so-far : map (points_at (all_points c)) (take count places) ++ points_in left ≡ points_in (ledgers_left c)
-  pub standing-left : Standing (all_points c) first left
+  pub points-so-far : map (points_in_range (all_points (ledgers_left c))) (take count places) ++ points_in left ≡ points_in (ledgers_left c)
+  pub standing-left : Standing (all_points (ledgers_left c)) first left
   pub few : count + length left ≤ 2000
   pub few-points : first + length (join_of (λ l. l.points) left) ≤ 1000000
   pub cells-enough : count + length left ≤ cells
@@ -90,7 +74,7 @@ naming-start c left cells keys places e few points enough k p =
     (record {
       keys-so-far = filling-new (name_keys (ledgers_left c)) keys (omega (arith, length-names (ledgers_left c)));
       points-so-far = refl;
-      standing-left = standing (all_points c) (map (λ row. ledger_at row 0) c.rows.packed.now) 0;
+      standing-left = standing (all_points (ledgers_left c)) (ledgers_left c) 0 refl;
       few = omega arith;
       few-points = omega arith;
       cells-enough = omega arith;
@@ -108,11 +92,8 @@ module _ {c : Ledgers} {left : List Ledger} {cells count first : ℕ} {keys₀ k
   points-more : length (join_of (λ l. l.points) left) ≡ length (points_left row.points) + length (join_of (λ l. l.points) rest)
   points-more = ap (λ (ls : List Ledger). length (join_of (λ l. l.points) ls)) e ∙ length-append (points_left row.points) (join_of (λ l. l.points) rest)
 
-  pub naming-points : (m : ℕ) → m ≡ length (points_left row.points) → first + m ≤ 1000000
-  naming-points m q = omega (arith, n.few-points, points-more)
-
-  standing-here : Standing (all_points c) first (ledger_of row ∷ rest)
-  standing-here = subst (Standing (all_points c) first) e n.standing-left
+  standing-here : Standing (all_points (ledgers_left c)) first (ledger_of row ∷ rest)
+  standing-here = subst (Standing (all_points (ledgers_left c)) first) e n.standing-left
 
   naming-more : (key : ℕ) → key ≡ tag_key row.tag (count % 65536) → (m : ℕ) → m ≡ length (points_left row.points) → (place : Range ℕ)
       → place.start ≡ first → place.end ≡ first + m → Naming c rest cells (count + 1) (first + m) keys₀ (set keys count key) (set places count place)
@@ -120,15 +101,15 @@ module _ {c : Ledgers} {left : List Ledger} {cells count first : ℕ} {keys₀ k
       let long = ap length e in
       let number : count % 65536 ≡ count = mod-eq_of_lt (omega (arith, n.few)) in
       let wide : (first + m) - first ≡ m = omega arith in
-      let own : points_at (all_points c) place ≡ points_left row.points = rw (f, g, wide, q) (sym standing-here.0) in
+      let own : points_in_range (all_points (ledgers_left c)) place ≡ points_left row.points = rw (f, g, wide, q) (sym standing-here.0) in
       record {
         keys-so-far = filling-put _ _ _ _ _ n.keys-so-far _ _ keys-left key (k ∙ ap (tag_key row.tag) number);
         points-so-far =
-            ap (λ (ps : List (Range ℕ)). map (points_at (all_points c)) ps ++ points_in rest) (take-set-more places count place naming-room.1)
-            ∙ (ap (λ (ps : List (List Point)). ps ++ points_in rest) (map-append (points_at (all_points c)) (take count places) (place ∷ []))
-            ∙ (append_assoc (map (points_at (all_points c)) (take count places)) (points_at (all_points c) place ∷ []) (points_in rest)
-            ∙ (ap (λ (ps : List Point). map (points_at (all_points c)) (take count places) ++ (ps ∷ points_in rest)) own
-            ∙ (ap (λ (ls : List Ledger). map (points_at (all_points c)) (take count places) ++ points_in ls) (sym e) ∙ n.points-so-far))));
+            ap (λ (ps : List (Range ℕ)). map (points_in_range (all_points (ledgers_left c))) ps ++ points_in rest) (take-set-more places count place naming-room.1)
+            ∙ (ap (λ (ps : List (List Point)). ps ++ points_in rest) (map-append (points_in_range (all_points (ledgers_left c))) (take count places) (place ∷ []))
+            ∙ (append_assoc (map (points_in_range (all_points (ledgers_left c))) (take count places)) (points_in_range (all_points (ledgers_left c)) place ∷ []) (points_in rest)
+            ∙ (ap (λ (ps : List Point). map (points_in_range (all_points (ledgers_left c))) (take count places) ++ (ps ∷ points_in rest)) own
+            ∙ (ap (λ (ls : List Ledger). map (points_in_range (all_points (ledgers_left c))) (take count places) ++ points_in ls) (sym e) ∙ n.points-so-far))));
         standing-left = rw q standing-here.1;
         few = omega (arith, n.few);
         few-points = omega (arith, n.few-points, points-more);
@@ -152,9 +133,6 @@ module _ {c : Ledgers} {left : List Ledger} {cells count first : ℕ} {keys₀ k
   counted : count ≡ length (ledgers_left c)
   counted = filling-count _ _ _ _ _ n.keys-so-far done ∙ length-names (ledgers_left c)
 
-  pub names-inside : count ≤ length keys
-  names-inside = omega (arith, n.keys-so-far.fits, n.keys-so-far.long)
-
   pub places-inside : count ≤ length places
   places-inside = omega (arith, n.cells-enough, n.long)
 
@@ -172,7 +150,7 @@ module _ {c : Ledgers} {left : List Ledger} {cells count first : ℕ} {keys₀ k
       record {
         few = omega (arith, n.few, counted);
         sorted = s;
-        placed = sym (append-nil (map (points_at (all_points c)) (take count places))) ∙ (ap (λ (l : List Ledger). map (points_at (all_points c)) (take count places) ++ points_in l) (sym e) ∙ n.points-so-far);
+        placed = sym (append-nil (map (points_in_range (all_points (ledgers_left c))) (take count places))) ∙ (ap (λ (l : List Ledger). map (points_in_range (all_points (ledgers_left c))) (take count places) ++ points_in l) (sym e) ∙ n.points-so-far);
       }
 
   -- By the number of all names.
@@ -212,16 +190,16 @@ module _ {c : Ledgers} {keys : List ℕ} {places : List (Range ℕ)} (x : IsInde
 
     pub found_inside : i < length places
     found_inside =
-        omega (arith, name-inside, ap length x.placed, length-map places (points_at (all_points c)), length-map names (λ (l : Ledger). l.points))
+        omega (arith, name-inside, ap length x.placed, length-map places (points_in_range (all_points (ledgers_left c))), length-map names (λ (l : Ledger). l.points))
 
     pub found_few : i < 2000
     found_few = omega (arith, name-inside, x.few)
 
-    pub found-points : (d : Range ℕ) (ps : List Point) → ps ≡ points_at (all_points c) (get_or places i d)
+    pub found-points : (d : Range ℕ) (ps : List Point) → ps ≡ points_in_range (all_points (ledgers_left c)) (get_or places i d)
         → some ps ≡ Option.map (λ l. l.points) (first_that (λ l. same_tag l.tag tag) names)
     found-points d ps p =
-        let own : points_at (all_points c) (get_or places i d) ≡ (get_or names i no_name).points =
-        sym (get_or-map (points_at (all_points c)) places i d [] found_inside)
+        let own : points_in_range (all_points (ledgers_left c)) (get_or places i d) ≡ (get_or names i no_name).points =
+        sym (get_or-map (points_in_range (all_points (ledgers_left c))) places i d [] found_inside)
         ∙ (ap (λ (qs : List (List Point)). get_or qs i []) x.placed ∙ get_or-map (λ (l : Ledger). l.points) names i no_name [] name-inside) in
         let found : first_that (λ l. same_tag l.tag tag) names ≡ some (get_or names i no_name) =
         first-told ∙ ap (λ (q : code.Option ℕ). Option.map (λ j. get_or names j no_name) (option_of q)) e in

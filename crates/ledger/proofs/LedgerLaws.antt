@@ -10,11 +10,9 @@ use Rattle.std.specs.Prelude as code
 use Rattle.std.specs.Prelude.{Some, None}
 use Rattle.lists.specs.Lists.{first_that}
 use Rattle.lists.specs.Options.{option_of}
-use Rattle.format.specs.declared.rows.Point.{Point}
 use Rattle.format.specs.Tags.{same_tag}
 use Rattle.format.specs.Campaign.{Ledger}
-use Rattle.record.specs.declared.rows.Rows.{Rows}
-use Rattle.record.specs.Cursors.{points_left}
+use Rattle.record.specs.Cursors.{Points, points_left}
 use Rattle.rules.specs.Lent.{written}
 use Rattle.rules.specs.Ledger.{LedgerPoint, row_points, span_points, point_rows}
 use Rattle.spans.specs.declared.walk.Span.{Span}
@@ -24,11 +22,11 @@ use Rattle.span_points.proofs.FillsLaws.{FillingRows, fills-done}
 
 -- ## One span
 
-module _ (ls : List Ledger) (sp : Span) {r : code.Option (Rows Point 6)}
+module _ (ls : List Ledger) (sp : Span) {r : code.Option Points}
     (told : map points_left (option_of r) ≡ map (λ l. l.points) (first_that (λ l. same_tag l.tag sp.tag) ls)) where
-  pub points-found : (c : Rows Point 6) → r ≡ Some c → span_filled c sp ≡ span_points ls (span_in sp)
+  pub points-found : (c : Points) → r ≡ Some c → span_filled c sp ≡ span_points ls (span_in sp)
   unfolding span_points row_points
-  points-found c e = go (first_that (λ l. same_tag l.tag sp.tag) ls) (sym (ap (λ (o : code.Option (Rows Point 6)). map points_left (option_of o)) e) ∙ told)
+  points-found c e = go (first_that (λ l. same_tag l.tag sp.tag) ls) (sym (ap (λ (o : code.Option Points). map points_left (option_of o)) e) ∙ told)
     where
       go : (o : Option Ledger) → some (points_left c) ≡ map (λ l. l.points) o → span_filled c sp ≡ row_points (span_in sp) o
       go none h = absurd (none-ne-some (points_left c) (sym h))
@@ -36,7 +34,7 @@ module _ (ls : List Ledger) (sp : Span) {r : code.Option (Rows Point 6)}
 
   pub points_none : r ≡ None → span_points ls (span_in sp) ≡ []
   unfolding span_points row_points
-  points_none e = go (first_that (λ l. same_tag l.tag sp.tag) ls) (sym (ap (λ (o : code.Option (Rows Point 6)). map points_left (option_of o)) e) ∙ told)
+  points_none e = go (first_that (λ l. same_tag l.tag sp.tag) ls) (sym (ap (λ (o : code.Option Points). map points_left (option_of o)) e) ∙ told)
     where
       go : (o : Option Ledger) → none ≡ map (λ l. l.points) o → row_points (span_in sp) o ≡ []
       go none h = refl
@@ -49,8 +47,8 @@ pub record PointsCounted (all left : List LedgerPoint) (most n : ℕ) : Type 0 w
   pub few : n ≤ most
   pub same : min (n + length left) most ≡ min (length all) most
 
-pub count-start : (all left : List LedgerPoint) (most : ℕ) → left ≡ all → PointsCounted all left most 0
-count-start all left most e = record { few = omega arith; same = omega (arith, ap length e) }
+pub points-start : (all left : List LedgerPoint) (most : ℕ) → left ≡ all → PointsCounted all left most 0
+points-start all left most e = record { few = omega arith; same = omega (arith, ap length e) }
 
 module _ {all left : List LedgerPoint} {most n : ℕ} (k : PointsCounted all left most n) where
   -- The next points, held to what is left of the most.

@@ -28,7 +28,7 @@ use Rattle.rules.proofs.LentLaws.{answered-refused, answered-gives, outcome-refu
 use Rattle.chronicle_rows.specs.RowAt.{nation_row_at}
 use Rattle.span_points.proofs.FillsLaws.{rows-length}
 use Rattle.ledger.specs.declared.index.Frame.{Frame}
-use Rattle.ledger.specs.Asked.{asked_number, AllAsked}
+use Rattle.ledger.specs.Asked.{asked_ledger_number, AllAsked}
 use Rattle.ledger.specs.Cases.{ledger_answer, ledger_outcome, ledger_cells, ledgers_outcome}
 use Rattle.ledger.specs.Ledgers.{Framed, row_ledger, row_ledgers, row_counts, WritesLedgers}
 use Rattle.ledger.proofs.NationLaws.{nations-size, nation-listed, nation-unlisted, numbered-ledger, all-ledgers, all-counts}
@@ -54,39 +54,39 @@ module _ (ps : List LedgerPoint) (before : List ℕ) (n : ℕ) (counted : n ≡ 
 -- ## The numbers before that
 
 module _ (ws es : List ℕ) (i : ℕ) where
-  pub asked-refused : (e : Refusal) → refusal_number e ≡ chronicle_number ws es → refusal_number e ≡ asked_number ws es i
-  unfolding asked_number
+  pub asked-refused : (e : Refusal) → refusal_number e ≡ chronicle_number ws es → refusal_number e ≡ asked_ledger_number ws es i
+  unfolding asked_ledger_number
   asked-refused e h = stop _ e h
 
   -- The shape is good, and the nations are counted.
   module _ (shaped : 0 ≡ chronicle_number ws es) (count : ℕ) (m : count ≡ length (nation_rows_in ws)) where
-    last-asked : asked_number ws es i ≡ asked_nation_number (get_elem? (nations_in ws es) i)
-    unfolding asked_number
+    last-asked : asked_ledger_number ws es i ≡ asked_nation_number (get_elem? (nations_in ws es) i)
+    unfolding asked_ledger_number
     last-asked = first-pass (chronicle_number ws es) _ (sym shaped) ∙ first_one _
 
-    pub asked-unlisted : count ≤ i → 13 ≡ asked_number ws es i
+    pub asked-unlisted : count ≤ i → 13 ≡ asked_ledger_number ws es i
     asked-unlisted h = sym (last-asked ∙ ap asked_nation_number (nation-unlisted ws es i (omega arith)))
 
-    pub asked-listed : i < count → 0 ≡ asked_number ws es i
+    pub asked-listed : i < count → 0 ≡ asked_ledger_number ws es i
     asked-listed h =
         let there = at-inside (nations_in ws es) i (omega (arith, nations-size ws es)) in
         sym (last-asked ∙ ap asked_nation_number there.1)
 
-pub well-shaped : (ws es : List ℕ) → 0 ≡ chronicle_number ws es → well_shaped ws es ≡ true
-well-shaped ws es h = go (well_shaped ws es) (sym h)
+pub shaped-by-number : (ws es : List ℕ) → 0 ≡ chronicle_number ws es → well_shaped ws es ≡ true
+shaped-by-number ws es h = go (well_shaped ws es) (sym h)
   where
     go : (b : Bool) → ◌≡◌ {A = ℕ} (cond b 0 11) 0 → b ≡ true
     go true h = refl
     go false h = absurd (omega arith)
 
 -- Where nothing refuses them the chronicle is well shaped, and the number is a nation's.
-module _ (ws es : List ℕ) (i : ℕ) (fine : asked_number ws es i ≡ 0) where
+module _ (ws es : List ℕ) (i : ℕ) (fine : asked_ledger_number ws es i ≡ 0) where
   asked-shaped : well_shaped ws es ≡ true
-  unfolding asked_number
-  asked-shaped = well-shaped ws es (sym (first-zero (chronicle_number ws es) _ fine).0)
+  unfolding asked_ledger_number
+  asked-shaped = shaped-by-number ws es (sym (first-zero (chronicle_number ws es) _ fine).0)
 
   asked-inside : i < length (nation_rows_in ws)
-  unfolding asked_number
+  unfolding asked_ledger_number
   asked-inside =
       elim (dec_le (length (nation_rows_in ws)) i) as (λ _. i < length (nation_rows_in ws)) [
         | yes h ↦ absurd (go (nation-unlisted ws es i h))
@@ -107,21 +107,21 @@ module _ (xs ws es : List ℕ) (i : ℕ) (rest : List ℕ) where
   record-number : (e : Refusal) → refusal_number e ≡ refusal xs → number ≡ refusal_number e
   record-number e h = first-stop (refusal xs) _ (λ z. omega (arith, h, z, refuses e)) ∙ sym h
 
-  both-numbers : refusal xs ≡ 0 → number ≡ first_of (asked_number ws es i ∷ rest)
-  unfolding asked_number
+  both-numbers : refusal xs ≡ 0 → number ≡ first_of (asked_ledger_number ws es i ∷ rest)
+  unfolding asked_ledger_number
   both-numbers z =
       first-pass (refusal xs) _ z ∙ first-append (chronicle_number ws es ∷ asked_nation_number (get_elem? (nations_in ws es) i) ∷ []) rest
 
-  asked-first : refusal xs ≡ 0 → (e : Refusal) → refusal_number e ≡ asked_number ws es i → number ≡ refusal_number e
-  asked-first z e h = both-numbers z ∙ (first-stop (asked_number ws es i) _ (λ q. omega (arith, h, q, refuses e)) ∙ sym h)
+  asked-first : refusal xs ≡ 0 → (e : Refusal) → refusal_number e ≡ asked_ledger_number ws es i → number ≡ refusal_number e
+  asked-first z e h = both-numbers z ∙ (first-stop (asked_ledger_number ws es i) _ (λ q. omega (arith, h, q, refuses e)) ∙ sym h)
 
-  room-last : refusal xs ≡ 0 → asked_number ws es i ≡ 0 → number ≡ first_of rest
-  room-last z h = both-numbers z ∙ first-pass (asked_number ws es i) _ h
+  room-last : refusal xs ≡ 0 → asked_ledger_number ws es i ≡ 0 → number ≡ first_of rest
+  room-last z h = both-numbers z ∙ first-pass (asked_ledger_number ws es i) _ h
 
 -- ## One nation
 
 -- No refusal stands before the room: the row is the nation's, and its points are those that the code reads.
-module _ {xs : List ℕ} {f : Frame} (t : Framed xs f) (ws es : List ℕ) (i : ℕ) (fine : asked_number ws es i ≡ 0) (row : NationRow) (told : row ≡ nation_row_at ws i) where
+module _ {xs : List ℕ} {f : Frame} (t : Framed xs f) (ws es : List ℕ) (i : ℕ) (fine : asked_ledger_number ws es i ≡ 0) (row : NationRow) (told : row ≡ nation_row_at ws i) where
   own-points : asked_points (campaign_of xs) (get_elem? (nations_in ws es) i) ≡ row_ledger f es row
   own-points =
       ap (asked_points (campaign_of xs)) (nation-listed ws es i (asked-shaped ws es i fine) (asked-inside ws es i fine))
@@ -143,10 +143,10 @@ module _ (xs ws es : List ℕ) (i : ℕ) (before : List ℕ) where
   ledger-refused e h = by_number e (record-number xs ws es i room e h)
 
   module _ (z : refusal xs ≡ 0) where
-    pub ledger-unasked : (e : Refusal) → refusal_number e ≡ asked_number ws es i → ledger_outcome (Err e) before ≡ call_nation_ledger xs ws es i before
+    pub ledger-unasked : (e : Refusal) → refusal_number e ≡ asked_ledger_number ws es i → ledger_outcome (Err e) before ≡ call_nation_ledger xs ws es i before
     ledger-unasked e h = by_number e (asked-first xs ws es i room z e h)
 
-    module _ {f : Frame} (t : Framed xs f) (fine : asked_number ws es i ≡ 0) (row : NationRow) (told : row ≡ nation_row_at ws i)
+    module _ {f : Frame} (t : Framed xs f) (fine : asked_ledger_number ws es i ≡ 0) (row : NationRow) (told : row ≡ nation_row_at ws i)
         (n : ℕ) (counted : n ≡ min (length (row_ledger f es row)) (length before / 3 + 1)) where
       by_room : (b : Bool) → fits (point_rows (row_ledger f es row)) before ≡ b → number xs ws es i room ≡ room_number b
       by_room b e =
@@ -177,10 +177,10 @@ module _ (xs ws es : List ℕ) (i most : ℕ) where
   rows-refused e h = by_first e (record-number xs ws es i [] e h)
 
   module _ (z : refusal xs ≡ 0) where
-    pub rows-unasked : (e : Refusal) → refusal_number e ≡ asked_number ws es i → ledger_answer (Err e) ≡ call_nation_ledger_rows xs ws es i most
+    pub rows-unasked : (e : Refusal) → refusal_number e ≡ asked_ledger_number ws es i → ledger_answer (Err e) ≡ call_nation_ledger_rows xs ws es i most
     rows-unasked e h = by_first e (asked-first xs ws es i [] z e h)
 
-    pub rows-given : {f : Frame} → Framed xs f → asked_number ws es i ≡ 0 → (row : NationRow) → row ≡ nation_row_at ws i
+    pub rows-given : {f : Frame} → Framed xs f → asked_ledger_number ws es i ≡ 0 → (row : NationRow) → row ≡ nation_row_at ws i
         → (n : ℕ) → n ≡ min (length (row_ledger f es row)) most → ledger_answer (Ok n) ≡ call_nation_ledger_rows xs ws es i most
     unfolding call_nation_ledger_rows first_of
     rows-given t fine row told n counted =
@@ -260,5 +260,5 @@ module _ (xs ws es before counts : List ℕ) where
 pub all-asked : (xs ws es us vs : List ℕ) (lent : LedgerCells) (f : Frame) (o : Outcome ℕ LedgerCells) → us ≡ ws → vs ≡ es → refusal xs ≡ 0 → Framed xs f → 0 ≡ chronicle_number ws es
     → (AllAsked xs us vs f → o ≡ call_nation_ledgers xs us vs lent) → o ≡ call_nation_ledgers xs ws es lent
 all-asked xs ws es us vs lent f o e q z t c h =
-    let all : AllAsked xs us vs f = rw (e, q) (record { accepted = z; framed = t; shaped = well-shaped ws es c }) in
+    let all : AllAsked xs us vs f = rw (e, q) (record { accepted = z; framed = t; shaped = shaped-by-number ws es c }) in
     h all ∙ ap₂ (λ (a b : List ℕ). call_nation_ledgers xs a b lent) e q

@@ -10,7 +10,7 @@ use lib.ListN.{length, take, drop, set, get_elem?, length-append, length-map, le
 use Rattle.lists.specs.Lists.{join_of, numbers_from}
 use Rattle.lists.proofs.ListLaws.{join-map, map_at, map-then}
 use Rattle.lists.proofs.ElementLaws.{at-get_or, at-end, at-inside}
-use Rattle.lists.proofs.FillLaws.{Filling, filling-new, filling-put, filling-room, filling-written}
+use Rattle.lists.proofs.FillLaws.{Filling, filling-new, filling-put, filling-written}
 use Rattle.format.specs.Campaign.{campaign_of}
 use Rattle.rules.specs.NationRows.{NationRow, nation_row_of, nation_rows_in, entry_rows_in, nation_at, nations_in, well_shaped}
 use Rattle.rules.specs.Ledger.{LedgerPoint, spans_of, nation_ledger}
@@ -109,10 +109,6 @@ module _ (f : Frame) (ws es before counts_before : List ℕ) where
             rows = fills-more _ _ before k now w.rows (row_ledger f es row) others m ys more g;
             counted = filling-put _ _ counts_before i counts w.counted (length (row_ledger f es row)) _ (ap (map (λ n. length (row_ledger f es n))) e) m size;
           }
-
-      -- A cell is there for the next count.
-      pub counts-room : i < length counts
-      counts-room = filling-room _ _ counts_before i counts w.counted _ _ (ap (map (λ n. length (row_ledger f es n))) e)
 
     pub ledgers-done : left ≡ [] → WritesLedgers f ws es before counts_before now counts
     ledgers-done e =

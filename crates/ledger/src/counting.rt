@@ -8,7 +8,7 @@ ghost use Rattle.spans.specs.SpanSteps.{span_in};
 ghost use Rattle.ledger.specs.Ledgers.{row_ledger, row_ledgers};
 
 use crate::index::LedgerIndex;
-use chronicle_rows::{Chronicle, Nation, Nations};
+use chronicle_rows::{Chronicle, NationRow, Nations};
 use span_points::count_span;
 use spans::{Span, Spans};
 
@@ -25,7 +25,7 @@ impl LedgerIndex<'_, '_> {
     }
 
     // How many points a nation has, at most so many. Not one loop with `write`: this one stops as soon as the most is reached.
-    pub(crate) fn count(&self, entries: &[u32], nation: Nation, most: usize) -> usize
+    pub(crate) fn count(&self, entries: &[u32], nation: NationRow, most: usize) -> usize
         ensures { result ≡ min (length (row_ledger self.now.frame entries.now (nation_told nation))) most }
     {
         let mut n = 0;

@@ -6,25 +6,25 @@ ghost use Rattle.record.specs.Cursors.{ledgers_left};
 ghost use Rattle.chronicle_rows.specs.Cases.{nation_told};
 ghost use Rattle.chronicle_rows.specs.RowAt.{nation_row_at};
 ghost use Rattle.ledger.specs.Cases.{ledger_answer, ledger_outcome};
-ghost use Rattle.ledger.specs.Asked.{asked_number, RightlyAsked};
+ghost use Rattle.ledger.specs.Asked.{asked_ledger_number, RightlyAsked};
 ghost use Rattle.ledger.specs.Ledgers.{row_ledger};
 
 use crate::index::{FEW_LEDGERS, Frame, LedgerIndex, NO_PLACE};
-use chronicle_rows::{Chronicle, Nation, nation_at, nation_count};
+use chronicle_rows::{Chronicle, NationRow, nation_count, nation_row_at};
 use format::MOST_LEDGERS;
 use record::Refusal;
 use span_points::LEDGER_WIDTH;
 
 // The nation row of a number: refused is a chronicle that is not well shaped, before a number of no nation.
-fn asked_nation(nations: &[u32], entries: &[u32], nation: usize) -> Result<Nation, Refusal>
-    ensures number { number_of result ≡ asked_number nations.now entries.now nation }
+fn asked_nation(nations: &[u32], entries: &[u32], nation: usize) -> Result<NationRow, Refusal>
+    ensures number { number_of result ≡ asked_ledger_number nations.now entries.now nation }
     ensures row { IfOk result (λ n. nation_told n ≡ nation_row_at nations.now nation) }
 {
     Chronicle::open(nations, entries)?;
     if nation_count(nations) <= nation {
         return Err(Refusal::NoNation);
     }
-    Ok(nation_at(nations, nation))
+    Ok(nation_row_at(nations, nation))
 }
 
 // The ledger of a nation's row, with an index of at most so many names. The three calls each choose a size for a function of their own, in 27 lines. One
@@ -33,7 +33,7 @@ fn asked_nation(nations: &[u32], entries: &[u32], nation: usize) -> Result<Natio
 fn ledger_indexed<const NAMES: usize>(
     frame: Frame<'_>,
     entries: &[u32],
-    row: Nation,
+    row: NationRow,
     out: &mut [u32],
 ) -> Result<usize, Refusal>
     requires enough { length (ledgers_left frame.ledgers) ≤ NAMES }
@@ -76,7 +76,7 @@ pub fn nation_ledger(
 fn rows_indexed<const NAMES: usize>(
     frame: Frame<'_>,
     entries: &[u32],
-    row: Nation,
+    row: NationRow,
     most: usize,
 ) -> usize
     requires enough { length (ledgers_left frame.ledgers) ≤ NAMES }

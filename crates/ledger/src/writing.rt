@@ -1,6 +1,6 @@
 // The rows of a span, of a nation, and of all nations, each straight into its place.
 ghost use Rattle.std.specs.Prelude.{◌*◌, ◌≤◌, length};
-ghost use Rattle.rules.specs.Ledger.{span_points};
+ghost use Rattle.rules.specs.Ledger.{span_points, ledger_width};
 ghost use Rattle.rules.specs.NationRows.{nation_rows_in};
 ghost use Rattle.chronicle_rows.specs.Cases.{nation_told};
 ghost use Rattle.record.specs.Cursors.{ledgers_left};
@@ -9,7 +9,7 @@ ghost use Rattle.span_points.specs.PointSteps.{FillsSpan};
 ghost use Rattle.ledger.specs.Ledgers.{row_ledger, row_ledgers, WritesLedgers};
 
 use crate::index::LedgerIndex;
-use chronicle_rows::{Chronicle, Nation, Nations};
+use chronicle_rows::{Chronicle, NationRow, Nations};
 use span_points::{LEDGER_WIDTH, write_span};
 use spans::{Span, Spans};
 
@@ -25,7 +25,7 @@ impl LedgerIndex<'_, '_> {
     }
 
     // Writes the rows of a nation, those of each span behind those before it, as many as find room, and gives their number.
-    pub(crate) fn write(&self, entries: &[u32], nation: Nation, out: &mut [u32]) -> usize
+    pub(crate) fn write(&self, entries: &[u32], nation: NationRow, out: &mut [u32]) -> usize
         ensures { FillsSpan (row_ledger self.now.frame entries.now (nation_told nation)) result out.old out.new }
     {
         let mut n = 0;
@@ -38,7 +38,7 @@ impl LedgerIndex<'_, '_> {
     // Writes the rows of all nations, each nation's behind those before it, and for each the number of its points. Not by a `zip` with `iter_mut`: a
     // proof knows no cell that is written through it.
     pub(crate) fn write_all(&self, chronicle: Chronicle<'_>, out: &mut [u32], counts: &mut [u64])
-        requires rows_in_bounds { 3 * length (row_ledgers self.now.frame chronicle.nations.now chronicle.entries.now) ≤ length out.old }
+        requires rows_in_bounds { ledger_width * length (row_ledgers self.now.frame chronicle.nations.now chronicle.entries.now) ≤ length out.old }
         requires counts_in_bounds { length (nation_rows_in chronicle.nations.now) ≤ length counts.old }
         ensures { WritesLedgers self.now.frame chronicle.entry.nations.now chronicle.entry.entries.now out.old counts.old out.new counts.new }
     {

@@ -2,8 +2,12 @@
 use crate::asked::{Asked, Besides};
 use crate::single::is_answered;
 use crate::vector::Vector;
-use chronicle::HistoryCounts;
-use record::{CountryTag, Refusal};
+use bookings::BOOKING_WIDTH;
+use chronicle::{CountryTag, HistoryCounts, Refusal};
+use history_rows::HISTORY_WIDTH;
+use players::PLAYER_WIDTH;
+use questions::QUESTION_WIDTH;
+use span_points::LEDGER_WIDTH;
 use std::iter;
 use stored_input::Counts;
 
@@ -14,7 +18,7 @@ const MOST_CELLS: usize = 4096;
 const BEFORE: u32 = 7;
 
 // Whether cells begin with the words, and are behind them as they were.
-fn hold<T: Copy + PartialEq + From<u32>>(cells: &[T], words: &[u32]) -> bool {
+fn cells_hold<T: Copy + PartialEq + From<u32>>(cells: &[T], words: &[u32]) -> bool {
     let expected = words.iter().copied().chain(iter::repeat(BEFORE));
     cells
         .iter()
@@ -33,7 +37,7 @@ impl<'a> Vector<'a> {
         let mut cells = [BEFORE; MOST_CELLS];
         let room = self.room.min(MOST_CELLS);
         let told = call(&mut cells[..room]).map_err(Refusal::number);
-        told == self.answer.map(|_| value) && hold(&cells, self.words())
+        told == self.answer.map(|_| value) && cells_hold(&cells, self.words())
     }
 
     // The same of a call that is lent cells besides.
@@ -52,7 +56,7 @@ impl<'a> Vector<'a> {
     {
         let room = besides.room.min(cells.len());
         let lent = &mut cells[..room];
-        self.answers(value, |out| call(out, lent)) && hold(cells, besides.words)
+        self.answers(value, |out| call(out, lent)) && cells_hold(cells, besides.words)
     }
 
     // The words of the answer, none of a refusal.
@@ -73,25 +77,28 @@ impl<'a> Vector<'a> {
         let (record, nations, entries) = (self.record, self.nations, self.entries);
         let words = self.words().len();
         match self.asked {
-            Asked::Questions(many) => self.answers(many.len() / 2, |out| {
+            Asked::Questions(many) => self.answers(many.len() / QUESTION_WIDTH, |out| {
                 chronicle::resolve_each(nations, entries, many, out)
             }),
-            Asked::Bookings => self.answers(words / 3, |out| {
+            Asked::Bookings => self.answers(words / BOOKING_WIDTH, |out| {
                 chronicle::war_participants(record, nations, entries, out)
             }),
-            Asked::NationLedger(counted) => self.answers(words / 3, |out| {
+            Asked::NationLedger(counted) => self.answers(words / LEDGER_WIDTH, |out| {
                 chronicle::nation_ledger(record, nations, entries, counted.nation, out)
             }),
             Asked::AllLedgers(besides) => {
                 let mut cells = [u64::from(BEFORE); MOST_CELLS];
-                self.answers_besides(words / 3, besides, &mut cells, |out, counts| {
+                self.answers_besides(words / LEDGER_WIDTH, besides, &mut cells, |out, counts| {
                     chronicle::nation_ledgers(record, nations, entries, out, counts)
                 })
             }
-            Asked::Players => self.answers(words / 2, |out| chronicle::players(record, out)),
+            Asked::Players => self.answers(
+                words / PLAYER_WIDTH,
+                |out| chronicle::players(record, out),
+            ),
             Asked::Histories(besides) => {
                 let counts = HistoryCounts {
-                    histories: words / 7,
+                    histories: words / HISTORY_WIDTH,
                     names: besides.words.len(),
                 };
                 let mut cells = [BEFORE; MOST_CELLS];

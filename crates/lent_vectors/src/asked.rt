@@ -7,7 +7,7 @@ pub(crate) enum Asked<'a> {
     Questions(&'a [u32]),
     Bookings,
     // The ledger of a nation, and how many rows it is counted to have.
-    NationLedger(Counted),
+    NationLedger(LedgerCount),
     AllLedgers(Besides<'a>),
     Players,
     Histories(Besides<'a>),
@@ -17,7 +17,7 @@ pub(crate) enum Asked<'a> {
 
 // A nation's number, how many of its rows to count at most, and how many there are, or the number of a refusal.
 #[derive(Clone, Copy)]
-pub(crate) struct Counted {
+pub(crate) struct LedgerCount {
     pub(crate) nation: usize,
     pub(crate) most: usize,
     pub(crate) rows: Result<usize, u32>,
@@ -30,10 +30,10 @@ pub(crate) struct Besides<'a> {
     pub(crate) words: &'a [u32],
 }
 
-impl Counted {
-    fn of(words: &[u32]) -> Result<Counted, BrokenOff> {
+impl LedgerCount {
+    fn of(words: &[u32]) -> Result<LedgerCount, BrokenOff> {
         let [nation, most, number, rows] = *words.as_array::<4>().ok_or(BrokenOff)?;
-        Ok(Counted {
+        Ok(LedgerCount {
             nation: nation as usize,
             most: most as usize,
             rows: stored_answer(number, rows as usize),
@@ -57,7 +57,7 @@ impl<'a> Asked<'a> {
         match kind {
             0 => Ok(Asked::Questions(words)),
             1 => Ok(Asked::Bookings),
-            2 => Ok(Asked::NationLedger(Counted::of(words)?)),
+            2 => Ok(Asked::NationLedger(LedgerCount::of(words)?)),
             3 => Ok(Asked::AllLedgers(Besides::of(words)?)),
             4 => Ok(Asked::Players),
             5 => Ok(Asked::Histories(Besides::of(words)?)),

@@ -21,7 +21,7 @@ mod vector;
 
 use std::io;
 use std::io::Read;
-use stored_input::{BrokenOff, Counts, Replay, read_head, read_part, replay_file};
+use stored_input::{BrokenOff, Counts, Replay, read_numbers, read_part, replay_file};
 use vector::{HEAD, Vector};
 
 // How many bytes the record of a vector has at most, and how many numbers the vector behind its head.
@@ -43,7 +43,7 @@ impl Replay for Vectors {
     ghost comes_to = { λ _ _ _. ⊤ };
 
     fn replay<R: Read>(&mut self, count: u32, list: &mut R) -> Result<Counts, BrokenOff> {
-        let head: [u32; HEAD] = read_head(list)?;
+        let head: [u32; HEAD] = read_numbers(list)?;
         let n = (count as usize).checked_sub(HEAD).ok_or(BrokenOff)?;
         let numbers = read_part(list, n, &mut self.numbers)?;
         let [.., bytes] = head;

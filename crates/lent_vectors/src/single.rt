@@ -1,10 +1,9 @@
 // Questions about a lent chronicle, asked one at a time.
-use chronicle::TagData;
-use record::{CountryTag, Eu4Date, Refusal};
+use chronicle::{CountryTag, Eu4Date, Refusal, TagData};
 use stored_input::{BrokenOff, stored_answer};
 
 // How many numbers a question has, with its answer.
-pub(crate) const QUESTION_WIDTH: usize = 7;
+pub(crate) const SINGLE_WIDTH: usize = 7;
 
 // The calls of the resolver, in the order of their numbers.
 #[derive(Clone, Copy)]
@@ -34,7 +33,7 @@ impl TryFrom<u32> for Form {
 pub(crate) fn is_answered(
     nations: &[u32],
     entries: &[u32],
-    question: &[u32; QUESTION_WIDTH],
+    question: &[u32; SINGLE_WIDTH],
 ) -> bool {
     let [form, day, tag, date, number, current, stored] = *question;
     let dated = chronicle::at(Eu4Date::kept(day));

@@ -1,6 +1,6 @@
 // A stored vector: a record, a chronicle that is lent, what is asked about them, and the answer.
 use crate::asked::Asked;
-use crate::single::QUESTION_WIDTH;
+use crate::single::SINGLE_WIDTH;
 use stored_input::{BrokenOff, stored_answer, take_part};
 
 // How many numbers a head has.
@@ -13,7 +13,7 @@ pub(crate) struct Vector<'a> {
     pub(crate) entries: &'a [u32],
 
     // Asked one at a time.
-    pub(crate) questions: &'a [[u32; QUESTION_WIDTH]],
+    pub(crate) questions: &'a [[u32; SINGLE_WIDTH]],
     pub(crate) asked: Asked<'a>,
 
     // How many cells are lent for the answer, and the answer: what stands in them afterwards, or the number of a refusal.
@@ -44,7 +44,7 @@ impl<'a> Vector<'a> {
         let mut left = numbers;
         let nations = take_part(&mut left, nations as usize)?;
         let entries = take_part(&mut left, entries as usize)?;
-        let questions = take_part(&mut left, QUESTION_WIDTH * questions as usize)?;
+        let questions = take_part(&mut left, SINGLE_WIDTH * questions as usize)?;
         let besides = take_part(&mut left, besides as usize)?;
         let answer = take_part(&mut left, answer as usize)?;
         if !left.is_empty() {

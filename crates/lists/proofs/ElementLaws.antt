@@ -82,8 +82,8 @@ module _ {A : Type 0} where
   all_of-at p (y ∷ xs) (suc i) x e h = all_of-at p xs i x e (both (p y) (all_of p xs) h).1
 
 -- The cell of what stands at a place.
-pub cell_at : {A B : Type 0} (f : A → B) (xs : List A) (i : ℕ) (x : A) (d : B) → get_elem? xs i ≡ some x → get_or (map f xs) i d ≡ f x
-cell_at f xs i x d e = at-get_or (map f xs) i (f x) d (map_at f xs i ∙ ap (Option.map f) e)
+pub cell-at : {A B : Type 0} (f : A → B) (xs : List A) (i : ℕ) (x : A) (d : B) → get_elem? xs i ≡ some x → get_or (map f xs) i d ≡ f x
+cell-at f xs i x d e = at-get_or (map f xs) i (f x) d (map_at f xs i ∙ ap (Option.map f) e)
 
 pub at-end : {A : Type 0} (xs : List A) (i : ℕ) → length xs ≤ i → get_elem? xs i ≡ none
 at-end [] i h = refl

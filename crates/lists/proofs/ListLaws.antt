@@ -273,12 +273,12 @@ module _ {A B : Type 0} (width : ℕ) (f : A → List B) (wide : (a : A) → len
       (ap (rows_in width (length xs)) (drop_at (f x) (join_of f xs) width (wide x)) ∙ rows_join xs)
 
 -- Word k of row i stands at width × i + k.
-pub row_at : {A : Type 0} (width n : ℕ) (ws : List A) (i k : ℕ) (d : A) → i < n → k < width
+pub row-at : {A : Type 0} (width n : ℕ) (ws : List A) (i k : ℕ) (d : A) → i < n → k < width
     → get_or (get_or (rows_in width n ws) i []) k d ≡ get_or ws (width * i + k) d
-row_at width zero ws i k d h l = absurd (omega arith)
-row_at width (suc n) ws zero k d h l =
+row-at width zero ws i k d h l = absurd (omega arith)
+row-at width (suc n) ws zero k d h l =
     let e : width * 0 + k ≡ k = omega arith in
     get_or-take width ws k d l ∙ simp e
-row_at width (suc n) ws (suc i) k d h l =
+row-at width (suc n) ws (suc i) k d h l =
     let e : width + (width * i + k) ≡ width * suc i + k = omega (arith, mul-suc width i) in
-    row_at width n (drop width ws) i k d (omega arith) l ∙ (get_or-drop width ws (width * i + k) d ∙ simp e)
+    row-at width n (drop width ws) i k d (omega arith) l ∙ (get_or-drop width ws (width * i + k) d ∙ simp e)

@@ -35,7 +35,7 @@ entry_set rule d xs i k v h e old =
     ]
 
 -- a table of nothing but the default
-pub blank : {A : Type 0} (d : A) (n k : ℕ) → get_or (replicate n d) k d ≡ d
-blank d zero k = refl
-blank d (suc n) zero = refl
-blank d (suc n) (suc k) = blank d n k
+pub blank-entry : {A : Type 0} (d : A) (n k : ℕ) → get_or (replicate n d) k d ≡ d
+blank-entry d zero k = refl
+blank-entry d (suc n) zero = refl
+blank-entry d (suc n) (suc k) = blank-entry d n k

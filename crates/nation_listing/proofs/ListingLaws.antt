@@ -12,7 +12,7 @@ use lib.Seq.{length-take-le}
 use Rattle.lists.proofs.BoolLaws.{cases}
 use Rattle.lists.proofs.ListLaws.{count-le, count-more, join-append}
 use Rattle.format.specs.declared.tag.CountryTag.{CountryTag}
-use Rattle.nation_tables.specs.Layout.{row_span, word_span}
+use Rattle.nation_tables.specs.Layout.{key_numbers, row_span, word_span, no_change}
 use Rattle.nation_tables.specs.Keys.{word_in}
 use Rattle.rules.specs.Chronicle.{Entry, Nation}
 use Rattle.nation_tables.specs.Lookup.{row_in}
@@ -20,6 +20,7 @@ use Rattle.nation_listing.specs.Walks.{Walk}
 use Rattle.nation_tables.specs.Switches.{run_start}
 use Rattle.nation_listing.specs.Entries.{merged_entries, latest_tag}
 use Rattle.nation_listing.specs.Tables.{Readable}
+use Rattle.nation_tables.specs.Holders.{no_tag}
 use Rattle.nation_tables.specs.Gathering.{Cells}
 use Rattle.nation_listing.specs.Listing.{walk_of, lived_of, run_of, row_entries, is_listed, nation_of_key, key_nations, nations_at}
 use Rattle.rules.proofs.RowLaws.{all_entries}
@@ -48,6 +49,10 @@ length_run runs row =
 
 -- ## How many entries a row has
 
+-- A row has at most so many: one for each switch, and two for each change.
+abbrev pub most_row_entries : ℕ
+most_row_entries = key_numbers + 2 * no_change
+
 module _ (w : Cells) where
   -- They are its switches and its lives.
   pub length-entries : (row : ℕ)
@@ -56,11 +61,11 @@ module _ (w : Cells) where
 
   module _ (r : Readable w) where
     -- The lives are few.
-    pub lives-few : (row : ℕ) → length (lived_of w row).entries ≤ 131070
+    pub lives-few : (row : ℕ) → length (lived_of w row).entries ≤ 2 * no_change
     lives-few row = omega (arith, r.chained.few, lived-short w.start w.olds w.news 0 w.keys (walk_of w row))
 
     -- They are few.
-    pub entries-short : (row : ℕ) → length (row_entries w row) ≤ 163840
+    pub entries-short : (row : ℕ) → length (row_entries w row) ≤ most_row_entries
     entries-short row =
         omega (
           arith,
@@ -94,7 +99,7 @@ module _ (w : Cells) where
       (λ h. rw (key-none key h) (omega arith))
 
   -- It gives few entries.
-  pub key-short : Readable w → (key : ℕ) → length (all_entries (key_nations w key)) ≤ 163840
+  pub key-short : Readable w → (key : ℕ) → length (all_entries (key_nations w key)) ≤ most_row_entries
   key-short r key =
       cases (is_listed w.initials key (walk_of w (row_in key)))
       (λ h. rw (key_one key h) (omega (arith, one-entries (nation_of_key w key), entries-short r (row_in key))))
@@ -108,7 +113,7 @@ length-all-entries xs ys = ap length (join-append (λ (n : Nation). n.entries) x
 
 module _ (w : Cells) (r : Readable w) where
   -- Keys give few nations and entries.
-  nations-short : (keys : List ℕ) → (length (nations_at w keys) ≤ length keys) × (length (all_entries (nations_at w keys)) ≤ 163840 * length keys)
+  nations-short : (keys : List ℕ) → (length (nations_at w keys) ≤ length keys) × (length (all_entries (nations_at w keys)) ≤ most_row_entries * length keys)
   nations-short [] = (omega arith, omega arith)
   nations-short (key ∷ keys) =
       let here : List Nation = key_nations w key in
@@ -132,9 +137,8 @@ module _ (w : Cells) (key : ℕ) (walk : Walk) (here : walk ≡ walk_of w (row_i
   -- Of one that is, its nation.
   pub found : is_listed w.initials key walk ≡ true → (run : List ℕ) → run ≡ run_of w.runs (row_in key)
       → (lives entries : List Entry) → lives ≡ (lived_of w (row_in key)).entries → entries ≡ merged_entries w.targets run lives
-      → (initial latest stored : CountryTag) → initial.0 ≡ word_in key → latest ≡ latest_tag w.targets run initial → stored.0 ≡ get_or w.tags (row_in key) 0
+      → (initial latest stored : CountryTag) → initial.0 ≡ word_in key → latest ≡ latest_tag w.targets run initial → stored ≡ get_or w.tags (row_in key) no_tag
       → record { initial = initial; latest = latest; stored = stored; entries = entries } ∷ [] ≡ key_nations w key
   found h run r lives entries l e initial latest stored i t s =
       let first : initial ≡ record { 0 = word_in key } = ap (λ (v : ℕ). record { 0 = v }) i in
-      let kept : stored ≡ record { 0 = get_or w.tags (row_in key) 0 } = ap (λ (v : ℕ). record { 0 = v }) s in
-      rw (t, e, l, r, first, kept) (sym (key_one w key (rw here at h)))
+      rw (t, e, l, r, first, s) (sym (key_one w key (rw here at h)))

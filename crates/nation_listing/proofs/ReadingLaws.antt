@@ -19,14 +19,15 @@ use Rattle.sorting.specs.Sort.{sort_by}
 use Rattle.sorting.specs.Steps.{falls_from}
 use Rattle.sorting.proofs.FallLaws.{falls-none}
 use Rattle.sorting.proofs.SortedKeyLaws.{sorted-up}
+use Rattle.format.specs.declared.tag.CountryTag.{CountryTag}
 use Rattle.format.specs.declared.date.Eu4Date.{Eu4Date}
 use Rattle.nation_tables.specs.Layout.{key_rows, key_numbers, row_key_span, short_span, no_change}
 use Rattle.nation_tables.specs.Lookup.{row_in}
-use Rattle.nation_tables.specs.declared.layout.Turn.{Turn}
+use Rattle.nation_tables.specs.declared.layout.LossGain.{LossGain}
 use Rattle.nation_tables.specs.Turning.{losses, gains}
 use Rattle.nation_tables.specs.Gathering.{Cells, cells_from}
 use Rattle.nation_listing.specs.declared.tables.NationTables.{NationTables}
-use Rattle.nation_listing.specs.Tables.{cells_of, KeyInside, Readable}
+use Rattle.nation_listing.specs.Tables.{table_cells, KeyInside, Readable}
 use Rattle.nation_listing.specs.Reading.{counts_fit, leads_inside, few_slots, keys_rise, links_rise, readable_by, is_readable, readable_of}
 
 -- ## One test more
@@ -63,11 +64,11 @@ module _ (xs : List ℕ) (good : Bool) (last i : ℕ) (found : good && keys_rise
       found-end (keys_rise 0 xs) good (keys_rise last (drop i xs)) (ap (keys_rise last) (drop_of_length-le xs {i = i} h)) found
 
 -- A test of each with its number.
-module _ (xs : List Turn) (good : Bool) (k : ℕ) (found : good && links_rise k (drop k xs) ≡ links_rise 0 xs) where
-  abbrev later : Turn → Bool
+module _ (xs : List LossGain) (good : Bool) (k : ℕ) (found : good && links_rise k (drop k xs) ≡ links_rise 0 xs) where
+  abbrev later : LossGain → Bool
   later x = ltb k x.loss && ltb k x.gain
 
-  pub links-more : (d : Turn) → k < length xs → (good && later (get_or xs k d)) && links_rise (k + 1) (drop (k + 1) xs) ≡ links_rise 0 xs
+  pub links-more : (d : LossGain) → k < length xs → (good && later (get_or xs k d)) && links_rise (k + 1) (drop (k + 1) xs) ≡ links_rise 0 xs
   links-more d h =
       found-more (links_rise 0 xs) good (later (get_or xs k d)) (links_rise k (drop k xs)) (links_rise (k + 1) (drop (k + 1) xs))
       (ap (links_rise k) (next xs k d h)
@@ -100,7 +101,7 @@ sorted-rise (x ∷ xs) e =
     simp (le-leb 0 x (omega arith)) (order-rise x xs o.0 o.1)
 
 -- Links that pass lead to later numbers, and such links pass.
-links-later : (j : ℕ) (xs : List Turn) → links_rise j xs ≡ true → (k : ℕ) → k < length xs
+links-later : (j : ℕ) (xs : List LossGain) → links_rise j xs ≡ true → (k : ℕ) → k < length xs
     → (j + k < get_or (losses xs) k 0) × (j + k < get_or (gains xs) k 0)
 links-later j [] h k l = absurd (omega arith)
 links-later j (x ∷ xs) h zero l =
@@ -114,7 +115,7 @@ links-later j (x ∷ xs) h (suc k) l =
     let r = links-later (suc j) xs b.1 k (omega arith) in
     (omega (arith, r.0), omega (arith, r.1))
 
-later-links : (j : ℕ) (xs : List Turn) → ((k : ℕ) → k < length xs → j + k < get_or (losses xs) k 0)
+later-links : (j : ℕ) (xs : List LossGain) → ((k : ℕ) → k < length xs → j + k < get_or (losses xs) k 0)
     → ((k : ℕ) → k < length xs → j + k < get_or (gains xs) k 0) → links_rise j xs ≡ true
 later-links j [] f g = refl
 later-links j (x ∷ xs) f g =
@@ -145,15 +146,15 @@ five a b c d e h =
     (p.0, p.1, p.2, p.3, r.1)
 
 -- What the code knows behind its test of the counts.
-module _ (words : ℕ) (initials runs : List ℕ) (firsts : ℕ) (started : List ℕ) (keys : ℕ) (turns : List Turn) (fits : Bool)
+module _ (tags : ℕ) (initials runs : List ℕ) (firsts : ℕ) (started : List ℕ) (keys : ℕ) (turns : List LossGain) (fits : Bool)
     (told : fits ≡ counts_fit (length initials) (length runs) keys (length turns)) where
   abbrev rest : Bool
   rest =
-      all_of (leads_inside (min words (min firsts (length started)))) initials && all_of few_slots started && keys_rise 0 initials && keys_rise 0 runs
+      all_of (leads_inside (min tags (min firsts (length started)))) initials && all_of few_slots started && keys_rise 0 initials && keys_rise 0 runs
       && links_rise 0 turns
 
   -- They do not fit.
-  pub unfit : not fits ≡ true → false ≡ readable_by words initials runs firsts started keys turns
+  pub unfit : not fits ≡ true → false ≡ readable_by tags initials runs firsts started keys turns
   unfit h = ap (λ (x : Bool). x && rest) (sym (not-true fits h) ∙ told)
 
   module _ (h : not fits ≡ false) where
@@ -164,21 +165,21 @@ module _ (words : ℕ) (initials runs : List ℕ) (firsts : ℕ) (started : List
         omega (arith, leb-true keys no_change p.2, eqb-true (length turns) keys p.3)
 
     -- The tests of the cells tell the rest.
-    pub fit-read : (rows low : ℕ) → low ≡ min firsts (length started) → rows ≡ min words low → (leads few rises runs_rise later : Bool)
+    pub fit-read : (rows low : ℕ) → low ≡ min firsts (length started) → rows ≡ min tags low → (leads few rises runs_rise later : Bool)
         → leads ≡ all_of (leads_inside rows) initials → few ≡ all_of few_slots started → rises ≡ keys_rise 0 initials → runs_rise ≡ keys_rise 0 runs
-        → later ≡ links_rise 0 turns → (leads && few && rises && runs_rise && later) ≡ readable_by words initials runs firsts started keys turns
+        → later ≡ links_rise 0 turns → (leads && few && rises && runs_rise && later) ≡ readable_by tags initials runs firsts started keys turns
     fit-read rows low el er leads few rises runs_rise later e₀ e₁ e₂ e₃ e₄ =
         rw (sym told ∙ not-false fits h) (rw (e₀, e₁, e₂, e₃, e₄, er, el) refl)
 
-module _ (words initials runs targets : List ℕ) (firsts : List Turn) (started keys : List ℕ) (turns : List Turn) (start : Eu4Date) where
+module _ (tags : List CountryTag) (initials runs targets : List ℕ) (firsts : List LossGain) (started keys : List ℕ) (turns : List LossGain) (start : Eu4Date) where
   abbrev cells : Cells
-  cells = cells_from words initials runs targets firsts started keys turns start
+  cells = cells_from tags initials runs targets firsts started keys turns start
 
   abbrev rows : ℕ
-  rows = min (length words) (min (length firsts) (length started))
+  rows = min (length tags) (min (length firsts) (length started))
 
   abbrev readable : Bool
-  readable = is_readable words initials runs firsts started keys turns
+  readable = is_readable tags initials runs firsts started keys turns
 
   high : length (losses firsts) ≡ length firsts
   high = length-map firsts (λ x. x.loss)
@@ -224,7 +225,7 @@ module _ (words initials runs targets : List ℕ) (firsts : List Turn) (started 
         started = λ k d h. all-inside (λ n. n ≤ short_span) started k d (all_map (λ n t. leb-true n short_span t) started (all_of-all few_slots started p.1)) h;
       }
 
-  leads-inside : (k : ℕ) → row_in k < length words → row_in k < length firsts → row_in k < length started → k < row_key_span → leads_inside rows k ≡ true
+  leads-inside : (k : ℕ) → row_in k < length tags → row_in k < length firsts → row_in k < length started → k < row_key_span → leads_inside rows k ≡ true
   leads-inside k a b c d = rw (lt-ltb (row_in k) rows (omega arith), lt-ltb k row_key_span d) refl
 
   -- Tables that can be read pass.
@@ -246,5 +247,5 @@ module _ (words initials runs targets : List ℕ) (firsts : List Turn) (started 
       refl
 
 -- Tables that are lent, by the test of the code.
-pub readable-tables : (t : NationTables) → readable_of t ≡ true → Readable (cells_of t)
-readable-tables t h = readable-cells t.tag_words.now t.initial_keys.now t.runs.now t.targets.now t.firsts.now t.started.now t.keys.now t.turns.now t.start h
+pub readable-tables : (t : NationTables) → readable_of t ≡ true → Readable (table_cells t)
+readable-tables t h = readable-cells t.tags.now t.initial_keys.now t.runs.now t.targets.now t.firsts.now t.started.now t.keys.now t.turns.now t.start h

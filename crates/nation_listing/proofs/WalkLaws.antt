@@ -14,7 +14,8 @@ use Rattle.format.specs.declared.date.Eu4Date.{Eu4Date}
 use Rattle.format.specs.Dates.{earlier}
 use Rattle.rules.specs.Chronicle.{appeared, annexed, Entry}
 use Rattle.rules.specs.Nations.{turn_entries, turn_count}
-use Rattle.nation_tables.specs.declared.layout.Turn.{Turn}
+use Rattle.nation_tables.specs.Layout.{no_change}
+use Rattle.nation_tables.specs.declared.layout.LossGain.{LossGain}
 use Rattle.nation_tables.specs.Turning.{Lived, before, key_date, losses, gains}
 use Rattle.nation_listing.specs.declared.lives.Lives.{Lives}
 use Rattle.nation_listing.specs.Lives.{walk_in, lives_left}
@@ -174,7 +175,7 @@ module _ (start : Eu4Date) (keys olds news : List ℕ) (s : Chained keys olds ne
       gain-silent e = rw p (rw (rw d at e) at gain)
 
 -- A link as the code reads it.
-module _ (turns : List Turn) (k n : ℕ) (e : k ≡ n) where
+module _ (turns : List LossGain) (k n : ℕ) (e : k ≡ n) where
   pub linked-loss : (get_or turns k (record { loss = 0; gain = 0 })).loss ≡ get_or (losses turns) n 0
   linked-loss = rw e (sym (get_or-map (λ x. x.loss) turns n (record { loss = 0; gain = 0 })))
 
@@ -219,6 +220,6 @@ lived-short start olds news k (x ∷ xs) c =
     )
 
 -- So an iterator has few lives left.
-pub lives-short : (l : Lives) → length (lives_left l) ≤ 131070
+pub lives-short : (l : Lives) → length (lives_left l) ≤ 2 * no_change
 lives-short l =
     omega (arith, l.chained.few, lived-short l.start (losses l.turns.now) (gains l.turns.now) 0 l.keys.now (walk_in l))

@@ -14,7 +14,7 @@ use Rattle.rules.specs.NationRows.{nation_width, nation_row_words, nation_rows_f
 use Rattle.chronicle_rows.specs.RowAt.{row_put}
 use Rattle.nation_tables.specs.Layout.{word_span}
 use Rattle.nation_listing.specs.Entries.{entries_words}
-use Rattle.nation_listing.specs.Placing.{row_of, NationRoom, NationPut, NationsRoom, NationsWritten}
+use Rattle.nation_listing.specs.Placing.{nation_row, NationRoom, NationPut, NationsRoom, NationsWritten}
 use Rattle.rules.proofs.RowLaws.{all_entries}
 use Rattle.nation_listing.proofs.MergeEntryLaws.{length-entries-words}
 
@@ -27,7 +27,7 @@ abbrev pub rows_words : ℕ → List Nation → List ℕ
 rows_words first ns = join_of nation_row_words (nation_rows_from first ns)
 
 -- Those of a nation stand before those of the nations behind it.
-row-next : (first : ℕ) (n : Nation) (ns : List Nation) → rows_words first (n ∷ ns) ≡ nation_row_words (row_of first n) ++ rows_words (first + length n.entries) ns
+row-next : (first : ℕ) (n : Nation) (ns : List Nation) → rows_words first (n ∷ ns) ≡ nation_row_words (nation_row first n) ++ rows_words (first + length n.entries) ns
 unfolding nation_rows_from
 row-next first n ns = refl
 
@@ -69,7 +69,7 @@ module _ (all : List Nation) (x : Nation) (rest : List Nation) (n first : ℕ) (
         p.nations.fits,
         p.nations.long,
         ap length (row-next first x rest),
-        length-append (nation_row_words (row_of first x)) (rows_words (first + length x.entries) rest),
+        length-append (nation_row_words (nation_row first x)) (rows_words (first + length x.entries) rest),
       )
 
   -- So do its entries.
@@ -108,7 +108,7 @@ module _ (all : List Nation) (x : Nation) (rest : List Nation) (n first : ℕ) (
       → Placing all rest n' first' rows₀ (take (nation_width * n) rows ++ (rows' ++ drop (length rows - nation_width * n) (drop (nation_width * n) rows)))
       entries₀ (take (entry_width * first) entries ++ (entries' ++ drop (length entries - entry_width * first) (drop (entry_width * first) entries)))
   place-more count rows' entries' put n' first' a b =
-      let row : List ℕ = nation_row_words (row_of first x) in
+      let row : List ℕ = nation_row_words (nation_row first x) in
       let told : List ℕ = entries_words x.entries in
       let nations-more : nation_width * (n + 1) ≡ nation_width * n + length row = omega arith in
       let entries-more : entry_width * (first + length x.entries) ≡ entry_width * first + length told = omega (arith, length-entries-words x.entries) in

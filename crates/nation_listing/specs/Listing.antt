@@ -9,6 +9,7 @@ use Rattle.nation_tables.specs.Layout.{key_rows, no_change}
 use Rattle.nation_tables.specs.Keys.{word_in}
 use Rattle.nation_tables.specs.Lookup.{row_in, last_within}
 use Rattle.nation_tables.specs.Turning.{Lived}
+use Rattle.nation_tables.specs.Holders.{no_tag}
 use Rattle.nation_tables.specs.Switches.{run_start}
 use Rattle.nation_tables.specs.Gathering.{Cells}
 use Rattle.nation_listing.specs.declared.listing.ListedNation.{ListedNation}
@@ -52,7 +53,7 @@ nation_of_key w key =
     record {
       initial = record { 0 = word_in key };
       latest = latest_tag w.targets (run_of w.runs (row_in key)) (record { 0 = word_in key });
-      stored = record { 0 = get_or w.tags (row_in key) 0 };
+      stored = get_or w.tags (row_in key) no_tag;
       entries = row_entries w (row_in key);
     }
 

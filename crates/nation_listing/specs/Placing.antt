@@ -19,8 +19,8 @@ pub record EntriesWritten (entries : List Entry) (count : ℕ) (before after : L
   pub cells : after ≡ written (entries_words entries) before
 
 -- The row of a nation whose entries begin at a number.
-abbrev pub row_of : ℕ → Nation → NationRow
-row_of first n = record { initial = n.initial; latest = n.latest; stored = n.stored; first = first; count = length n.entries }
+abbrev pub nation_row : ℕ → Nation → NationRow
+nation_row first n = record { initial = n.initial; latest = n.latest; stored = n.stored; first = first; count = length n.entries }
 
 -- Room for the row of a nation and for those of its entries.
 pub record NationRoom (n : Nation) (rows₀ entries₀ : List ℕ) : Type 0 where
@@ -29,7 +29,7 @@ pub record NationRoom (n : Nation) (rows₀ entries₀ : List ℕ) : Type 0 wher
 
 -- They are written.
 pub record NationPut (n : Nation) (first count : ℕ) (rows₀ rows₁ entries₀ entries₁ : List ℕ) : Type 0 where
-  pub row : rows₁ ≡ written (nation_row_words (row_of first n)) rows₀
+  pub row : rows₁ ≡ written (nation_row_words (nation_row first n)) rows₀
   pub told : EntriesWritten n.entries count entries₀ entries₁
 
 -- Room for the rows of nations and of their entries.

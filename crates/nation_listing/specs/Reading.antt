@@ -1,10 +1,11 @@
 -- Whether tables can be read, as a test: no call of 01 is promised by it, and no table of a record fails it.
 use Rattle.std.specs.Prelude.{Bool, true, ◌&&◌, List, [], ◌∷◌, ℕ, suc, min, leb, ltb, eqb, length}
 use Rattle.lists.specs.Lists.{all_of}
+use Rattle.format.specs.declared.tag.CountryTag.{CountryTag}
 use Rattle.nation_listing.specs.declared.tables.NationTables.{NationTables}
 use Rattle.nation_listing.specs.declared.tables.ReadableTables.{ReadableTables}
 use Rattle.nation_tables.specs.Layout.{key_rows, key_numbers, row_key_span, short_span, no_change}
-use Rattle.nation_tables.specs.declared.layout.Turn.{Turn}
+use Rattle.nation_tables.specs.declared.layout.LossGain.{LossGain}
 use Rattle.nation_tables.specs.Lookup.{row_in}
 use Rattle.nation_tables.specs.Gathering.{Cells, cells_from}
 
@@ -26,28 +27,28 @@ keys_rise last [] = true
 keys_rise last (key ∷ keys) = leb last key && keys_rise key keys
 
 -- Each change, numbered from k on, leads twice to a later number.
-abbrev pub links_rise : ℕ → List Turn → Bool
+abbrev pub links_rise : ℕ → List LossGain → Bool
 links_rise k [] = true
 links_rise k (x ∷ xs) = (ltb k x.loss && ltb k x.gain) && links_rise (suc k) xs
 
 -- Tables can be read, three of them by their length.
-abbrev pub readable_by : ℕ → List ℕ → List ℕ → ℕ → List ℕ → ℕ → List Turn → Bool
-readable_by words initials runs firsts started keys turns =
+abbrev pub readable_by : ℕ → List ℕ → List ℕ → ℕ → List ℕ → ℕ → List LossGain → Bool
+readable_by tags initials runs firsts started keys turns =
     counts_fit (length initials) (length runs) keys (length turns)
-    && (all_of (leads_inside (min words (min firsts (length started)))) initials
+    && (all_of (leads_inside (min tags (min firsts (length started)))) initials
     && all_of few_slots started
     && keys_rise 0 initials
     && keys_rise 0 runs
     && links_rise 0 turns)
 
 -- Tables can be read.
-abbrev pub is_readable : List ℕ → List ℕ → List ℕ → List Turn → List ℕ → List ℕ → List Turn → Bool
-is_readable words initials runs firsts started keys turns = readable_by (length words) initials runs (length firsts) started (length keys) turns
+abbrev pub is_readable : List CountryTag → List ℕ → List ℕ → List LossGain → List ℕ → List ℕ → List LossGain → Bool
+is_readable tags initials runs firsts started keys turns = readable_by (length tags) initials runs (length firsts) started (length keys) turns
 
 abbrev pub readable_of : NationTables → Bool
-readable_of t = is_readable t.tag_words.now t.initial_keys.now t.runs.now t.firsts.now t.started.now t.keys.now t.turns.now
+readable_of t = is_readable t.tags.now t.initial_keys.now t.runs.now t.firsts.now t.started.now t.keys.now t.turns.now
 
 -- The cells of tables that can be read.
 abbrev pub cells_in : ReadableTables → Cells
 cells_in t =
-    cells_from t.tag_words.now t.initial_keys.keys.now t.runs.keys.now t.targets.now t.firsts.now t.started.now t.keys.now t.turns.now t.start
+    cells_from t.tags.now t.initial_keys.keys.now t.runs.keys.now t.targets.now t.firsts.now t.started.now t.keys.now t.turns.now t.start

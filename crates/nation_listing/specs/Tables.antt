@@ -8,9 +8,9 @@ use Rattle.nation_listing.specs.declared.tables.NationTables.{NationTables}
 use Rattle.nation_listing.specs.Walks.{Chained}
 
 -- The cells of the tables.
-abbrev pub cells_of : NationTables → Cells
-cells_of t =
-    cells_from t.tag_words.now t.initial_keys.now t.runs.now t.targets.now t.firsts.now t.started.now t.keys.now t.turns.now t.start
+abbrev pub table_cells : NationTables → Cells
+table_cells t =
+    cells_from t.tags.now t.initial_keys.now t.runs.now t.targets.now t.firsts.now t.started.now t.keys.now t.turns.now t.start
 
 -- A key of an initial is one of a word, and of a row that each table of rows has.
 pub record KeyInside (w : Cells) (key : ℕ) : Type 0 where

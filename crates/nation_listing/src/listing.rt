@@ -52,7 +52,7 @@ impl<'a> ReadableTables<'a> {
         &self.runs.keys[from..end]
     }
 
-    // The nation of a key of an initial, if it is listed. The word that it is stored under is a tag's, and is not tested again.
+    // The nation of a key of an initial, if it is listed.
     fn listed(&self, key: u64) -> Option<ListedNation<'a>>
         requires { KeyInside (cells_in self.now) key }
         ensures { nation_listed result ≡ key_nations (cells_in self.now) key }
@@ -67,7 +67,7 @@ impl<'a> ReadableTables<'a> {
         Some(ListedNation {
             initial,
             latest: entries::latest(run, self.targets, initial),
-            stored: CountryTag::kept(self.tag_words[row]),
+            stored: self.tags[row],
             entries: Entries::of(run, self.targets, lives),
         })
     }

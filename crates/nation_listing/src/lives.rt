@@ -7,7 +7,7 @@ ghost use Rattle.nation_listing.specs.Walks.{Chained};
 use crate::tables::ReadableTables;
 use change_keys::PER_DATE;
 use chronicle_rows::{Entry, Kind};
-use nation_tables::{NO_CHANGE, Turn};
+use nation_tables::{LossGain, NO_CHANGE};
 use record::Eu4Date;
 
 // An iterator over a country's lives: keys and links of the changes, the next changes at which it loses and gains a slot, and the slots that
@@ -15,9 +15,9 @@ use record::Eu4Date;
 #[derive(Clone, Copy)]
 pub(crate) struct Lives<'a> {
     keys: &'a [u64],
-    turns: &'a [Turn],
+    turns: &'a [LossGain],
     start: Eu4Date,
-    next: Turn,
+    next: LossGain,
     held: u32,
     ghost chained: { Chained keys.now (losses turns.now) (gains turns.now) },
     ghost light: { held ≤ next.gain + short_span },
@@ -125,7 +125,7 @@ impl Iterator for Lives<'_> {
 
     ghost remaining = { item_count lives_left };
 
-    // Not a `for`: a turn is one of two chains' next changes, and asks that one is left.
+    // Not a `for`: a step takes the next change of one of two chains, and asks that one is left.
     fn next(&mut self) -> Option<Entry> {
         while self.more() {
             if let Some(entry) = self.turn() {

@@ -2,7 +2,7 @@
 ghost use Rattle.std.specs.Prelude.{◌≡◌, ◌+◌, ◌*◌, ◌≤◌, ◌<◌, length};
 ghost use Rattle.rules.specs.NationRows.{entry_width};
 ghost use Rattle.nation_tables.specs.Layout.{word_span};
-ghost use Rattle.nation_listing.specs.Tables.{cells_of};
+ghost use Rattle.nation_listing.specs.Tables.{table_cells};
 ghost use Rattle.nation_listing.specs.Entries.{entries_left};
 ghost use Rattle.nation_listing.specs.Reading.{readable_of};
 ghost use Rattle.nation_listing.specs.Listing.{listed_in, nations_at};
@@ -11,7 +11,7 @@ ghost use Rattle.nation_listing.specs.Placing.{EntriesWritten, NationRoom, Natio
 use crate::entries::Entries;
 use crate::listing::ListedNation;
 use crate::tables::{NationTables, ReadableTables};
-use chronicle_rows::{ENTRY_WIDTH, NATION_WIDTH, Nation, put};
+use chronicle_rows::{ENTRY_WIDTH, NATION_WIDTH, NationRow, put};
 use record::Refusal;
 
 // How many nations are listed, and how many entries they have.
@@ -49,7 +49,7 @@ fn write_nation(
     ensures { NationPut (listed_in nation.entry) first result nations.old nations.new entries.old entries.new }
 {
     let count = write_entries(nation.entries, entries);
-    let row = Nation {
+    let row = NationRow {
         initial: nation.initial,
         latest: nation.latest,
         stored: nation.stored,
@@ -106,7 +106,7 @@ pub fn place_nations(
     nations: &mut [u32],
     entries: &mut [u32],
 ) -> Result<Listed, Refusal>
-    ensures { placed_told (readable_of tables.now) (nations_at (cells_of tables.now) tables.now.initial_keys.now) result nations.old nations.new entries.old entries.new }
+    ensures { placed_told (readable_of tables.now) (nations_at (table_cells tables.now) tables.now.initial_keys.now) result nations.old nations.new entries.old entries.new }
 {
     let tables = tables.readable().ok_or(Refusal::NotShaped)?;
     let listed = tables.count_nations();

@@ -6,11 +6,11 @@ ghost use Rattle.nation_tables.specs.Layout.{no_change};
 ghost use Rattle.nation_listing.specs.Reading.{counts_fit, leads_inside, few_slots, keys_rise, links_rise, readable_of};
 
 use crate::tables::{NationTables, ReadableTables};
-use nation_tables::{KEY_NUMBERS, KEY_ROWS, NO_CHANGE, ROW_KEY_SPAN, Turn};
+use nation_tables::{KEY_NUMBERS, KEY_ROWS, LossGain, NO_CHANGE, ROW_KEY_SPAN, SHORT_SPAN};
 use search::SortedKeys;
 
 // From so few slots a walk counts up to what it holds within 32 bits: at most one more at each change.
-const FEW_SLOTS: u32 = 65536;
+const FEW_SLOTS: u32 = SHORT_SPAN as u32;
 
 // Whether so many initials, switches and changes are few enough, with a link for each change. A change's number is below NO_CHANGE, which ends
 // chains.
@@ -57,7 +57,7 @@ fn keys_rise(keys: &[u64]) -> bool
 }
 
 // Whether each change leads to later ones, or to none. Not by a fold: its step would not know that the number of a change fits 16 bits.
-fn links_rise(turns: &[Turn]) -> bool
+fn links_rise(turns: &[LossGain]) -> bool
     requires { length turns.now ≤ no_change }
     ensures { result ≡ links_rise 0 turns.now }
 {
@@ -71,7 +71,7 @@ fn links_rise(turns: &[Turn]) -> bool
 
 impl<'a> NationTables<'a> {
     ghost use Rattle.std.specs.Prelude.{IfSome, is_some};
-    ghost use Rattle.nation_listing.specs.Tables.{cells_of};
+    ghost use Rattle.nation_listing.specs.Tables.{table_cells};
     ghost use Rattle.nation_listing.specs.Reading.{cells_in};
 
     // Whether the tables can be read.
@@ -79,7 +79,7 @@ impl<'a> NationTables<'a> {
         ensures { result ≡ readable_of self.now }
     {
         let NationTables {
-            tag_words,
+            tags,
             initial_keys,
             runs,
             firsts,
@@ -91,7 +91,7 @@ impl<'a> NationTables<'a> {
         if !counts_fit(initial_keys.len(), runs.len(), keys.len(), turns.len()) {
             return false;
         }
-        let rows = tag_words.len().min(firsts.len().min(started.len()));
+        let rows = tags.len().min(firsts.len().min(started.len()));
         lead_inside(initial_keys, rows)
             & few_slots(started)
             & keys_rise(initial_keys)
@@ -102,13 +102,13 @@ impl<'a> NationTables<'a> {
     // The tables, if they can be read.
     pub(crate) fn readable(&self) -> Option<ReadableTables<'a>>
         ensures test { is_some result ≡ readable_of self.now }
-        ensures tables { IfSome result (λ t. cells_in t ≡ cells_of self.now) }
+        ensures tables { IfSome result (λ t. cells_in t ≡ table_cells self.now) }
     {
         if !self.is_readable() {
             return None;
         }
         Some(ReadableTables {
-            tag_words: self.tag_words,
+            tags: self.tags,
             initial_keys: SortedKeys {
                 keys: self.initial_keys,
             },

@@ -22,6 +22,10 @@ use Rattle.nation_tables.specs.Lookup.{last_within}
 abbrev pub tag_at_row : List Country → ℕ → Option CountryTag
 tag_at_row ks row = Option.map (λ k. k.tag) (get_elem? ks row)
 
+-- The countries' tags, in row order.
+abbrev pub country_tags : List Country → List CountryTag
+country_tags ks = map (λ k. k.tag) ks
+
 -- The words of the countries' tags and initials, in row order.
 abbrev pub words_of_tags : List Country → List ℕ
 words_of_tags ks = map (λ k. k.tag.0) ks
@@ -117,9 +121,9 @@ pub record OwnLast (ks : List Country) : Type 0 where
 
 -- ## What the functions leave
 
--- The words of the countries' tags and initials.
-pub record Tabled (ks : List Country) (tags₀ tags₁ initials₀ initials₁ : List ℕ) : Type 0 where
-  pub tags : tags₁ ≡ written (words_of_tags ks) tags₀
+-- The countries' tags, and the words of their initials.
+pub record Tabled (ks : List Country) (tags₀ tags₁ : List CountryTag) (initials₀ initials₁ : List ℕ) : Type 0 where
+  pub tags : tags₁ ≡ country_tags ks ++ drop (length (country_tags ks)) tags₀
   pub initials : initials₁ ≡ written (initial_words ks) initials₀
 
 -- So many cells in the front of a slice.

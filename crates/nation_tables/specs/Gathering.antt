@@ -4,6 +4,7 @@ use Rattle.std.specs.Prelude as code
 use Rattle.std.specs.Prelude.{IfOk, ◌≡◌, Bool, false, ◌&&◌, List, ℕ, suc, ◌≤◌, ◌<◌, leb, length, take}
 use Rattle.lists.specs.Lists.{twice}
 use Rattle.sorting.specs.Sort.{sort_by}
+use Rattle.format.specs.declared.tag.CountryTag.{CountryTag}
 use Rattle.format.specs.declared.date.Eu4Date.{Eu4Date}
 use Rattle.format.specs.Sound.{Sound}
 use Rattle.format.specs.Refusal.{refusal}
@@ -20,8 +21,8 @@ use Rattle.nation_tables.specs.declared.gathering.Sizes.{Sizes}
 use Rattle.nation_tables.specs.declared.gathering.TableSizes.{TableSizes}
 use Rattle.nation_tables.specs.declared.gathering.TablesGathered.{TablesGathered}
 use Rattle.nation_tables.specs.Layout.{most_countries, most_switches, most_settling, most_slots, rows_within}
-use Rattle.nation_tables.specs.Countries.{words_of_tags, initial_words, row_keys, switch_keys_from, settling_keys_from, settling_keys, Keyed}
-use Rattle.nation_tables.specs.declared.layout.Turn.{Turn}
+use Rattle.nation_tables.specs.Countries.{country_tags, words_of_tags, initial_words, row_keys, switch_keys_from, settling_keys_from, settling_keys, Keyed}
+use Rattle.nation_tables.specs.declared.layout.LossGain.{LossGain}
 use Rattle.nation_tables.specs.Turning.{losses, gains, Linked, TurnsLinked, Rowed, row_turns_of}
 use Rattle.nation_tables.specs.Holders.{started_of, slot_cells}
 use Rattle.nation_tables.specs.Switches.{run_keys, target_words}
@@ -29,17 +30,17 @@ use Rattle.nation_tables.specs.Switches.{run_keys, target_words}
 -- ## Steps
 
 -- Room for a cell of each country, and for the keys that changes settle by.
-pub record TablesRoom (ks : List Country) (words₀ scratch₀ initials₀ switches₀ : List ℕ) : Type 0 where
-  pub words : length ks ≤ length words₀
+pub record TablesRoom (ks : List Country) (tags₀ : List CountryTag) (scratch₀ initials₀ switches₀ : List ℕ) : Type 0 where
+  pub tags : length ks ≤ length tags₀
   pub scratch : length ks ≤ length scratch₀
   pub initials : length ks ≤ length initials₀
   pub switches : length (settling_keys_from 0 ks) ≤ length switches₀
 
 -- The tables stand at the front of their cells.
-pub record TablesFilled (ks : List Country) (r : Sizes) (words₁ initials₁ switches₁ : List ℕ) : Type 0 where
+pub record TablesFilled (ks : List Country) (r : Sizes) (tags₁ : List CountryTag) (initials₁ switches₁ : List ℕ) : Type 0 where
   pub countries : r.countries ≡ length ks
   pub keyed : r.settling ≡ length (settling_keys_from 0 ks)
-  pub words : take r.countries words₁ ≡ words_of_tags ks
+  pub tags : take r.countries tags₁ ≡ country_tags ks
   pub initials : take r.countries initials₁ ≡ row_keys (initial_words ks)
   pub switches : take r.settling switches₁ ≡ settling_keys ks
 
@@ -49,17 +50,17 @@ pub record SwitchesRoom (ks : List Country) (runs₀ targets₀ : List ℕ) : Ty
   pub targets : length (switch_keys_from 0 ks) ≤ length targets₀
 
 -- Chains of losses and gains, and the keys and targets of switches at the front of their cells.
-pub record Arranged (ks : List Country) (turns₀ turns₁ firsts₁ : List Turn) (runs₁ targets₁ : List ℕ) : Type 0 where
+pub record Arranged (ks : List Country) (turns₀ turns₁ firsts₁ : List LossGain) (runs₁ targets₁ : List ℕ) : Type 0 where
   pub linked : TurnsLinked turns₀ turns₁ firsts₁
   pub runs : take (length (switch_keys_from 0 ks)) runs₁ ≡ run_keys ks
   pub targets : take (length (switch_keys_from 0 ks)) targets₁ ≡ target_words ks
 
 -- ## What is gathered
 
--- The words of tags, the keys of initials, the keys and targets of switches, the chains of changes with their first ones for each row, the
+-- The tags of countries, the keys of initials, the keys and targets of switches, the chains of changes with their first ones for each row, the
 -- slots that each row starts with, the keys of changes, and the start date.
 pub record Cells : Type 0 where
-  pub tags : List ℕ
+  pub tags : List CountryTag
   pub initials : List ℕ
   pub runs : List ℕ
   pub targets : List ℕ
@@ -72,7 +73,7 @@ pub record Cells : Type 0 where
   pub start : Eu4Date
 
 -- The cells as they are lent: the first losses and gains stand together, and so do the links of changes.
-abbrev pub cells_from : List ℕ → List ℕ → List ℕ → List ℕ → List Turn → List ℕ → List ℕ → List Turn → Eu4Date → Cells
+abbrev pub cells_from : List CountryTag → List ℕ → List ℕ → List ℕ → List LossGain → List ℕ → List ℕ → List LossGain → Eu4Date → Cells
 cells_from tags initials runs targets firsts started keys turns start =
     record {
       tags = tags;
@@ -89,9 +90,9 @@ cells_from tags initials runs targets firsts started keys turns start =
     }
 
 -- So many cells from the front of each table.
-abbrev pub fronts_of : TableSizes → List ℕ → List ℕ → List ℕ → List ℕ → List Turn → List ℕ → List ℕ → List Turn → Cells
-fronts_of z words initials runs targets firsts started keys turns =
-    cells_from (take z.countries words) (take z.countries initials) (take z.switches runs) (take z.switches targets) firsts
+abbrev pub fronts_of : TableSizes → List CountryTag → List ℕ → List ℕ → List ℕ → List LossGain → List ℕ → List ℕ → List LossGain → Cells
+fronts_of z tags initials runs targets firsts started keys turns =
+    cells_from (take z.countries tags) (take z.countries initials) (take z.switches runs) (take z.switches targets) firsts
     (take z.countries started) (take z.changes keys) (take z.changes turns) z.start
 
 -- Cells of a campaign: the tables of its countries, the runs and targets of its switches, and the chains of its turns by rows.
@@ -99,7 +100,7 @@ pub record CampaignCells (c : Campaign) (w : Cells) : Type 0 where
   pub keyed : Keyed c.countries
   pub once : twice (words_of_tags c.countries) ≡ false
   pub sound : Sound c
-  pub tags : w.tags ≡ words_of_tags c.countries
+  pub tags : w.tags ≡ country_tags c.countries
   pub initials : w.initials ≡ row_keys (initial_words c.countries)
   pub runs : w.runs ≡ run_keys c.countries
   pub few_runs : length w.runs ≤ most_switches
@@ -136,6 +137,11 @@ pub record FillAsked (xs : List ℕ) (from : Record) (c p m n : ℕ) : Type 0 wh
   pub begun : Begun xs from
   pub room : TableRoom (length xs) c p m n
 
+-- The same, and the tables of its countries and switches, which are filled.
+pub record ChangesAsked (xs : List ℕ) (from : Record) (c p m n : ℕ) (r : Sizes) (tags₁ : List CountryTag) (initials₁ switches₁ : List ℕ) : Type 0 where
+  pub asked : FillAsked xs from c p m n
+  pub filled : TablesFilled (countries_left from.countries) r tags₁ initials₁ switches₁
+
 -- The room as it is tested.
 abbrev pub room_of : ℕ → ℕ → ℕ → ℕ → ℕ → Bool
 room_of bytes countries slots keys changes =
@@ -145,18 +151,18 @@ room_of bytes countries slots keys changes =
     && leb (rows_within most_changes bytes) changes
 
 -- The tables of an accepted record at the fronts of their cells, the targets in front of those that served the sorts; and how many there are.
-pub record Gathered (xs : List ℕ) (z : TableSizes) (provinces₀ : Provinces) (words₁ initials₁ runs₁ keys₁ targets₁ slots₁ started₁ : List ℕ) (turns₁ firsts₁ : List Turn) : Type 0 where
+pub record Gathered (xs : List ℕ) (z : TableSizes) (provinces₀ : Provinces) (tags₁ : List CountryTag) (initials₁ runs₁ keys₁ targets₁ slots₁ started₁ : List ℕ) (turns₁ firsts₁ : List LossGain) : Type 0 where
   pub ready : AtFirstProvince xs provinces₀
   pub start : z.start ≡ (campaign_of xs).start
   pub countries : z.countries ≡ length (campaign_of xs).countries
   pub changes : z.changes ≡ length (changes_of (campaign_of xs))
   pub slotted : z.slots ≡ suc (length (campaign_of xs).provinces)
   pub switches : z.switches ≡ length (switch_keys_from 0 (campaign_of xs).countries)
-  pub cells : CampaignCells (campaign_of xs) (fronts_of z words₁ initials₁ runs₁ targets₁ firsts₁ started₁ keys₁ turns₁)
+  pub cells : CampaignCells (campaign_of xs) (fronts_of z tags₁ initials₁ runs₁ targets₁ firsts₁ started₁ keys₁ turns₁)
   pub sorted : take z.changes keys₁ ≡ sort_by leb (change_keys_from 0 (entered xs))
   pub slots : take z.slots slots₁ ≡ slot_cells (campaign_of xs) (holders_of (campaign_of xs))
 
 -- What is gathered of any bytes: the tables, or the number by which they are refused.
-pub record RightlyGathered (xs : List ℕ) (r : code.Result TablesGathered Refusal) (words₁ initials₁ runs₁ keys₁ targets₁ slots₁ started₁ : List ℕ) (turns₁ firsts₁ : List Turn) : Type 0 where
+pub record RightlyGathered (xs : List ℕ) (r : code.Result TablesGathered Refusal) (tags₁ : List CountryTag) (initials₁ runs₁ keys₁ targets₁ slots₁ started₁ : List ℕ) (turns₁ firsts₁ : List LossGain) : Type 0 where
   pub number : number_of r ≡ refusal xs
-  pub tables : IfOk r (λ t. Gathered xs t.sizes t.provinces words₁ initials₁ runs₁ keys₁ targets₁ slots₁ started₁ turns₁ firsts₁)
+  pub tables : IfOk r (λ t. Gathered xs t.sizes t.provinces tags₁ initials₁ runs₁ keys₁ targets₁ slots₁ started₁ turns₁ firsts₁)

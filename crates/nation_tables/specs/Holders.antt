@@ -13,30 +13,30 @@ use Rattle.rules.specs.Changes.{changes_of}
 use Rattle.rules.specs.Nations.{matches, start_holders, all_switches, settles, holders_of}
 use Rattle.change_keys.specs.ChangeSteps.{entered, per_id, change_keys_from, AtFirstProvince}
 use Rattle.nation_tables.specs.Layout.{most_slots, word_span, key_dates, key_tags, cell_rows, nobody_cell}
-use Rattle.nation_tables.specs.Countries.{words_of_tags, initial_words, row_keys, settling_keys, Keyed, OwnLast}
-use Rattle.nation_tables.specs.declared.layout.Turn as code
+use Rattle.nation_tables.specs.Countries.{country_tags, words_of_tags, initial_words, row_keys, settling_keys, Keyed, OwnLast}
+use Rattle.nation_tables.specs.declared.layout.LossGain as code
 use Rattle.nation_tables.specs.Turning.{losses, gains, key_date, row_among, RowTurn, row_turns_of, Rowed}
 
 -- ## Tables
 
--- The words of the countries' tags, and the keys that changes settle by.
-pub record Settler (ks : List Country) (ws ss : List ℕ) : Type 0 where
+-- The countries' tags, and the keys that changes settle by.
+pub record Settler (ks : List Country) (ts : List CountryTag) (ss : List ℕ) : Type 0 where
   pub keyed : Keyed ks
   pub own : OwnLast ks
   pub once : twice (words_of_tags ks) ≡ false
-  pub words : ws ≡ words_of_tags ks
+  pub tags : ts ≡ country_tags ks
   pub keys : ss ≡ settling_keys ks
 
 -- And the keys of initials.
-pub record Tables (ks : List Country) (ws is ss : List ℕ) : Type 0 where
-  pub settler : Settler ks ws ss
+pub record CountryTables (ks : List Country) (ts : List CountryTag) (is ss : List ℕ) : Type 0 where
+  pub settler : Settler ks ts ss
   pub initials : is ≡ row_keys (initial_words ks)
 
 -- ## Rows of slots
 
 -- The rows in cells.
-abbrev pub rows_in : List ℕ → List ℕ
-rows_in cells = map (λ x. x % cell_rows) cells
+abbrev pub rows_in_cells : List ℕ → List ℕ
+rows_in_cells cells = map (λ x. x % cell_rows) cells
 
 -- For each of so many rows, how many slots have it.
 abbrev pub slot_counts : List ℕ → ℕ → List ℕ
@@ -49,9 +49,13 @@ abbrev pub slot_cell : List ℕ → Option CountryTag → ℕ
 slot_cell tags none = nobody_cell
 slot_cell tags (some t) = t.0 * cell_rows + row_among tags t
 
--- The cell of the country in a row, by the words of tags.
-abbrev pub row_cell : List ℕ → ℕ → ℕ
-row_cell tags row = get_or tags row 0 * cell_rows + row
+-- Stands where there is no tag: its word is no tag's.
+abbrev pub no_tag : CountryTag
+no_tag = record { 0 = 0 }
+
+-- The cell of the country in a row, by the tags of countries.
+abbrev pub row_cell : List CountryTag → ℕ → ℕ
+row_cell tags row = (get_or tags row no_tag).0 * cell_rows + row
 
 -- The word in a cell.
 abbrev pub cell_word : ℕ → ℕ
@@ -88,7 +92,7 @@ cells_along [] slots = slots
 cells_along (x ∷ xs) slots = cells_along xs (set slots x.slot x.cell)
 
 -- The two rows of a turn.
-abbrev pub turn_cell : RowTurn → code.Turn
+abbrev pub turn_cell : RowTurn → code.LossGain
 turn_cell x = record { loss = x.old; gain = x.new }
 
 -- A cell is put into a slot; the answer is the one that was there, or nobody's.
@@ -97,7 +101,7 @@ pub record Replaced (slots : List ℕ) (slot cell r : ℕ) (after : List ℕ) : 
   pub cells : after ≡ set slots slot cell
 
 -- The turns of the steps, and the cells of the slots after them.
-pub record Passed (keys cells slots₀ slots₁ : List ℕ) (turns₁ : List code.Turn) : Type 0 where
+pub record Passed (keys cells slots₀ slots₁ : List ℕ) (turns₁ : List code.LossGain) : Type 0 where
   pub turns : turns₁ ≡ map turn_cell (turns_along slots₀ (steps_of cells keys))
   pub slots : slots₁ ≡ cells_along (steps_of cells keys) slots₀
 
@@ -109,22 +113,22 @@ pub record Small (x : Change) : Type 0 where
   pub to : x.to.0 < key_tags
 
 -- What is asked for the start: an accepted record at its first province, its tables, a cell for each slot and one for each country.
-pub record StartAsked (xs : List ℕ) (provinces : Provinces) (ws is slots₀ started₀ : List ℕ) : Type 0 where
+pub record StartAsked (xs : List ℕ) (provinces : Provinces) (ts : List CountryTag) (is slots₀ started₀ : List ℕ) : Type 0 where
   pub ready : AtFirstProvince xs provinces
-  pub words : ws ≡ words_of_tags (campaign_of xs).countries
+  pub tags : ts ≡ country_tags (campaign_of xs).countries
   pub initials : is ≡ row_keys (initial_words (campaign_of xs).countries)
   pub slots : length slots₀ ≡ suc (length (campaign_of xs).provinces)
   pub started : length started₀ ≡ length (campaign_of xs).countries
 
 -- For the changes: its tables, and room for every change.
-pub record StepsAsked (xs : List ℕ) (provinces : Provinces) (ws ss keys₀ cells₀ : List ℕ) : Type 0 where
+pub record StepsAsked (xs : List ℕ) (provinces : Provinces) (ts : List CountryTag) (ss keys₀ cells₀ : List ℕ) : Type 0 where
   pub ready : AtFirstProvince xs provinces
-  pub settler : Settler (campaign_of xs).countries ws ss
+  pub settler : Settler (campaign_of xs).countries ts ss
   pub keys : length (entered xs) ≤ length keys₀
   pub cells : length (entered xs) ≤ length cells₀
 
 -- Room for every change, a cell for each slot, and one for each country.
-pub record HoldingRoom (xs keys₀ cells₀ slots₀ started₀ : List ℕ) (turns₀ : List code.Turn) : Type 0 where
+pub record HoldingRoom (xs keys₀ cells₀ slots₀ started₀ : List ℕ) (turns₀ : List code.LossGain) : Type 0 where
   pub keys : length (entered xs) ≤ length keys₀
   pub cells : length (entered xs) ≤ length cells₀
   pub turns : length (entered xs) ≤ length turns₀
@@ -132,9 +136,9 @@ pub record HoldingRoom (xs keys₀ cells₀ slots₀ started₀ : List ℕ) (tur
   pub started : length started₀ ≡ length (campaign_of xs).countries
 
 -- For all of it: an accepted record at its first province, its tables, and room.
-pub record HoldingAsked (xs : List ℕ) (provinces : Provinces) (ws is ss keys₀ cells₀ slots₀ started₀ : List ℕ) (turns₀ : List code.Turn) : Type 0 where
+pub record HoldingAsked (xs : List ℕ) (provinces : Provinces) (ts : List CountryTag) (is ss keys₀ cells₀ slots₀ started₀ : List ℕ) (turns₀ : List code.LossGain) : Type 0 where
   pub ready : AtFirstProvince xs provinces
-  pub tables : Tables (campaign_of xs).countries ws is ss
+  pub tables : CountryTables (campaign_of xs).countries ts is ss
   pub room : HoldingRoom xs keys₀ cells₀ slots₀ started₀ turns₀
 
 -- The slots that each country holds at the start.
@@ -158,7 +162,7 @@ pub record Stepped (xs : List ℕ) (n : ℕ) (keys cells : List ℕ) : Type 0 wh
 
 -- The keys of all changes in order, the row of the old and of the new holder of each, the cell of each slot after the last change, and how
 -- many slots each country holds at the start.
-pub record Held (xs : List ℕ) (n : ℕ) (keys slots₁ started₁ : List ℕ) (turns : List code.Turn) : Type 0 where
+pub record Held (xs : List ℕ) (n : ℕ) (keys slots₁ started₁ : List ℕ) (turns : List code.LossGain) : Type 0 where
   pub counted : n ≡ length (changes_of (campaign_of xs))
   pub sorted : take n keys ≡ sort_by leb (change_keys_from 0 (entered xs))
   pub rowed : Rowed (take n keys) (losses (take n turns)) (gains (take n turns)) (row_turns_of (campaign_of xs))
@@ -174,4 +178,4 @@ pub record SlotsRoom (slots : List ℕ) (n : ℕ) (holders₀ held₀ : List ℕ
 -- The holder of each slot and the slots held by each of so many countries, by the cells of the slots, in the fronts of two slices.
 pub record SlotsPut (slots : List ℕ) (n : ℕ) (holders₀ holders₁ held₀ held₁ : List ℕ) : Type 0 where
   pub holders : holders₁ ≡ written (map cell_word slots) holders₀
-  pub held : held₁ ≡ written (slot_counts (rows_in slots) n) held₀
+  pub held : held₁ ≡ written (slot_counts (rows_in_cells slots) n) held₀

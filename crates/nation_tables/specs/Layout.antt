@@ -3,6 +3,7 @@
 -- row.
 use Rattle.std.specs.Prelude.{ℕ, ◌/◌, min}
 use Rattle.std.proofs.Math.Option.{Option, none, some}
+use Rattle.record.specs.Width.{row_bytes}
 
 -- ## At most so many of a record
 
@@ -20,12 +21,7 @@ most_slots = 8001
 abbrev pub most_settling : ℕ
 most_settling = 22000
 
--- A row of a province, of an owner event or of a switch takes so many bytes of a record, one of a country more, and the head more than the slot
--- that there is beside the provinces.
-abbrev pub row_bytes : ℕ
-row_bytes = 7
-
--- So a record of so many bytes has at most so many of them, and never more than the most that any record has.
+-- A record of so many bytes has at most so many slots, owner events, or countries with switches, and never more than the most that any record has.
 abbrev pub rows_within : ℕ → ℕ → ℕ
 rows_within most bytes = min most (bytes / row_bytes)
 

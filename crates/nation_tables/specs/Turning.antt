@@ -9,7 +9,7 @@ use Rattle.format.specs.Campaign.{Campaign}
 use Rattle.rules.specs.Chronicle.{Entry}
 use Rattle.rules.specs.Nations.{Turn, turns_of, turn_entries, turn_count}
 use Rattle.change_keys.specs.ChangeSteps.{per_date}
-use Rattle.nation_tables.specs.declared.layout.Turn as code
+use Rattle.nation_tables.specs.declared.layout.LossGain as code
 use Rattle.nation_tables.specs.Layout.{no_change, no_row}
 use Rattle.nation_tables.specs.Countries.{words_of_tags}
 
@@ -30,10 +30,10 @@ key_date key = record { 0 = key / per_date }
 
 -- Of a change these are the row of the old holder and that of the new one, and later the
 -- links to the next loss and to the next gain; of a row its first loss and its first gain.
-abbrev pub losses : List code.Turn → List ℕ
+abbrev pub losses : List code.LossGain → List ℕ
 losses turns = map (λ x. x.loss) turns
 
-abbrev pub gains : List code.Turn → List ℕ
+abbrev pub gains : List code.LossGain → List ℕ
 gains turns = map (λ x. x.gain) turns
 
 -- ## Turns by rows
@@ -105,7 +105,7 @@ pub record Linked (rows links heads : List ℕ) : Type 0 where
   pub firsts : (r : ℕ) → r < length heads → get_or heads r 0 ≡ first_at r 0 rows
 
 -- Both chains of the changes, with the first changes of each row.
-pub record TurnsLinked (turns links firsts : List code.Turn) : Type 0 where
+pub record TurnsLinked (turns links firsts : List code.LossGain) : Type 0 where
   pub loss : Linked (losses turns) (losses links) (losses firsts)
   pub gain : Linked (gains turns) (gains links) (gains firsts)
 
@@ -115,10 +115,10 @@ pub record Pushed (heads : List ℕ) (row k r : ℕ) (after : List ℕ) : Type 0
   pub cells : after ≡ set heads row k
 
 -- So it is with the first losses, and the first gains stay; and the other way round.
-pub record LossPushed (firsts : List code.Turn) (row k r : ℕ) (after : List code.Turn) : Type 0 where
+pub record LossPushed (firsts : List code.LossGain) (row k r : ℕ) (after : List code.LossGain) : Type 0 where
   pub loss : Pushed (losses firsts) row k r (losses after)
   pub gain : gains after ≡ gains firsts
 
-pub record GainPushed (firsts : List code.Turn) (row k r : ℕ) (after : List code.Turn) : Type 0 where
+pub record GainPushed (firsts : List code.LossGain) (row k r : ℕ) (after : List code.LossGain) : Type 0 where
   pub gain : Pushed (gains firsts) row k r (gains after)
   pub loss : losses after ≡ losses firsts

@@ -4,13 +4,13 @@ ghost use Rattle.std.specs.Prelude.{◌≤◌, length};
 ghost use Rattle.nation_tables.specs.Layout.{no_change};
 ghost use Rattle.nation_tables.specs.Turning.{losses, gains, Fresh, TurnsLinked, LossPushed, GainPushed};
 
-use crate::layout::{NO_CHANGE, Turn};
+use crate::layout::{LossGain, NO_CHANGE};
 use std::mem;
 
 // Puts change k before the losses of a row, and returns the one that was first there. Of `get_mut` a proof knows no cell afterwards: so the
 // row is tested, here and below. Both answer NO_CHANGE where there is no row: their answer is written into a link. Two functions: one for both would take
 // a closure that lends the one half or the other, which is longer than either.
-fn push_loss(firsts: &mut [Turn], row: u16, k: u16) -> u16
+fn push_loss(firsts: &mut [LossGain], row: u16, k: u16) -> u16
     ensures { LossPushed firsts.old row k result firsts.new }
 {
     let row = usize::from(row);
@@ -21,7 +21,7 @@ fn push_loss(firsts: &mut [Turn], row: u16, k: u16) -> u16
 }
 
 // Puts change k before the gains of a row, and returns the one that was first there.
-fn push_gain(firsts: &mut [Turn], row: u16, k: u16) -> u16
+fn push_gain(firsts: &mut [LossGain], row: u16, k: u16) -> u16
     ensures { GainPushed firsts.old row k result firsts.new }
 {
     let row = usize::from(row);
@@ -33,14 +33,14 @@ fn push_gain(firsts: &mut [Turn], row: u16, k: u16) -> u16
 
 // Turns the old and the new row of each change into the links to their next changes, and leaves each row's first ones in `firsts`. A
 // number that is no row's begins no chain. From the last change to the first: so each cell is read as rows before it holds links.
-pub(crate) fn link(turns: &mut [Turn], firsts: &mut [Turn])
+pub(crate) fn link(turns: &mut [LossGain], firsts: &mut [LossGain])
     requires turns_len_bound { length turns.old ≤ no_change }
     requires fresh { Fresh (losses firsts.old) × Fresh (gains firsts.old) }
     ensures { TurnsLinked turns.old turns.new firsts.new }
 {
     for k in (0..turns.len()).rev() {
         let turn = turns[k];
-        turns[k] = Turn {
+        turns[k] = LossGain {
             loss: push_loss(firsts, turn.loss, k as u16),
             gain: push_gain(firsts, turn.gain, k as u16),
         };

@@ -1,4 +1,4 @@
-// Tables of the countries: words in row order, and keys in order by which a country's row is found.
+// Tables of the countries: tags in row order, and keys in order by which a country's row is found.
 ghost use Rattle.std.specs.Prelude.{◌≤◌, ◌≡◌, map, length};
 ghost use Rattle.lists.specs.Options.{option_of};
 ghost use Rattle.record.specs.Cursors.{countries_left};
@@ -22,13 +22,14 @@ pub(crate) struct KeyedCountries<'a> {
     pub(crate) ghost few_switches: { length (switch_keys_from 0 (countries_left countries)) ≤ most_switches },
 }
 
-// Writes the words of each country's tag and initial, in row order.
-pub(crate) fn country_words(countries: Countries, tags: &mut [u32], initials: &mut [u32])
+// Writes each country's tag, and the word of its initial, in row order. The initials as numbers: keys are made of them at once, and their cells hold
+// counts later.
+pub(crate) fn country_words(countries: Countries, tags: &mut [CountryTag], initials: &mut [u32])
     requires { (length (countries_left countries) ≤ length tags.old) × (length (countries_left countries) ≤ length initials.old) }
     ensures { Tabled (countries_left countries.entry) tags.old tags.new initials.old initials.new }
 {
     for (row, country) in countries.enumerate() {
-        tags[row] = u32::from(country.tag);
+        tags[row] = country.tag;
         initials[row] = u32::from(first_tag(country));
     }
 }

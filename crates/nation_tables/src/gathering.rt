@@ -1,15 +1,16 @@
 // The tables of the countries, the chains of changes, and the switches of each country: all that nations are read from.
-ghost use Rattle.std.specs.Prelude.{◌≡◌, List, ℕ, ◌≤◌, length, take};
-ghost use Rattle.record.specs.Cursors.{countries_left};
+ghost use Rattle.std.specs.Prelude.{◌≡◌, List, ℕ, ◌+◌, ◌≤◌, length, take};
+ghost use Rattle.record.specs.Cursors.{countries_left, provinces_left};
 ghost use Rattle.nation_tables.specs.Layout.{no_change};
-ghost use Rattle.nation_tables.specs.Gathering.{TablesRoom, TablesFilled, SwitchesRoom, Arranged, TableRoom, room_of, FillAsked, Gathered, RightlyGathered};
+ghost use Rattle.nation_tables.specs.Holders.{Held};
+ghost use Rattle.nation_tables.specs.Gathering.{TablesRoom, TablesFilled, SwitchesRoom, Arranged, TableRoom, room_of, FillAsked, ChangesAsked, Gathered, RightlyGathered};
 
 use crate::countries::KeyedCountries;
-use crate::layout::{MOST_SETTLING, MOST_SLOTS, Turn, rows_within};
+use crate::layout::{LossGain, MOST_SETTLING, MOST_SLOTS, rows_within};
 use crate::{chains, countries, holders, switches};
 use change_keys::MOST_CHANGES;
 use format::MOST_COUNTRIES;
-use record::{Eu4Date, Provinces, Record, Refusal};
+use record::{CountryTag, Eu4Date, Provinces, Record, Refusal};
 use search::SortedKeys;
 
 // How many countries there are, and keys that changes settle by: of each switch and of each country.
@@ -19,20 +20,20 @@ pub(crate) struct Sizes {
     pub settling: usize,
 }
 
-// Writes the words of tags, and the keys of initials and those that changes settle by, each in order. The words of initials are left in a scratch.
+// Writes the tags, and the keys of initials and those that changes settle by, each in order. The words of initials are left in a scratch.
 fn fill_tables(
     all: KeyedCountries<'_>,
-    tag_words: &mut [u32],
+    tags: &mut [CountryTag],
     initial_words: &mut [u32],
     initial_keys: &mut [u64],
     settling_keys: &mut [u64],
     scratch: &mut [u64],
 ) -> Sizes
-    requires { TablesRoom (countries_left all.countries) tag_words.old initial_words.old initial_keys.old settling_keys.old }
-    ensures { TablesFilled (countries_left all.entry.countries) result tag_words.new initial_keys.new settling_keys.new }
+    requires { TablesRoom (countries_left all.countries) tags.old initial_words.old initial_keys.old settling_keys.old }
+    ensures { TablesFilled (countries_left all.entry.countries) result tags.new initial_keys.new settling_keys.new }
 {
     let c = all.countries.len();
-    countries::country_words(all.countries, tag_words, initial_words);
+    countries::country_words(all.countries, tags, initial_words);
     countries::row_keys(&initial_words[..c], initial_keys, scratch);
     let m = switches::settling_keys(all, settling_keys, scratch);
     Sizes {
@@ -47,8 +48,8 @@ fn fill_tables(
 fn arrange(
     all: KeyedCountries<'_>,
     n: usize,
-    turns: &mut [Turn],
-    firsts: &mut [Turn],
+    turns: &mut [LossGain],
+    firsts: &mut [LossGain],
     runs: &mut [u64],
     targets: &mut [u64],
 )
@@ -57,7 +58,7 @@ fn arrange(
     requires turns_len_bound { n ≤ no_change }
     ensures { Arranged (countries_left all.entry.countries) (take n turns.old) (take n turns.new) firsts.new runs.new targets.new }
 {
-    firsts.fill(Turn::NONE);
+    firsts.fill(LossGain::NONE);
     chains::link(&mut turns[..n], firsts);
     switches::run_keys(all, runs, targets);
     switches::fill_targets(all.countries, targets);
@@ -89,18 +90,18 @@ pub struct TableCells<
     const KEYS: usize,
     const CHANGES: usize,
 > {
-    pub tag_words: [u32; COUNTRIES],
+    pub tags: [CountryTag; COUNTRIES],
     pub initial_keys: [u64; COUNTRIES],
     // The keys that changes settle by; in the end those of switches by country.
     pub runs: [u64; KEYS],
     pub keys: [u64; CHANGES],
-    // Scratch and cells of changes; in the end the targets of switches.
+    // Scratch and cells of changes; in the end the words of the targets of switches: numbers, for no type but a number's serves all three.
     pub cells: [u64; CHANGES],
     pub slots: [u64; SLOTS],
-    // The words of initials; in the end how many slots each country starts with.
+    // The words of initials; in the end how many slots each country starts with: so they are numbers.
     pub started: [u32; COUNTRIES],
-    pub turns: [Turn; CHANGES],
-    pub firsts: [Turn; COUNTRIES],
+    pub turns: [LossGain; CHANGES],
+    pub firsts: [LossGain; COUNTRIES],
 }
 
 // Whether so many cells suffice for any record of so many bytes.
@@ -113,32 +114,23 @@ fn has_cells(bytes: usize, countries: usize, slots: usize, keys: usize, changes:
         & (rows_within(MOST_CHANGES, bytes) <= changes)
 }
 
-// Fills all tables of an accepted record, each step lent only those that it reads or writes. Most are lent by a whole slice: from that a proof knows how
-// many cells they have, which else it knows of the first four arrays alone.
-fn fill_all<const COUNTRIES: usize, const SLOTS: usize, const KEYS: usize, const CHANGES: usize>(
-    opened: Record,
-    tables: &mut TableCells<COUNTRIES, SLOTS, KEYS, CHANGES>,
-) -> TableSizes
-    requires { (xs : List ℕ) × FillAsked xs opened COUNTRIES SLOTS KEYS CHANGES }
-    ensures { (xs : List ℕ) → FillAsked xs opened.entry COUNTRIES SLOTS KEYS CHANGES → Gathered xs result opened.entry.provinces tables.new.tag_words tables.new.initial_keys tables.new.runs tables.new.keys tables.new.cells tables.new.slots tables.new.started tables.new.turns tables.new.firsts }
+// Fills the tables of slots and changes of an accepted record, by those of its countries and switches, and returns how many changes there are. Most are
+// lent by a whole slice: from that a proof knows how many cells they have, which else it knows of the first four arrays alone.
+fn fill_changes<
+    const COUNTRIES: usize,
+    const SLOTS: usize,
+    const KEYS: usize,
+    const CHANGES: usize,
+>(opened: Record, sizes: Sizes, tables: &mut TableCells<COUNTRIES, SLOTS, KEYS, CHANGES>) -> usize
+    requires { (xs : List ℕ) × ChangesAsked xs opened COUNTRIES SLOTS KEYS CHANGES sizes tables.old.tags tables.old.initial_keys tables.old.runs }
+    ensures kept { (tables.new.tags ≡ tables.old.tags) × (tables.new.initial_keys ≡ tables.old.initial_keys) }
+    ensures held { (xs : List ℕ) → ChangesAsked xs opened.entry COUNTRIES SLOTS KEYS CHANGES sizes tables.old.tags tables.old.initial_keys tables.old.runs → Held xs result tables.new.keys (take (length (provinces_left opened.entry.provinces) + 1) tables.new.slots) (take sizes.countries tables.new.started) tables.new.turns }
 {
-    let all = KeyedCountries {
-        countries: opened.countries,
-    };
-    let p = opened.provinces.len() + 1;
-    let sizes = fill_tables(
-        all,
-        &mut tables.tag_words,
-        &mut tables.started[..],
-        &mut tables.initial_keys,
-        &mut tables.runs,
-        &mut tables.cells[..],
-    );
     let c = sizes.countries;
     let m = sizes.settling;
-    let n = holders::hold_slots(
+    holders::hold_slots(
         opened.provinces,
-        &tables.tag_words[..c],
+        &tables.tags[..c],
         SortedKeys {
             keys: &tables.initial_keys[..c],
         },
@@ -150,7 +142,32 @@ fn fill_all<const COUNTRIES: usize, const SLOTS: usize, const KEYS: usize, const
         &mut tables.slots[..],
         &mut tables.started[..],
         &mut tables.turns[..],
+    )
+}
+
+// Fills all tables of an accepted record, each step lent those that it reads or writes: those of countries and switches, then those of slots and changes,
+// then the chains, and the switches by country.
+fn fill_all<const COUNTRIES: usize, const SLOTS: usize, const KEYS: usize, const CHANGES: usize>(
+    opened: Record,
+    tables: &mut TableCells<COUNTRIES, SLOTS, KEYS, CHANGES>,
+) -> TableSizes
+    requires { (xs : List ℕ) × FillAsked xs opened COUNTRIES SLOTS KEYS CHANGES }
+    ensures { (xs : List ℕ) → FillAsked xs opened.entry COUNTRIES SLOTS KEYS CHANGES → Gathered xs result opened.entry.provinces tables.new.tags tables.new.initial_keys tables.new.runs tables.new.keys tables.new.cells tables.new.slots tables.new.started tables.new.turns tables.new.firsts }
+{
+    let all = KeyedCountries {
+        countries: opened.countries,
+    };
+    let p = opened.provinces.len() + 1;
+    let sizes = fill_tables(
+        all,
+        &mut tables.tags,
+        &mut tables.started[..],
+        &mut tables.initial_keys,
+        &mut tables.runs,
+        &mut tables.cells[..],
     );
+    let n = fill_changes(opened, sizes, tables);
+    let c = sizes.countries;
     arrange(
         all,
         n,
@@ -162,7 +179,7 @@ fn fill_all<const COUNTRIES: usize, const SLOTS: usize, const KEYS: usize, const
     TableSizes {
         start: opened.start,
         countries: c,
-        switches: m - c,
+        switches: sizes.settling - c,
         slots: p,
         changes: n,
     }
@@ -180,7 +197,7 @@ pub fn gather_tables<
     s: &'a [u8],
     tables: &mut TableCells<COUNTRIES, SLOTS, KEYS, CHANGES>,
 ) -> Result<TablesGathered<'a>, Refusal>
-    ensures { TableRoom (length s.now) COUNTRIES SLOTS KEYS CHANGES → RightlyGathered s.now result tables.new.tag_words tables.new.initial_keys tables.new.runs tables.new.keys tables.new.cells tables.new.slots tables.new.started tables.new.turns tables.new.firsts }
+    ensures { TableRoom (length s.now) COUNTRIES SLOTS KEYS CHANGES → RightlyGathered s.now result tables.new.tags tables.new.initial_keys tables.new.runs tables.new.keys tables.new.cells tables.new.slots tables.new.started tables.new.turns tables.new.firsts }
 {
     if !has_cells(s.len(), COUNTRIES, SLOTS, KEYS, CHANGES) {
         return Err(Refusal::NoRoom);

@@ -34,7 +34,11 @@ pub const KEY_NUMBERS: u64 = 1 << 15;
 // Behind every date: no date that is good is as large, and it has room in a key. A number, for a part of a key is one.
 pub(crate) const LAST_DATE: u32 = KEY_DATES as u32 - 1;
 
-// What a word of 32 bits has room in.
+// Numbers of a byte are below this, and those of 16 bits and of a word of 32 below these.
+pub(crate) const BYTE_SPAN: u64 = 1 << 8;
+
+pub const SHORT_SPAN: u64 = 1 << 16;
+
 pub const WORD_SPAN: u64 = 1 << 32;
 
 // The key of any word with a row is below this.
@@ -53,14 +57,14 @@ pub const NO_CHANGE: u16 = u16::MAX;
 // they lose and gain one. Of a row the numbers of its first loss and of its first gain. One type for all: links come to stand in the cells of rows, as
 // there is no heap for more.
 #[derive(Clone, Copy, Debug, PartialEq, Eq)]
-pub struct Turn {
+pub struct LossGain {
     pub loss: u16,
     pub gain: u16,
 }
 
-impl Turn {
+impl LossGain {
     // Neither a loss nor a gain.
-    pub const NONE: Turn = Turn {
+    pub const NONE: LossGain = LossGain {
         loss: NO_CHANGE,
         gain: NO_CHANGE,
     };

@@ -4,13 +4,16 @@ ghost use Rattle.lists.specs.Options.{option_of};
 ghost use Rattle.nation_tables.specs.Layout.{short_span, key_tags};
 ghost use Rattle.nation_tables.specs.Settling.{settling_row};
 
-use crate::layout::TAG_SPAN;
+use crate::layout::{BYTE_SPAN, SHORT_SPAN, TAG_SPAN};
 use crate::{keys, lookup};
 use record::{CountryTag, Eu4Date};
 use search::SortedKeys;
 
-// Tags of one cell of the table begin with the same two bytes; the first byte tells one of so many cells.
+// Tags of one cell of the table begin with the same two bytes; the first byte tells one of so many cells. The least byte of a tag is `-`, and the others
+// lie within so many of it.
 const SECOND_BYTES: u64 = 78;
+
+const FIRST_BYTE: u64 = 45;
 
 // How many cells of 16 bits such a table has: one for each cell of tags, and two behind the last.
 pub(crate) const STARTS: usize = (SECOND_BYTES * SECOND_BYTES) as usize + 2;
@@ -19,20 +22,24 @@ pub(crate) const STARTS: usize = (SECOND_BYTES * SECOND_BYTES) as usize + 2;
 pub(crate) const HINTS_FROM: usize = 128;
 
 // The cell of `--`, the first tag, comes to 0 where this is added.
-const FIRST_CELL: u64 = 61981;
+const FIRST_CELL: u64 = SHORT_SPAN - (SECOND_BYTES + 1) * FIRST_BYTE;
 
-// The cell of a tag's word. Tag bytes lie within 78 of each other, so a later cell has later tags.
-fn start_cell(word: u64) -> usize
+// The cell of a tag. Tag bytes lie within SECOND_BYTES of each other, so a later cell has later tags.
+fn start_cell(tag: CountryTag) -> usize
     ensures { result < short_span }
 {
-    ((word / 65536 % 256 * SECOND_BYTES + word / 256 % 256 + FIRST_CELL) % 65536) as usize
+    let word = u64::from(u32::from(tag));
+    let first = word / SHORT_SPAN % BYTE_SPAN;
+    let second = word / BYTE_SPAN % BYTE_SPAN;
+    ((first * SECOND_BYTES + second + FIRST_CELL) % SHORT_SPAN) as usize
 }
 
-// Notes behind each cell where the keys of its tags end. Of what the table holds nothing is promised: it is hints.
+// Notes behind each cell where the keys of its tags end. Of what the table holds nothing is promised: it is hints. A tag out of a key is not tested again.
 fn note_ends(keys: &[u64], starts: &mut [u16]) {
     for (i, key) in keys.iter().enumerate() {
-        if let Some(start) = starts.get_mut(start_cell(*key / TAG_SPAN) + 1) {
-            *start = ((i + 1) % 65536) as u16;
+        let tag = CountryTag::kept((*key / TAG_SPAN) as u32);
+        if let Some(start) = starts.get_mut(start_cell(tag) + 1) {
+            *start = ((i + 1) % SHORT_SPAN as usize) as u16;
         }
     }
 }
@@ -59,7 +66,7 @@ fn hint(starts: &[u16], cell: usize) -> usize {
 
 // The row of the country that a change settles to, or none where it settles to a tag that is no country's: by the keys of switches and
 // countries, and hints where those of a cell of tags begin.
-pub(crate) fn holder_row(
+pub(crate) fn settling_row(
     sorted: SortedKeys<'_>,
     starts: &[u16],
     to: CountryTag,
@@ -70,7 +77,7 @@ pub(crate) fn holder_row(
 {
     let low = keys::settling_key(to, date, 0);
     let word = u64::from(u32::from(to));
-    let cell = start_cell(word);
+    let cell = start_cell(to);
     lookup::first_within(
         sorted,
         low,

@@ -12,8 +12,8 @@ use crate::layout::NO_ROW;
 use record::{CountryTag, Provinces};
 use search::SortedKeys;
 
-// The cell of a row, or of none.
-fn row_cell(row: Option<u16>) -> u64
+// The number of a row in a cell, or that of none.
+fn row_number(row: Option<u16>) -> u64
     ensures { result ≡ row_number (option_of row) }
 {
     u64::from(row.unwrap_or(NO_ROW))
@@ -26,7 +26,7 @@ fn put_owners(provinces: Provinces, initials: SortedKeys<'_>, rows: &mut [u64])
 {
     for province in provinces {
         let at = u32::from(province.id) as usize;
-        rows[at] = row_cell(countries::mapped_row(initials, province.owner));
+        rows[at] = row_number(countries::mapped_row(initials, province.owner));
     }
 }
 
@@ -36,6 +36,6 @@ pub(crate) fn start_rows(provinces: Provinces, initials: SortedKeys<'_>, rows: &
     requires { Slotted (length rows.old) (provinces_left provinces) }
     ensures { Started initials.entry.keys.now (provinces_left provinces.entry) (length rows.old) rows.new }
 {
-    rows.fill(row_cell(countries::mapped_row(initials, CountryTag::NONE)));
+    rows.fill(row_number(countries::mapped_row(initials, CountryTag::NONE)));
     put_owners(provinces, initials, rows);
 }

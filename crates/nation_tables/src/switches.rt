@@ -145,7 +145,7 @@ fn own_targets(mut country: CountryRow<'_>, targets: &mut [u64], at: usize) -> u
     k
 }
 
-// Writes the word of each switch's target, in the order of the rows.
+// Writes the word of each switch's target, in the order of the rows. Numbers of 64 bits, for their cells serve the sort of keys before.
 pub(crate) fn fill_targets(countries: Countries, targets: &mut [u64])
     requires { length (target_words (countries_left countries)) ≤ length targets.old }
     ensures { targets.new ≡ written (target_words (countries_left countries.entry)) targets.old }

@@ -2,6 +2,7 @@
 use Rattle.std.specs.Prelude as code
 use Rattle.std.specs.Prelude.{Ok, Err, ◌≡◌, Bool, true, ◌&&◌, List, ℕ, suc, ◌*◌, ◌≤◌, leb, length, take}
 use Rattle.sorting.specs.Sort.{sort_by}
+use Rattle.format.specs.declared.tag.CountryTag.{CountryTag}
 use Rattle.format.specs.declared.refused.Refusal.{Refusal}
 use Rattle.format.specs.Refused.{refusal_number}
 use Rattle.format.specs.Campaign.{campaign_of}
@@ -12,7 +13,7 @@ use Rattle.rules.specs.Nations.{nations_of, holders_of}
 use Rattle.rules.specs.Outcomes.{call_nation_events}
 use Rattle.change_keys.specs.ChangeSteps.{AtFirstProvince, entered, change_keys_from}
 use Rattle.nation_tables.specs.declared.gathering.TableSizes.{TableSizes}
-use Rattle.nation_tables.specs.declared.layout.Turn.{Turn}
+use Rattle.nation_tables.specs.declared.layout.LossGain.{LossGain}
 use Rattle.nation_tables.specs.Holders.{slot_cells, SlotsPut}
 use Rattle.nation_tables.specs.Gathering.{fronts_of}
 use Rattle.nation_listing.specs.declared.placing.Listed.{Listed}
@@ -39,16 +40,16 @@ pub record FrontsInside (z : TableSizes) (k m n : ℕ) : Type 0 where
   pub changes : z.changes ≤ n
 
 -- Whether the fronts can be read.
-abbrev pub fronts_readable : TableSizes → List ℕ → List ℕ → List ℕ → List Turn → List ℕ → List ℕ → List Turn → Bool
-fronts_readable z words initials runs firsts started keys turns =
-    is_readable (take z.countries words) (take z.countries initials) (take z.switches runs) firsts (take z.countries started)
+abbrev pub fronts_readable : TableSizes → List CountryTag → List ℕ → List ℕ → List LossGain → List ℕ → List ℕ → List LossGain → Bool
+fronts_readable z tags initials runs firsts started keys turns =
+    is_readable (take z.countries tags) (take z.countries initials) (take z.switches runs) firsts (take z.countries started)
     (take z.changes keys) (take z.changes turns)
 
 -- The nations that they tell, placed.
-abbrev pub fronts_placed : TableSizes → List ℕ → List ℕ → List ℕ → List ℕ → List Turn → List ℕ → List ℕ → List Turn → code.Result Listed Refusal → List ℕ → List ℕ → List ℕ → List ℕ → Type 0
-fronts_placed z words initials runs targets firsts started keys turns r rows₀ rows₁ entries₀ entries₁ =
-    placed_told (fronts_readable z words initials runs firsts started keys turns)
-    (nations_at (fronts_of z words initials runs targets firsts started keys turns) (take z.countries initials)) r rows₀ rows₁ entries₀ entries₁
+abbrev pub fronts_placed : TableSizes → List CountryTag → List ℕ → List ℕ → List ℕ → List LossGain → List ℕ → List ℕ → List LossGain → code.Result Listed Refusal → List ℕ → List ℕ → List ℕ → List ℕ → Type 0
+fronts_placed z tags initials runs targets firsts started keys turns r rows₀ rows₁ entries₀ entries₁ =
+    placed_told (fronts_readable z tags initials runs firsts started keys turns)
+    (nations_at (fronts_of z tags initials runs targets firsts started keys turns) (take z.countries initials)) r rows₀ rows₁ entries₀ entries₁
 
 -- ## Slots and changes
 

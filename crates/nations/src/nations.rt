@@ -7,13 +7,14 @@ ghost use Rattle.nation_tables.specs.Layout.{most_countries, most_slots, most_se
 ghost use Rattle.nation_tables.specs.Gathering.{TableRoom};
 ghost use Rattle.nations.specs.NationSteps.{counts_from};
 
+use crate::writing::RestCells;
 use crate::{telling, writing};
 use change_keys::MOST_CHANGES;
 use chronicle_rows::NationCounts;
 use format::MOST_COUNTRIES;
 use nation_listing::Listed;
-use nation_tables::{MOST_SETTLING, MOST_SLOTS, ROW_BYTES, TableCells, TableSizes, Turn};
-use record::Refusal;
+use nation_tables::{LossGain, MOST_SETTLING, MOST_SLOTS, ROW_BYTES, TableCells, TableSizes};
+use record::{CountryTag, Refusal};
 
 // Records of no more bytes are small, or of middle size: their tables take less time to clear.
 const SMALL_RECORD: usize = 2048;
@@ -26,7 +27,7 @@ const FEW_ROWS: usize = SMALL_RECORD / ROW_BYTES;
 const SOME_ROWS: usize = MIDDLE_RECORD / ROW_BYTES;
 
 // How many rows there are, by the sizes of the tables and what is listed.
-fn counts_of(sizes: TableSizes, listed: Listed) -> NationCounts
+fn counts_from(sizes: TableSizes, listed: Listed) -> NationCounts
     ensures { result ≡ counts_from sizes listed }
 {
     NationCounts {
@@ -39,6 +40,7 @@ fn counts_of(sizes: TableSizes, listed: Listed) -> NationCounts
 }
 
 // The answer, worked out in arrays on the stack, as there is no heap: with cells for so many countries, slots, keys that changes settle by, and changes.
+// What the cells hold at first decides nothing; tags have the word 0, as numbers have, so that one fill clears them all.
 fn answer_sized<
     const COUNTRIES: usize,
     const SLOTS: usize,
@@ -57,28 +59,25 @@ fn answer_sized<
     ensures { nations_outcome result nations.new entries.new holders.new held.new changes.new ≡ call_nation_events s.now (nation_cells nations.old entries.old holders.old held.old changes.old) }
 {
     let mut tables = TableCells::<COUNTRIES, SLOTS, KEYS, CHANGES> {
-        tag_words: [0; COUNTRIES],
+        tags: [CountryTag::kept(0); COUNTRIES],
         initial_keys: [0; COUNTRIES],
         runs: [0; KEYS],
         keys: [0; CHANGES],
         cells: [0; CHANGES],
         slots: [0; SLOTS],
         started: [0; COUNTRIES],
-        turns: [Turn::NONE; CHANGES],
-        firsts: [Turn::NONE; COUNTRIES],
+        turns: [LossGain::NONE; CHANGES],
+        firsts: [LossGain::NONE; COUNTRIES],
     };
-    let told = telling::tell_nations(
-        s,
-        &mut tables,
-        nations,
-        entries,
-        holders.len(),
-        held.len(),
-        changes.len(),
-    )?;
+    let room = RestCells {
+        holders: holders.len(),
+        held: held.len(),
+        changes: changes.len(),
+    };
+    let told = telling::tell_nations(s, &mut tables, nations, entries, room)?;
     let sizes = told.sizes;
     writing::write_rest(told.provinces, sizes, &mut tables, holders, held, changes);
-    let counts = counts_of(sizes, told.listed);
+    let counts = counts_from(sizes, told.listed);
     Ok(counts)
 }
 

@@ -4,6 +4,7 @@ ghost use Rattle.nation_tables.specs.Gathering.{TableRoom};
 ghost use Rattle.nations.specs.NationSteps.{FrontsInside, fronts_placed, nations_told};
 
 use crate::writing;
+use crate::writing::RestCells;
 use nation_listing::{Listed, NationTables};
 use nation_tables::{TableCells, TableSizes};
 use record::{Provinces, Refusal};
@@ -29,13 +30,13 @@ fn place_fronts<
     entries: &mut [u32],
 ) -> Result<Listed, Refusal>
     requires { FrontsInside sizes COUNTRIES KEYS CHANGES }
-    ensures { fronts_placed sizes tables.now.tag_words tables.now.initial_keys tables.now.runs tables.now.cells tables.now.firsts tables.now.started tables.now.keys tables.now.turns result nations.old nations.new entries.old entries.new }
+    ensures { fronts_placed sizes tables.now.tags tables.now.initial_keys tables.now.runs tables.now.cells tables.now.firsts tables.now.started tables.now.keys tables.now.turns result nations.old nations.new entries.old entries.new }
 {
     let c = sizes.countries;
     let m = sizes.switches;
     let n = sizes.changes;
     let fronts = NationTables {
-        tag_words: &tables.tag_words[..c],
+        tags: &tables.tags[..c],
         initial_keys: &tables.initial_keys[..c],
         runs: &tables.runs[..m],
         targets: &tables.cells[..m],
@@ -48,8 +49,8 @@ fn place_fronts<
     nation_listing::place_nations(&fronts, nations, entries)
 }
 
-// Writes the nations and their entries, if they have room and slices of three lengths have room for the rest: the slots, keys and cells
-// are left for that. The slices are those of the call, which C lends one by one.
+// Writes the nations and their entries, if they have room and the slices for the rest have too: the slots, keys and cells are left for that. The slices are
+// those of the call, which C lends one by one.
 pub(crate) fn tell_nations<
     'a,
     const COUNTRIES: usize,
@@ -61,16 +62,14 @@ pub(crate) fn tell_nations<
     tables: &mut TableCells<COUNTRIES, SLOTS, KEYS, CHANGES>,
     nations: &mut [u32],
     entries: &mut [u32],
-    holders: usize,
-    held: usize,
-    changes: usize,
+    room: RestCells,
 ) -> Result<NationsTold<'a>, Refusal>
     requires { TableRoom (length s.now) COUNTRIES SLOTS KEYS CHANGES }
-    ensures { nations_told s.now holders held changes result tables.new.slots tables.new.keys SLOTS CHANGES nations.old nations.new entries.old entries.new }
+    ensures { nations_told s.now room.holders room.held room.changes result tables.new.slots tables.new.keys SLOTS CHANGES nations.old nations.new entries.old entries.new }
 {
     let gathered = nation_tables::gather_tables(s, tables)?;
     let sizes = gathered.sizes;
-    if !writing::rest_fits(sizes, holders, held, changes) {
+    if !writing::rest_fits(sizes, room) {
         return Err(Refusal::NoRoom);
     }
     let listed = place_fronts(sizes, tables, nations, entries)?;

@@ -8,12 +8,21 @@ use change_keys::CHANGE_WIDTH;
 use nation_tables::{TableCells, TableSizes};
 use record::Provinces;
 
-// Whether slices of these lengths have room for the slots, the countries and the changes. By division: of any number of changes the product may
-// not fit.
-pub(crate) fn rest_fits(sizes: TableSizes, holders: usize, held: usize, changes: usize) -> bool
-    ensures { result ≡ rest_for sizes holders held changes }
+// How many cells the slices for the rest have: for the holder of each slot, for the slots held by each country, and for the changes.
+#[derive(Clone, Copy)]
+pub(crate) struct RestCells {
+    pub holders: usize,
+    pub held: usize,
+    pub changes: usize,
+}
+
+// Whether so many cells are room for the slots, the countries and the changes. By division: of any number of changes the product may not fit.
+pub(crate) fn rest_fits(sizes: TableSizes, room: RestCells) -> bool
+    ensures { result ≡ rest_for sizes room.holders room.held room.changes }
 {
-    (sizes.slots <= holders) & (sizes.countries <= held) & (sizes.changes <= changes / CHANGE_WIDTH)
+    (sizes.slots <= room.holders)
+        & (sizes.countries <= room.held)
+        & (sizes.changes <= room.changes / CHANGE_WIDTH)
 }
 
 // Writes the holder of each slot, the slots held by each country, and the changes. The cells serve for the tags of the changes.

@@ -2,7 +2,7 @@
 ghost use Rattle.std.specs.Prelude.{◌≡◌, ◌≤◌, length};
 ghost use Rattle.rules.specs.Changes.{events_on};
 ghost use Rattle.rules.specs.Outcomes.{call_province_owners, call_events_on};
-ghost use Rattle.owner_changes.specs.Cases.{run_of, owners_outcome, events_on_answer};
+ghost use Rattle.owner_changes.specs.Cases.{date_run_told, owners_outcome, events_on_answer};
 ghost use Rattle.change_keys.specs.ChangeSteps.{changes_ahead, most_changes};
 
 use change_keys::Changes;
@@ -28,7 +28,7 @@ pub struct DateRun {
 // How many changes are before the day, and how many are on it: their order does not matter. By one loop: two filters would find each change twice.
 fn count_on(provinces: Provinces, day: Eu4Date) -> DateRun
     requires { length (changes_ahead provinces) ≤ most_changes }
-    ensures { run_of result ≡ events_on (changes_ahead provinces.entry) day }
+    ensures { date_run_told result ≡ events_on (changes_ahead provinces.entry) day }
 {
     let mut first = 0;
     let mut count = 0;

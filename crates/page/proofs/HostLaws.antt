@@ -16,9 +16,9 @@ use Rattle.std.specs.Prelude.{Ok, Err}
 use Rattle.format.specs.declared.refused.Refusal.{Refusal}
 use Rattle.format.specs.Campaign.{campaign_of}
 use Rattle.format.specs.Refusal.{refusal, first_of}
-use Rattle.chronicle_rows.specs.declared.counts.NationCounts.{NationCounts}
+use Rattle.chronicle_rows.specs.declared.counts.NationCounts as code_counts
 use Rattle.rules.specs.Lent.{Answer, refused, gives, answer_of, written, fits, room_number, Outcome, outcome, outcome_of}
-use Rattle.rules.specs.Outcomes.{answers_of, NationCells, cells_of, all_fit, all_written, Counts, counts_of, call_nation_events}
+use Rattle.rules.specs.Outcomes.{answers_of, NationCells, cells_of, all_fit, all_written, NationCounts, counts_of, call_nation_events}
 use Rattle.chronicle_rows.specs.Cases.{counts_in}
 use Rattle.nations.proofs.answer.NationOutcomeLaws.{SmallCounts, nations-given}
 use Rattle.host_answers.specs.Host.{returned, most_returned, Returns, word_cells, count_words, NationSlices, nation_slices, with_counts, call_nation_events_cells}
@@ -52,7 +52,7 @@ room-true false h = absurd (omega arith)
 
 -- ## The counts of nations
 
-module _ (values : Counts) (after : NationCells) (before : NationSlices) (room : fits (count_words values) before.counts ≡ false) where
+module _ (values : NationCounts) (after : NationCells) (before : NationSlices) (room : fits (count_words values) before.counts ≡ false) where
   -- Without room for the counts the record's number refuses, else 10, whether the other slices have room or not.
   short-counts : (number : ℕ) (fit : Bool) → (n : ℕ) → n ≡ first_of (number ∷ 10 ∷ [])
       → let called = outcome (first_of (number ∷ room_number fit ∷ [])) values after before.cells in
@@ -63,7 +63,7 @@ module _ (values : Counts) (after : NationCells) (before : NationSlices) (room :
   short-counts (suc m) fit n e = rw e
 
 -- Counts so small are told by their lowest 32 bits.
-low-same : (r : NationCounts) → SmallCounts (counts_in r) → low_counts r ≡ count_words (counts_in r)
+low-same : (r : code_counts.NationCounts) → SmallCounts (counts_in r) → low_counts r ≡ count_words (counts_in r)
 low-same r small =
     let a : r.nations % 4294967296 ≡ r.nations = omega (arith, small.nations) in
     let b : r.entries % 4294967296 ≡ r.entries = omega (arith, small.entries) in
@@ -82,20 +82,20 @@ module _ (xs : List ℕ) (before : NationSlices) where
       (all_fit (cells_of answers) before.cells) n e
 
   -- What it gives is written, where the counts have room.
-  slices-given : 5 ≤ length before.counts → (r : Counts) (after : NationCells)
+  slices-given : 5 ≤ length before.counts → (r : NationCounts) (after : NationCells)
       → record { answer = gives r; memory = after } ≡ call_nation_events xs before.cells
       → record { answer = gives 5; memory = nation_slices after (written (count_words r) before.counts) } ≡ call_nation_events_cells xs before
   unfolding call_nation_events_cells
   slices-given h r after e =
       let room : fits (count_words r) before.counts ≡ true = le-leb 5 (length before.counts) h in
-      (simp room) ∙ ap (λ (o : Outcome Counts NationCells). with_counts o.answer o.memory before) e
+      (simp room) ∙ ap (λ (o : Outcome NationCounts NationCells). with_counts o.answer o.memory before) e
 
   -- So the counts that were put are the call's.
-  pub slices-put : 5 ≤ length before.counts → (r : NationCounts) (after : NationCells)
+  pub slices-put : 5 ≤ length before.counts → (r : code_counts.NationCounts) (after : NationCells)
       → record { answer = gives (counts_in r); memory = after } ≡ call_nation_events xs before.cells
       → (i : ℤ) (counts : List ℕ) → Returns (word_cells (low_counts r) before.counts) i counts → Returns (call_nation_events_cells xs before) i (nation_slices after counts)
   slices-put h r after e i counts put =
-      let same = low-same r (nations-given xs before.cells (counts_in r) (ap (λ (o : Outcome Counts NationCells). o.answer) e)) in
+      let same = low-same r (nations-given xs before.cells (counts_in r) (ap (λ (o : Outcome NationCounts NationCells). o.answer) e)) in
       let room : fits (count_words (counts_in r)) before.counts ≡ true = le-leb 5 (length before.counts) h in
       let told = rw room at (subst (λ (ws : List ℕ). Returns (word_cells ws before.counts) i counts) same put) in
       rw told.cells (returns_of (slices-given h (counts_in r) after e) told.answer)

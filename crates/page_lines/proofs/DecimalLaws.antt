@@ -1,6 +1,6 @@
 -- A number's digits as the library writes them are those of the rules.
-use Rattle.std.proofs.Common.{◌≡◌, refl, sym, ap, ◌∙◌, ℕ, zero, suc, ◌+◌, ◌/◌, ◌%◌, ◌^◌, ◌≤◌, ◌<◌, List, [], ◌∷◌, ◌++◌, false, ltb, arith, append_assoc, append-nil}
-use borrow.Author.Tests.{ltb-true, ltb-false, lt-ltb, le-ltb, eq-eqb, ne_eqb}
+use Rattle.std.proofs.Common.{◌≡◌, refl, sym, ap, ◌∙◌, ℕ, zero, suc, ◌+◌, ◌/◌, ◌%◌, ◌^◌, ◌<◌, List, [], ◌∷◌, ◌++◌, false, ltb, arith, append_assoc, append-nil}
+use borrow.Author.Tests.{ltb-true, ltb-false, lt-ltb, eq-eqb, ne_eqb}
 use Rattle.std.proofs.Math.Nat.{pow-suc}
 use Rattle.lists.proofs.BoolLaws.{cases}
 use Rattle.std.specs.Fmt as library
@@ -27,11 +27,6 @@ onto (suc k) n text =
     let last : n % 10 < 10 = omega arith in
     simp (large, some, glyph (n % 10) last)
     (onto k (n / 10) ((48 + n % 10) ∷ text) ∙ sym (append_assoc (digits k (n / 10)) ((48 + n % 10) ∷ []) text)))
-
--- A number of two digits or more has those of its tenth and one more.
-pub one-more : (m n : ℕ) → 10 ≤ n → digits (suc m) n ≡ digits m (n / 10) ++ ((48 + n % 10) ∷ [])
-unfolding digits
-one-more m n p = simp (le-ltb n 10 p)
 
 -- Any number of digits is enough of which the highest number is not passed.
 digits-enough : (m k n : ℕ) → n < 10 ^ suc m → n < 10 ^ suc k → digits (suc m) n ≡ digits (suc k) n

@@ -32,7 +32,3 @@ counted_line word number = word ++ (decimal number ++ (10 ∷ []))
 -- The first line, of so many tags.
 abbrev pub heading : ℕ → List ℕ
 heading = counted_line (ascii "selected ")
-
--- The line of a refusal.
-abbrev pub refused_line : ℕ → List ℕ
-refused_line = counted_line (ascii "refused ")

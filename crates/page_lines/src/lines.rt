@@ -3,11 +3,12 @@
 ghost use Rattle.std.specs.Prelude.{◌≡◌, ◌++◌, ◌+◌, ◌≤◌, ◌^◌, ◌<◌, length};
 ghost use Rattle.arrayvec.specs.ArrayVec.{array_vec_len};
 ghost use Rattle.rules.specs.Page.{decimal};
+ghost use Rattle.rules.specs.PageOutcomes.{refused_line};
 ghost use Rattle.chronicle_rows.specs.Cases.{nation_told};
-ghost use Rattle.page_lines.specs.Lines.{tag_field, status_field, row_line, absent_line, counted_line, heading, refused_line};
+ghost use Rattle.page_lines.specs.Lines.{tag_field, status_field, row_line, absent_line, counted_line, heading};
 
 use arrayvec::ArrayVec;
-use chronicle_rows::Nation;
+use chronicle_rows::NationRow;
 use format::CountryTag;
 use itoa::Buffer;
 
@@ -69,7 +70,7 @@ pub fn heading(count: usize) -> Line
 
 // The line of a nation: its tags, its entries counted, and whether it lives.
 #[tactic(auto, using(crate::proofs::DecimalLaws::decimal_same))]
-pub fn row_line(row: Nation, living: bool) -> Line
+pub fn row_line(row: NationRow, living: bool) -> Line
     ensures { result.items ≡ row_line (nation_told row) living }
 {
     let mut line = Line::new();
@@ -92,6 +93,7 @@ pub fn absent_line(tag: CountryTag) -> Line
 }
 
 // The line of a refusal, by its number.
+#[tactic(auto, unfolding(rules::specs::Page::line))]
 pub fn refused_line(number: u32) -> Line
     ensures { result.items ≡ refused_line number }
 {

@@ -22,12 +22,12 @@ pub struct SelectedTags<'a> {
 fn is_tag_line(line: &[u8; TAG_LINE]) -> bool
     ensures { result ≡ is_line line.now }
 {
-    (line[3] == b'\n') & tag_of(line).good()
+    (line[3] == b'\n') & line_tag(line).good()
 }
 
 // The three bytes of a line, as a tag. Not by `Packed`, which reads a row of three: a line has a fourth.
 #[tactic(auto, unfolding(format::specs::Bytes::tag_at))]
-fn tag_of(line: &[u8; TAG_LINE]) -> CountryTag
+fn line_tag(line: &[u8; TAG_LINE]) -> CountryTag
     ensures { result ≡ tag_at line.now 0 }
 {
     CountryTag::read(line[0], line[1], line[2])
@@ -67,6 +67,6 @@ impl Iterator for SelectedTags<'_> {
     fn next(&mut self) -> Option<CountryTag> {
         let (line, rest) = self.lines.split_first()?;
         self.lines = rest;
-        Some(tag_of(line))
+        Some(line_tag(line))
     }
 }

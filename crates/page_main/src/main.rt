@@ -9,7 +9,7 @@ const MOST_READ: usize = MOST_BYTES + 1;
 
 // Reads the selection. An input that fails is told of on standard error: its tags up to there are read, and the reader should know that more
 // may be missing.
-fn read_selection<'a>(rt: &HostRuntime, buf: &'a mut [u8]) -> &'a [u8] {
+fn read_input<'a>(rt: &HostRuntime, buf: &'a mut [u8]) -> &'a [u8] {
     let read = read_full(&mut rt.stdin(), buf);
     if read.is_err() {
         let _ = rt.eprintln("page: the input cannot be read");
@@ -37,7 +37,7 @@ fn print(rt: &(impl Print + Eprint), campaign: Option<&[u8]>, selection: &[u8]) 
 fn main(rt: HostRuntime) {
     let mut input = [0u8; MOST_READ];
     let mut s = [0u8; MOST_READ];
-    let selection = read_selection(&rt, &mut input);
+    let selection = read_input(&rt, &mut input);
     let campaign = read_file(&rt, "campaign.atl", &mut s);
     print(&rt, campaign, selection);
 }

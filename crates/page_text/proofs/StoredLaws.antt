@@ -24,7 +24,7 @@ use Rattle.rules.specs.Lent.{written}
 use Rattle.rules.specs.NationRows.{NationRow, nation_rows_in, nation_width}
 use Rattle.chronicle_rows.specs.Cases.{nation_told, nation_in}
 use Rattle.chronicle_rows.specs.RowAt.{nation_row_at, tags_stored}
-use Rattle.chronicle_rows.proofs.RowAtLaws.{nations-next, nations_told}
+use Rattle.chronicle_rows.proofs.RowAtLaws.{nations-next, nation_rows_told}
 use Rattle.chronicle_rows.proofs.NumberedLaws.{dropped-numbers}
 use Rattle.search.specs.Places.{tag_keys_from, place_from}
 use Rattle.search.proofs.PlaceLaws.{length-tag-keys, place_inside}
@@ -57,7 +57,7 @@ module _ (ws : List ℕ) where
   -- As an iterator over all rows gives them.
   module _ (xs : List (List ℕ)) (all : map nation_in xs ≡ map nation_in (first_chunks nation_width (length ws / nation_width) ws)) where
     pub rows-left : map nation_told (map nation_in xs) ≡ rows
-    rows-left = ap (map nation_told) all ∙ nations_told ws
+    rows-left = ap (map nation_told) all ∙ nation_rows_told ws
 
     pub tags-left : map (λ n. n.stored) (map nation_in xs) ≡ tags_stored ws
     tags-left =

@@ -4,16 +4,16 @@ use Rattle.std.proofs.Math.Option.{Option, none, some}
 use Rattle.lists.specs.Lists.{join_of}
 use Rattle.sorting.specs.Sort.{sort_by}
 use Rattle.format.specs.declared.tag.CountryTag.{CountryTag}
-use Rattle.rules.specs.NationRows.{nation_rows_in}
+use Rattle.rules.specs.NationRows.{nation_width, nation_rows_in}
 use Rattle.chronicle_rows.specs.declared.rows.LentRows.{LentRows}
-use Rattle.chronicle_rows.specs.declared.rows.Nation.{Nation}
+use Rattle.chronicle_rows.specs.declared.rows.NationRow.{NationRow}
 use Rattle.chronicle_rows.specs.Cases.{nation_in}
 use Rattle.chronicle_rows.specs.RowAt.{nation_row_at, tags_stored}
 use Rattle.search.specs.Places.{tag_keys_from, place_from}
 use Rattle.page_lines.specs.Lines.{row_line, absent_line}
 
 -- The tags that the nations which an iterator has left are stored under.
-abbrev pub stored_left : LentRows Nation 5 → List CountryTag
+abbrev pub stored_left : LentRows NationRow nation_width → List CountryTag
 stored_left rows = map (λ n. n.stored) (map nation_in rows.rows.now)
 
 -- What the line of a tag is found by: the sorted keys of all nations, and a status cell for each.

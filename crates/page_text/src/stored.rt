@@ -8,7 +8,7 @@ ghost use Rattle.search.specs.Places.{tag_keys_from};
 ghost use Rattle.chronicle_rows.specs.RowAt.{tags_stored};
 ghost use Rattle.page_text.specs.Stored.{LineTables, line_of, stored_left};
 
-use chronicle_rows::{Nations, nation_at};
+use chronicle_rows::{Nations, nation_row_at};
 use format::{CountryTag, MOST_COUNTRIES};
 use page_lines::{FEW_ENTRIES, Line, absent_line, row_line};
 use search::{SortedKeys, first_place, tag_key};
@@ -67,7 +67,7 @@ impl StoredNations<'_, '_> {
         ensures { result.items ≡ line_of self.now.nations.now self.now.living.now tag }
     {
         match first_place(self.keys, tag) {
-            Some(i) => row_line(nation_at(self.nations, i), self.living[i]),
+            Some(i) => row_line(nation_row_at(self.nations, i), self.living[i]),
             None => absent_line(tag),
         }
     }

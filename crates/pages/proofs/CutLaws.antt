@@ -11,8 +11,7 @@ use lib.ListN.{length, take, length-take}
 use lib.Seq.{take_all}
 use Rattle.lists.proofs.BoolLaws.{cases, and-false}
 use Rattle.format.proofs.FirstLaws.{first-stop}
-use Rattle.rules.specs.PageOutcomes.{bytes_number, page_number, call_program}
-use Rattle.pages.specs.Printing.{refused_line}
+use Rattle.rules.specs.PageOutcomes.{bytes_number, page_number, refused_line, call_program}
 use Rattle.pages.proofs.PrintLaws.{prints-number, prints-unread}
 
 -- The most bytes that are ever read of either.

@@ -4,7 +4,6 @@ pub mod CutLaws
 pub mod LivingCellLaws
 pub mod PageLaws
 pub mod PrintLaws
-pub mod RefusalLaws
 pub mod RoomLaws
 pub mod SizeLaws
 pub mod TextLaws

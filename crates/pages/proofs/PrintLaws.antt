@@ -13,9 +13,9 @@ use Rattle.format.specs.Refusal.{refusal}
 use Rattle.format.proofs.FirstLaws.{first-zero, first_one}
 use Rattle.rules.specs.Lent.{refused, gives, answered, written, room_number}
 use Rattle.rules.specs.Page.{selection_of}
-use Rattle.rules.specs.PageOutcomes.{bytes_number, selection_number, limits_number, page_number, page_of, call_page, printed, call_program}
+use Rattle.rules.specs.PageOutcomes.{bytes_number, selection_number, limits_number, page_number, page_of, call_page, refused_line, printed, call_program}
 use Rattle.rules.proofs.LentLaws.{outcome-refused, outcome-gives}
-use Rattle.pages.specs.Printing.{most_printed, call_print, refused_line}
+use Rattle.pages.specs.Printing.{most_printed, call_print}
 use Rattle.pages.proofs.AnswerLaws.{not-refused, same_gives, same-refused}
 use Rattle.pages.proofs.PageLaws.{refused-by, given_by, short-by}
 use Rattle.pages.proofs.SizeLaws.{page-length}

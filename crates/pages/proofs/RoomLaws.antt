@@ -17,7 +17,7 @@ use Rattle.rules.specs.Lent.{refused, gives, written}
 use Rattle.rules.specs.Changes.{changes_of, change_rows}
 use Rattle.rules.specs.Nations.{nations_of, holders_of, held_of}
 use Rattle.rules.specs.NationRows.{nation_width, entry_width, nation_words, entry_words, holder_word}
-use Rattle.rules.specs.Outcomes.{answers_of, NationCells, cells_of, all_fit, all_written, Counts, counts_of, call_nation_events}
+use Rattle.rules.specs.Outcomes.{answers_of, NationCells, cells_of, all_fit, all_written, NationCounts, counts_of, call_nation_events}
 use Rattle.rules.specs.PageOutcomes.{limits_number}
 use Rattle.rules.proofs.RowLaws.{length-nation_words, length-entry_words, length-change_rows}
 use Rattle.nations.proofs.answer.NationOutcomeLaws.{SmallCounts, counts-small, nations-given, nations-short, nations-rows}
@@ -97,7 +97,7 @@ module _ (lent : NationCells) (l : LentFor lent) (xs : List ℕ) (z : refusal xs
         (λ f. number ∙ ap (λ b. cond b 0 10) f)
 
     -- Answered: within them, and the words stand at the front of their cells.
-    pub listed : {r : Counts} → record { answer = gives r; memory = m } ≡ call_nation_events xs lent
+    pub listed : {r : NationCounts} → record { answer = gives r; memory = m } ≡ call_nation_events xs lent
         → (limits_number c ≡ 0) × (r ≡ counts_of (answers_of c)) × (m ≡ all_written (cells_of (answers_of c)) lent)
     listed e =
         cases (all_fit (cells_of (answers_of c)) lent)
@@ -107,17 +107,17 @@ module _ (lent : NationCells) (l : LentFor lent) (xs : List ℕ) (z : refusal xs
         (λ f. absurd (not-refused _ _ (sym (ap (λ o. o.answer) (e ∙ sym (nations-short xs lent z f))))))
 
     -- How many nations and entries there are: all of them within their cells, and their words at the front.
-    module _ {r : Counts} (given : record { answer = gives r; memory = m } ≡ call_nation_events xs lent) where
+    module _ {r : NationCounts} (given : record { answer = gives r; memory = m } ≡ call_nation_events xs lent) where
       abbrev ns : List Nation
       ns = nations_of c
 
       nation-count : nation_width * r.nations ≡ length (nation_words ns)
       unfolding counts_of answers_of
-      nation-count = ap (λ (d : Counts). nation_width * d.nations) (listed given).1 ∙ sym (length-nation_words ns)
+      nation-count = ap (λ (d : NationCounts). nation_width * d.nations) (listed given).1 ∙ sym (length-nation_words ns)
 
       entry-count : entry_width * r.entries ≡ length (entry_words ns)
       unfolding counts_of answers_of
-      entry-count = ap (λ (d : Counts). entry_width * d.entries) (listed given).1 ∙ sym (length-entry_words ns)
+      entry-count = ap (λ (d : NationCounts). entry_width * d.entries) (listed given).1 ∙ sym (length-entry_words ns)
 
       nation-cells : m.nations ≡ written (nation_words ns) lent.nations
       unfolding cells_of answers_of

@@ -1,9 +1,7 @@
 -- What the program page prints, in a slice: how the file and the answer are told, and the outcome.
-use Rattle.std.specs.Prelude.{List, [], ◌∷◌, ℕ, leb, length}
+use Rattle.std.specs.Prelude.{List, ℕ, leb, length}
 use Rattle.std.proofs.Math.Option.{Option, none, some}
-use Rattle.lists.specs.Text.{ascii}
 use Rattle.rules.specs.Lent.{written, room_number, Outcome, outcome, outcome_of}
-use Rattle.rules.specs.Page.{decimal, line}
 use Rattle.rules.specs.PageOutcomes.{call_program}
 use Rattle.std.specs.Prelude as code
 use Rattle.std.specs.Prelude.{Some, None}
@@ -28,7 +26,3 @@ call_print file selection before =
 -- How many bytes are to be printed, with the lent slice after the call.
 abbrev pub printed_outcome : code.Result ℕ Refusal → List ℕ → Outcome ℕ (List ℕ)
 printed_outcome r after = outcome_of (λ n. n) r after
-
--- The line of a refusal.
-abbrev pub refused_line : ℕ → List ℕ
-refused_line n = line (ascii "refused" ∷ decimal n ∷ [])

@@ -3,8 +3,7 @@ ghost use Rattle.std.specs.Prelude.{◌≡◌, ◌≤◌, length};
 ghost use Rattle.std.proofs.Math.Option.{some};
 ghost use Rattle.format.specs.Refused.{refusal_number};
 ghost use Rattle.rules.specs.Lent.{written};
-ghost use Rattle.rules.specs.PageOutcomes.{call_program};
-ghost use Rattle.page_lines.specs.Lines.{refused_line};
+ghost use Rattle.rules.specs.PageOutcomes.{refused_line, call_program};
 ghost use Rattle.pages.specs.Printing.{file_read, most_printed, call_print, printed_outcome};
 
 use crate::paging::{MOST_BYTES, write_page};

@@ -8,16 +8,16 @@ use lib.Dec.{eqb}
 use lib.ListN.{length}
 use lib.Pointwise.{pointwise}
 use Rattle.lists.specs.Lists.{All, same_numbers}
-use Rattle.format.proofs.CampaignLaws.{strings-counted}
 use Rattle.record.specs.declared.texts.Strings.{Strings}
 use Rattle.record.specs.Cursors.{strings_left}
+use Rattle.record.proofs.TextLaws.{strings-few}
 use Rattle.rules.specs.Players.{Pair, pairs_from}
 use Rattle.players.specs.declared.pairs.Pairs.{Pairs}
 use Rattle.players.specs.PairSteps.{pairs_left}
 
--- No more strings are left than are counted.
-pub few_strings : (it : Strings) → length (strings_left it) ≤ it.left
-few_strings it = strings-counted _ _ it.left
+-- The strings left can be numbered in a word.
+pub few_strings : (it : Strings) → length (strings_left it) ≤ 4294967295
+few_strings it = strings-few it
 
 -- No string, a name alone, or a name and a text behind it.
 pub pairs_none : (n : ℕ) (ss : List (List ℕ)) → ss ≡ [] → pairs_from n ss ≡ []

@@ -5,5 +5,5 @@ mod pairs;
 mod player_rows;
 mod walk;
 
-pub use player_rows::players;
+pub use player_rows::{PLAYER_WIDTH, players};
 pub use walk::{Player, PlayersOf};

@@ -1,7 +1,7 @@
 // The players of a campaign: counted first, then written.
 ghost use Rattle.std.specs.Prelude.{◌≡◌, ◌*◌, ◌≤◌, length};
 ghost use Rattle.rules.specs.Lent.{written};
-ghost use Rattle.rules.specs.Players.{player_words, player_rows};
+ghost use Rattle.rules.specs.Players.{player_width, player_words, player_rows};
 ghost use Rattle.rules.specs.PlayerOutcomes.{call_players};
 ghost use Rattle.players.specs.Cases.{players_outcome};
 ghost use Rattle.players.specs.PlayerSteps.{player_in, players_left};
@@ -11,7 +11,7 @@ use chronicle_rows::put;
 use format::Refusal;
 
 // How many words a player row has.
-const PLAYER_WIDTH: usize = 2;
+pub const PLAYER_WIDTH: usize = 2;
 
 // The words of a player's row: name, tag.
 impl From<Player> for [u32; PLAYER_WIDTH] {
@@ -24,7 +24,7 @@ impl From<Player> for [u32; PLAYER_WIDTH] {
 
 // Writes the rows of all players. By places: a proof knows no cell that is written through the parts of `as_chunks_mut`.
 fn write_players(players: PlayersOf, out: &mut [u32])
-    requires { 2 * length (players_left players) ≤ length out.old }
+    requires { player_width * length (players_left players) ≤ length out.old }
     ensures { out.new ≡ written (player_rows (players_left players.entry)) out.old }
 {
     for (i, player) in players.enumerate() {

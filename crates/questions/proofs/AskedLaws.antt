@@ -57,9 +57,6 @@ module _ (qs : List ℕ) where
           record { inside = omega arith; behind = ap (drop 1) two },
         )
 
-    pub asking-last : left ≡ [] → i ≡ length (questions_in qs)
-    asking-last e = omega (arith, a.inside, sym (ap length a.behind) ∙ ap (λ (l : List Code.Question). length (map question_told l)) e, length-drop i (questions_in qs))
-
   -- The words divided into arrays, of which each was tested.
   module _ (rows : List (List ℕ)) (p : rows ≡ first_chunks question_width (length qs / question_width) qs) (over : List ℕ) (x : length over ≡ length qs % question_width) where
     pub questions-torn : eqb (length over) 0 ≡ false → false ≡ (is_whole question_width qs && all_of question_shaped (questions_in qs))

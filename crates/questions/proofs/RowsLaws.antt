@@ -13,7 +13,7 @@ use lib.ListN.{length, drop, get_or, get_or-append}
 use lib.Seq.{drop_at}
 use Rattle.lists.specs.Lists.{All, all_of, join_of, numbers_from, keep}
 use Rattle.lists.proofs.BoolLaws.{and_left, and_right}
-use Rattle.lists.proofs.ListLaws.{all_map, all_keep, join-map, join-same, length-join, rows_join, row_at, length-numbers, numbers-at}
+use Rattle.lists.proofs.ListLaws.{all_map, all_keep, join-map, join-same, length-join, rows_join, row-at, length-numbers, numbers-at}
 use Rattle.sorting.specs.Sort.{sort_by}
 use Rattle.format.specs.declared.tag.CountryTag.{CountryTag}
 use Rattle.format.specs.declared.date.Eu4Date.{Eu4Date}
@@ -53,7 +53,7 @@ row_word row n before w i k h l =
     let is : List ℕ = numbers_from 0 n in
     let e : 0 + i ≡ i = omega arith in
     get_or-append (join_of row is) (drop (2 * n) before) 0 (2 * i + k) (omega (arith, length-all row n w))
-    ∙ (sym (row_at 2 (length is) (join_of row is) i k 0 (omega (arith, length-numbers 0 n)) l)
+    ∙ (sym (row-at 2 (length is) (join_of row is) i k 0 (omega (arith, length-numbers 0 n)) l)
     ∙ ap (λ (r : List ℕ). get_or r k 0) (ap (λ (rs : List (List ℕ)). get_or rs i []) (rows_join 2 row w is) ∙ numbers-at row [] 0 n i h ∙ ap row e))
 
 row_first : (row : ℕ → List ℕ) (n : ℕ) (before : List ℕ) → ((i : ℕ) → length (row i) ≡ 2) → (i : ℕ) → i < n → get_or (rows_with row n before) (2 * i) 0 ≡ get_or (row i) 0 0

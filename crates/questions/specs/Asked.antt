@@ -3,12 +3,12 @@ use Rattle.std.specs.Prelude.{List, [], map, ℕ, get_or}
 use Rattle.chronicle_rows.specs.declared.rows.LentRows.{LentRows}
 use Rattle.questions.specs.declared.asked.Question as Question
 use Rattle.questions.specs.Cases.{question_told, question_in}
-use Rattle.rules.specs.Questions.{Question, question_of, questions_in}
+use Rattle.rules.specs.Questions.{question_width, Question, question_of, questions_in}
 
 -- Question number i.
 unfoldable pub question_at : List ℕ → ℕ → Question
 question_at qs i = get_or (questions_in qs) i (question_of [])
 
 -- The questions that an iterator has left.
-abbrev pub questions_left : LentRows Question.Question 2 → List Question
+abbrev pub questions_left : LentRows Question.Question question_width → List Question
 questions_left rows = map question_told (map question_in rows.rows.now)

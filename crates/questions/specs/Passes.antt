@@ -3,7 +3,7 @@ use Rattle.std.specs.Prelude.{◌≡◌, true, cond, ◌||◌, List, [], ◌∷�
 use Rattle.std.proofs.Math.Option.{Option, none, some, map}
 use Rattle.lists.specs.Lists.{all_of, join_of, numbers_from}
 use Rattle.rules.specs.NationRows.{well_shaped}
-use Rattle.rules.specs.Questions.{Question, questions_in, question_shaped, answer_words}
+use Rattle.rules.specs.Questions.{Question, questions_in, question_shaped, answer_width, answer_words}
 use Rattle.claims.specs.declared.claims.Claim.{Claim}
 use Rattle.claims.specs.Claims.{claims_in, best_of, plain_of, plain_at}
 use Rattle.questions.specs.Asked.{question_at}
@@ -26,7 +26,7 @@ best_words cs q = claim_words (best_of q.tag q.date cs)
 
 -- A row written at its place.
 abbrev pub row_set : List ℕ → ℕ → List ℕ → List ℕ
-row_set out i row = take (2 * i) out ++ (row ++ drop (2 * (i + 1)) out)
+row_set out i row = take (answer_width * i) out ++ (row ++ drop (answer_width * (i + 1)) out)
 
 -- A row after a block: the block's claim, if there is one and the row holds none or one that is not later.
 abbrev pub updated : List ℕ → Option ℕ → ℕ → ℕ → List ℕ
@@ -44,14 +44,14 @@ finished ws owner = answer_words (map (plain_at ws) (row_owner owner))
 
 -- So many rows, each by its number, and behind them what stood there.
 abbrev pub rows_with : (ℕ → List ℕ) → ℕ → List ℕ → List ℕ
-rows_with row n before = join_of row (numbers_from 0 n) ++ drop (2 * n) before
+rows_with row n before = join_of row (numbers_from 0 n) ++ drop (answer_width * n) before
 
 -- ## The rows of each pass, by the number of a question
 
 -- After a block of sorted keys, from the rows before it.
 abbrev pub block_row : List ℕ → List ℕ → List ℕ → List ℕ → ℕ → List ℕ
 block_row qs keys owners before i =
-    updated owners (last_asked (question_at qs i).tag (question_at qs i).date keys) (get_or before (2 * i) 0) (get_or before (2 * i + 1) 0)
+    updated owners (last_asked (question_at qs i).tag (question_at qs i).date keys) (get_or before (answer_width * i) 0) (get_or before (answer_width * i + 1) 0)
 
 -- With the best of the claims passed.
 abbrev pub best_row : List ℕ → List Claim → ℕ → List ℕ
@@ -59,7 +59,7 @@ best_row qs cs i = best_words cs (question_at qs i)
 
 -- In the end, from the rows before.
 abbrev pub finished_row : List ℕ → List ℕ → ℕ → List ℕ
-finished_row ws before i = finished ws (get_or before (2 * i + 1) 0)
+finished_row ws before i = finished ws (get_or before (answer_width * i + 1) 0)
 
 -- The answer by the best of all claims.
 abbrev pub claim_row : List ℕ → List ℕ → List ℕ → ℕ → List ℕ
@@ -69,4 +69,4 @@ claim_row ws es qs i = answer_words (map (plain_of ws) (best_of (question_at qs 
 pub record QuestionsReady (ws es qs out : List ℕ) : Type 0 where
   pub shaped : well_shaped ws es ≡ true
   pub good : all_of question_shaped (questions_in qs) ≡ true
-  pub room : 2 * length (questions_in qs) ≤ length out
+  pub room : answer_width * length (questions_in qs) ≤ length out

@@ -9,7 +9,7 @@ use chronicle_rows::{LentRows, Row};
 use format::{CountryTag, Eu4Date};
 
 // How many words a question has.
-pub(crate) const QUESTION_WIDTH: usize = 2;
+pub const QUESTION_WIDTH: usize = 2;
 
 // Which tag is asked about, and on which date.
 #[derive(Clone, Copy, Debug, PartialEq, Eq)]

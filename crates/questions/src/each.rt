@@ -1,7 +1,7 @@
 // `resolve_each`: passes over the rows of the answer. Not by a trait, as in bookings, whose passes all go over joinings: `finish_rows` reads no question. One
 // `pass_over` for both would be generic in iterator and width, and ask that the iterator ends, may be asked and gives few enough, and the width be small.
 ghost use Rattle.std.specs.Prelude.{◌≡◌, ◌*◌, ◌/◌, ◌≤◌, length};
-ghost use Rattle.rules.specs.Questions.{questions_in, call_resolve_each};
+ghost use Rattle.rules.specs.Questions.{questions_in, answer_width, call_resolve_each};
 ghost use Rattle.questions.specs.Cases.{each_outcome};
 ghost use Rattle.questions.specs.Passes.{QuestionsReady, rows_with, block_row, finished_row, claim_row};
 
@@ -19,7 +19,7 @@ struct HoldQuestions<'a> {
 }
 
 impl BlockPass for HoldQuestions<'_> {
-    ghost words = { λ pass. 2 * length (questions_in pass.questions.now) };
+    ghost words = { λ pass. answer_width * length (questions_in pass.questions.now) };
 
     ghost held = { λ pass keys owners out. rows_with (block_row pass.questions.now keys owners out) (length (questions_in pass.questions.now)) out };
 
@@ -39,7 +39,7 @@ impl BlockPass for HoldQuestions<'_> {
 
 // Turns each row from date and nation number into current and stored tag.
 fn finish_rows(nations: &[u32], out: &mut [u32])
-    ensures { out.new ≡ rows_with (finished_row nations.now out.old) (length out.old / 2) out.old }
+    ensures { out.new ≡ rows_with (finished_row nations.now out.old) (length out.old / answer_width) out.old }
 {
     for i in 0..out.len() / ANSWER_WIDTH {
         let owner = row_owner(out[ANSWER_WIDTH * i + 1]);
@@ -49,7 +49,7 @@ fn finish_rows(nations: &[u32], out: &mut [u32])
 
 // Answers each question by a pass of its own over the chronicle.
 fn answer_each(chronicle: Chronicle<'_>, questions: &[u32], out: &mut [u32])
-    requires { 2 * length (questions_in questions.now) ≤ length out.old }
+    requires { answer_width * length (questions_in questions.now) ≤ length out.old }
     ensures { out.new ≡ rows_with (claim_row chronicle.entry.nations.now chronicle.entry.entries.now questions.now) (length (questions_in questions.now)) out.old }
 {
     for (i, question) in Questions::of(questions).enumerate() {

@@ -9,7 +9,7 @@ mod holding;
 mod layout;
 mod words;
 
-pub use asked::{Question, Questions, question_count};
+pub use asked::{QUESTION_WIDTH, Question, Questions, question_count};
 pub use each::resolve_each;
 pub use holding::{BlockPass, ClaimBlock, fit_in_rows, hold_blocks};
 pub use words::row_owner;

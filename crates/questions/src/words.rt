@@ -2,21 +2,21 @@
 ghost use Rattle.std.specs.Prelude.{◌≡◌, ◌%◌, ◌+◌, ◌*◌, ◌≤◌, length, get_or};
 ghost use Rattle.std.proofs.Math.Option.{map};
 ghost use Rattle.lists.specs.Options.{option_of};
-ghost use Rattle.rules.specs.Questions.{answer_words};
+ghost use Rattle.rules.specs.Questions.{answer_width, answer_words};
 ghost use Rattle.claims.specs.Claims.{plain_at};
 ghost use Rattle.questions.specs.Layout.{row_owners};
 ghost use Rattle.questions.specs.Keys.{key_number};
 ghost use Rattle.questions.specs.Passes.{row_set, updated, row_owner};
 
 use crate::layout::{CLAIM_DATES, CLAIM_NUMBERS, OWNER_NUMBERS};
-use chronicle_rows::{nation_at, put};
+use chronicle_rows::{nation_row_at, put};
 
 // How many words an answer's row has.
 pub(crate) const ANSWER_WIDTH: usize = 2;
 
 // Writes row i.
 pub(crate) fn put_row(out: &mut [u32], i: usize, row: [u32; ANSWER_WIDTH])
-    requires { 2 * (i + 1) ≤ length out.old }
+    requires { answer_width * (i + 1) ≤ length out.old }
     ensures { out.new ≡ row_set out.old i row }
 {
     put(row, &mut out[ANSWER_WIDTH * i..]);
@@ -66,6 +66,6 @@ pub(crate) fn answer_row(nations: &[u32], nation: Option<usize>) -> [u32; ANSWER
     let Some(number) = nation else {
         return [0, 0];
     };
-    let nation = nation_at(nations, number);
+    let nation = nation_row_at(nations, number);
     [nation.latest.into(), nation.stored.into()]
 }

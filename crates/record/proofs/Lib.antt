@@ -5,3 +5,4 @@ pub mod TextLaws
 pub mod NarrowLaws
 pub mod ToldLaws
 pub mod SharedLaws
+pub mod WidthLaws

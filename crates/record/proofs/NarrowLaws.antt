@@ -17,7 +17,7 @@ use Rattle.format.specs.Rows.{rows_at, province_at, owner_event_at}
 use Rattle.format.specs.Campaign.{Province, group_provinces}
 use Rattle.record.specs.declared.provinces.Provinces.{Provinces}
 use Rattle.record.specs.Narrow.{narrow_id, narrow_tag}
-use Rattle.record.specs.Cursors.{provinces_left, all_owner_events}
+use Rattle.record.specs.Cursors.{owner_events_left, provinces_left}
 
 -- ## A test that each row passes
 
@@ -78,4 +78,4 @@ narrow-provinces (r ∷ rs) es n m =
     (record { id = ltb-true _ _ (and_left (narrow_id r) (all_of narrow_id rs) n); events = parts.0 }, narrow-provinces rs _ (and_right (narrow_id r) (all_of narrow_id rs) n) parts.1)
 
 pub provinces-narrow : (c : Provinces) → All NarrowProvince (provinces_left c)
-provinces-narrow c = narrow-provinces _ (all_owner_events c) c.narrow_ids (narrow-events (all_owner_events c) c.narrow_tags)
+provinces-narrow c = narrow-provinces _ (owner_events_left c.events) c.narrow_ids (narrow-events (owner_events_left c.events) c.narrow_tags)

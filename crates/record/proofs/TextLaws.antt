@@ -10,6 +10,9 @@ use lib.ListN.{length, take, drop}
 use Rattle.std.proofs.lemmas.List.{get_or-drop, drop-drop, length-drop}
 use Rattle.format.specs.Bytes.{byte_at}
 use Rattle.format.specs.Rows.{strings_from}
+use Rattle.format.proofs.CampaignLaws.{strings-counted}
+use Rattle.record.specs.declared.texts.Strings.{Strings}
+use Rattle.record.specs.Cursors.{strings_left}
 
 -- Something stands whole behind a bytes, exactly where it ends inside all of them.
 within : (a m l : ℕ) → 0 < m → leb m (l - a) ≡ leb (a + m) l
@@ -64,5 +67,9 @@ strings_first xs (suc left) len behind e p h =
     ap (λ l. strings_from l 0 (suc left)) e
     ∙ simp (le-leb _ _ whole, last)
     (ap (λ l. take len behind ∷ l) (sym (strings-behind (len ∷ behind) (suc len) 0 left ∙ ap (λ a. strings_from (len ∷ behind) a left) at)))
+
+-- As many strings as are left can be numbered in a word.
+pub strings-few : (it : Strings) → length (strings_left it) ≤ 4294967295
+strings-few it = omega (arith, strings-counted it.bytes.now 0 it.left, it.few)
 
 pub ruleset texts = (strings_none, strings_empty, strings_past, strings_first)

@@ -21,19 +21,35 @@ use Rattle.record.specs.declared.texts.Strings.{Strings}
 
 -- ## Rows that own nothing: each as it stands, from its first byte on
 
-abbrev pub previous_left : Rows CountryTag 3 → List CountryTag
+-- Their iterators, by the names that the code has for these types. Widths stand here alone: pages above use the names.
+abbrev pub PreviousTags : Type 0
+PreviousTags = Rows CountryTag 3
+
+abbrev pub Switches : Type 0
+Switches = Rows Switch 7
+
+abbrev pub OwnerEvents : Type 0
+OwnerEvents = Rows OwnerEvent 7
+
+abbrev pub WarEvents : Type 0
+WarEvents = Rows WarEvent 8
+
+abbrev pub Points : Type 0
+Points = Rows Point 6
+
+abbrev pub previous_left : PreviousTags → List CountryTag
 previous_left c = map (λ row. tag_at row 0) c.packed.now
 
-abbrev pub switches_left : Rows Switch 7 → List Switch
+abbrev pub switches_left : Switches → List Switch
 switches_left c = map (λ row. switch_at row 0) c.packed.now
 
-abbrev pub owner_events_left : Rows OwnerEvent 7 → List OwnerEvent
+abbrev pub owner_events_left : OwnerEvents → List OwnerEvent
 owner_events_left c = map (λ row. owner_event_at row 0) c.packed.now
 
-abbrev pub war_events_left : Rows WarEvent 8 → List WarEvent
+abbrev pub war_events_left : WarEvents → List WarEvent
 war_events_left c = map (λ row. war_event_at row 0) c.packed.now
 
-abbrev pub points_left : Rows Point 6 → List Point
+abbrev pub points_left : Points → List Point
 points_left c = map (λ row. point_at row 0) c.packed.now
 
 -- ## Rows with what they own
@@ -61,10 +77,6 @@ province_of r = record { id = r.id; owner = r.owner; events = owner_events_left 
 abbrev pub provinces_left : Provinces → List Province
 provinces_left c = group_provinces (map (λ row. province_at row 0) c.rows.packed.now) (owner_events_left c.events)
 
--- The owner events that the provinces left share.
-abbrev pub all_owner_events : Provinces → List OwnerEvent
-all_owner_events c = owner_events_left c.events
-
 abbrev pub wars_left : Wars → List (List WarEvent)
 wars_left c = group_wars (map (λ row. le16 row 0) c.rows.packed.now) (war_events_left c.events)
 
@@ -73,10 +85,6 @@ ledger_of r = record { tag = r.tag; points = points_left r.points }
 
 abbrev pub ledgers_left : Ledgers → List Ledger
 ledgers_left c = group_ledgers (map (λ row. ledger_at row 0) c.rows.packed.now) (points_left c.points)
-
--- The points that the names left share.
-abbrev pub all_points : Ledgers → List Point
-all_points c = points_left c.points
 
 -- ## Strings
 

@@ -1,3 +1,4 @@
 pub mod Narrow
+pub mod Width
 pub mod Cursors
 pub mod Opened

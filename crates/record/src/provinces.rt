@@ -1,6 +1,6 @@
 // An iterator over the provinces, each with its owner events.
-ghost use Rattle.std.specs.Prelude.{◌≡◌, true, map};
-ghost use Rattle.lists.specs.Lists.{all_of};
+ghost use Rattle.std.specs.Prelude.{◌≡◌, true, map, length};
+ghost use Rattle.lists.specs.Lists.{all_of, sum_of};
 ghost use Rattle.format.specs.Rows.{province_at, owner_event_at};
 ghost use Rattle.record.specs.Narrow.{narrow_id, narrow_tag};
 
@@ -15,19 +15,20 @@ pub struct ProvinceRow<'a> {
     pub events: OwnerEvents<'a>,
 }
 
-// The provinces left, and the owner events that they share; their ids and tags are as small as their bytes allow.
+// The provinces left, and the owner events that they share, of which there are as many as the provinces count; their ids and tags are as small as
+// their bytes allow.
 #[derive(Clone, Copy)]
 pub struct Provinces<'a> {
     pub(crate) rows: Rows<'a, PackedProvince, 7>,
     pub(crate) events: OwnerEvents<'a>,
-    pub ghost narrow_ids: { all_of narrow_id (map (λ row. province_at row 0) rows.packed.now) ≡ true },
-    pub ghost narrow_tags: { all_of narrow_tag (map (λ row. owner_event_at row 0) events.packed.now) ≡ true },
+    ghost narrow_ids: { all_of narrow_id (map (λ row. province_at row 0) rows.packed.now) ≡ true },
+    ghost narrow_tags: { all_of narrow_tag (map (λ row. owner_event_at row 0) events.packed.now) ≡ true },
+    ghost counted: { sum_of (λ r. r.events) (map (λ row. province_at row 0) rows.packed.now) ≡ length (map (λ row. owner_event_at row 0) events.packed.now) },
 }
 
-#[tactic(auto, using(crate::proofs::CountLaws::counts))]
+#[tactic(auto, using(crate::proofs::CountLaws::counts, crate::proofs::SharedLaws::events_shared))]
 impl Provinces<'_> {
-    ghost use Rattle.std.specs.Prelude.{◌≡◌, length};
-    ghost use Rattle.record.specs.Cursors.{provinces_left, all_owner_events};
+    ghost use Rattle.record.specs.Cursors.{provinces_left};
 
     // How many province rows are left.
     pub fn len(&self) -> usize
@@ -36,15 +37,15 @@ impl Provinces<'_> {
         self.rows.len()
     }
 
-    // How many owner events the provinces left share.
+    // How many owner events the provinces left have.
     pub fn events_left(&self) -> usize
-        ensures { result ≡ length (all_owner_events self.now) }
+        ensures { result ≡ sum_of (λ p. length p.events) (provinces_left self.now) }
     {
         self.events.len()
     }
 }
 
-#[tactic(auto, using(crate::proofs::NarrowLaws::narrow), unfolding(format::specs::Campaign::group_provinces))]
+#[tactic(auto, using(crate::proofs::NarrowLaws::narrow, crate::proofs::SharedLaws::events_rest), unfolding(format::specs::Campaign::group_provinces))]
 impl<'a> Iterator for Provinces<'a> {
     ghost use Rattle.std.specs.Iterator.{YieldsFirstBy, item_count};
     ghost use Rattle.record.specs.Cursors.{province_of, provinces_left};

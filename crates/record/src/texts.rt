@@ -1,6 +1,5 @@
 // An iterator over the strings, which vary in width.
-ghost use Rattle.std.specs.Iterator.{YieldsFirstRef, item_count};
-ghost use Rattle.record.specs.Cursors.{strings_left};
+ghost use Rattle.std.specs.Prelude.{◌≤◌};
 
 // So many strings, and the bytes that they stand in. The number stands beside the bytes, and no fact ties the two: `next` ends where either does. That the
 // strings can be numbered in a word (players) follows from the number alone.
@@ -8,10 +7,14 @@ ghost use Rattle.record.specs.Cursors.{strings_left};
 pub struct Strings<'a> {
     pub(crate) bytes: &'a [u8],
     pub(crate) left: u32,
+    ghost few: { left ≤ 4294967295 },
 }
 
 #[tactic(auto, using(crate::proofs::TextLaws::texts))]
 impl<'a> Iterator for Strings<'a> {
+    ghost use Rattle.std.specs.Iterator.{YieldsFirstRef, item_count};
+    ghost use Rattle.record.specs.Cursors.{strings_left};
+
     type Item = &'a [u8];
 
     ghost next_gives = { YieldsFirstRef strings_left };

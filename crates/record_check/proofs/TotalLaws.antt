@@ -56,7 +56,7 @@ few-rows xs h z t s =
         omega (arith, h, rows-counted row width xs at n, sym (length-map rows read) ∙ ap length e)
 
 -- The sums of the counts against the head's totals.
-pub totals-told : (xs : List ℕ) (h : Head) (z : Sections) (a b e v y : ℕ) → h ≡ head_of xs → SectionsOf xs h z
+pub sums-told : (xs : List ℕ) (h : Head) (z : Sections) (a b e v y : ℕ) → h ≡ head_of xs → SectionsOf xs h z
     → a ≡ sum_of (λ r. r.previous) (map (λ row. country_at row 0) z.countries.now)
     → b ≡ sum_of (λ r. r.switches) (map (λ row. country_at row 0) z.countries.now)
     → e ≡ sum_of (λ r. r.events) (map (λ row. province_at row 0) z.provinces.now)
@@ -64,7 +64,7 @@ pub totals-told : (xs : List ℕ) (h : Head) (z : Sections) (a b e v y : ℕ) �
     → y ≡ sum_of (λ r. r.points) (map (λ row. ledger_at row 0) z.ledgers.now)
     → eqb a h.previous && eqb b h.switches && eqb e h.events && eqb v h.war_events && eqb y h.points ≡ totals_agree xs
 unfolding totals_agree
-totals-told xs h z a b e v y eh s ea eb ee ev ey =
+sums-told xs h z a b e v y eh s ea eb ee ev ey =
     rw (ea, eb, ee, ev, ey, s.countries, s.provinces, s.wars, s.ledgers, eh)
 
 -- ## The sizes of a record, by what the code tests in turn

@@ -28,7 +28,7 @@ module _ {b : Bool} (n : ℕ) where
 pub refused : (xs : List ℕ) (e : Refusal) → refusal_number e ≡ refusal xs → RightlyAccepted xs (Err e)
 refused xs e h = record { number = h; rows = tt }
 
-pub refused-on : (xs : List ℕ) (r : code.Result Parsed Refusal) (e : Refusal) → IsErr r × IsErrAnd r (λ x. x ≡ e) → refusal_number e ≡ refusal xs
+pub refused-by : (xs : List ℕ) (r : code.Result Parsed Refusal) (e : Refusal) → IsErr r × IsErrAnd r (λ x. x ≡ e) → refusal_number e ≡ refusal xs
     → RightlyAccepted xs r
-refused-on xs (Ok x) e h t = absurd h.1
-refused-on xs (Err x) e h t = refused xs x (ap refusal_number h.1 ∙ t)
+refused-by xs (Ok x) e h t = absurd h.1
+refused-by xs (Err x) e h t = refused xs x (ap refusal_number h.1 ∙ t)

@@ -11,7 +11,7 @@ use lib.ListN.{length, get_or, drop, replicate, length-take, length-drop, length
 use borrow.Rule.Slice.PartMut.{mid_of, put_mid, same_len_mid}
 use Rattle.std.proofs.lemmas.List.{places}
 use Rattle.lists.proofs.BoolLaws.{and-false}
-use Rattle.lists.proofs.TableLaws.{entry, blank}
+use Rattle.lists.proofs.TableLaws.{entry, blank-entry}
 use Rattle.format.specs.Dates.{month_table, month_days}
 use Rattle.format.specs.Days.{is_day}
 use Rattle.record_fields.specs.Tables.{DaysTo, DayTable}
@@ -88,8 +88,8 @@ pub days-none : DaysTo (replicate 10000 false) (100 * 1)
 days-none =
     record {
       size = length-replicate 10000 false;
-      below = λ k h. blank false 10000 k ∙ sym (month-empty k (let zero : k / 100 ≡ 0 = omega arith in ap (λ (m : ℕ). month_days m) zero));
-      rest = λ k h. blank false 10000 k;
+      below = λ k h. blank-entry false 10000 k ∙ sym (month-empty k (let zero : k / 100 ≡ 0 = omega arith in ap (λ (m : ℕ). month_days m) zero));
+      rest = λ k h. blank-entry false 10000 k;
     }
 
 pub days-whole : (table : List Bool) → DaysTo table 1300 → DayTable table

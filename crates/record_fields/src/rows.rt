@@ -1,5 +1,6 @@
 // The fields of each kind of row, in the order of their offsets: the first bad one refuses it.
-ghost use Rattle.std.specs.Prelude.{◌≡◌, ℕ, map};
+ghost use Rattle.std.specs.Prelude.{◌≡◌, ℕ, eqb, map};
+ghost use Rattle.lists.specs.Lists.{all_of};
 ghost use Rattle.format.specs.Refused.{number_of};
 ghost use Rattle.format.specs.Refusal.{first_in, date_number, tag_number, year_number, country_number, switch_number, owner_event_number, war_event_number};
 
@@ -13,15 +14,25 @@ use format::{
 pub(crate) trait Checked: Sized {
     ghost number: { Self → ℕ };
 
-    fn checked(self, tables: &Tables) -> Result<(), Refusal>
+    // Whether every field is good, by the tables, and without a way out behind the first bad one: most rows are good.
+    fn good(self, tables: &Tables) -> bool
+        ensures { result ≡ eqb (number self) 0 };
+
+    // The refusal of the first bad field.
+    fn checked(self) -> Result<(), Refusal>
         ensures { number_of result ≡ number self };
 }
 
+#[tactic(auto, using(crate::proofs::GoodLaws::good_one))]
 impl Checked for Eu4Date {
     ghost number = { date_number };
 
-    fn checked(self, tables: &Tables) -> Result<(), Refusal> {
-        if tables.good_date(self) {
+    fn good(self, tables: &Tables) -> bool {
+        tables.good_date(self)
+    }
+
+    fn checked(self) -> Result<(), Refusal> {
+        if Eu4Date::good(self) {
             Ok(())
         } else {
             Err(Refusal::BadDate)
@@ -29,11 +40,16 @@ impl Checked for Eu4Date {
     }
 }
 
+#[tactic(auto, using(crate::proofs::GoodLaws::good_one))]
 impl Checked for CountryTag {
     ghost number = { tag_number };
 
-    fn checked(self, tables: &Tables) -> Result<(), Refusal> {
-        if tables.good_tag(self) {
+    fn good(self, tables: &Tables) -> bool {
+        tables.good_tag(self)
+    }
+
+    fn checked(self) -> Result<(), Refusal> {
+        if CountryTag::good(self) {
             Ok(())
         } else {
             Err(Refusal::BadTag)
@@ -41,12 +57,16 @@ impl Checked for CountryTag {
     }
 }
 
-#[tactic(auto, using(format::proofs::FirstLaws::first_one), unfolding(format::specs::Refusal::country_number, format::specs::Refusal::first_of))]
+#[tactic(auto, using(format::proofs::FirstLaws::first_one, crate::proofs::GoodLaws::good_two), unfolding(format::specs::Refusal::country_number, format::specs::Refusal::first_of))]
 impl Checked for PackedCountry {
     ghost number = { country_number };
 
-    fn checked(self, tables: &Tables) -> Result<(), Refusal> {
-        self.tag.checked(tables)?;
+    fn good(self, tables: &Tables) -> bool {
+        tables.good_tag(self.tag) & record_head::flags_defined(self.flags, 3)
+    }
+
+    fn checked(self) -> Result<(), Refusal> {
+        self.tag.checked()?;
         if record_head::flags_defined(self.flags, 3) {
             Ok(())
         } else {
@@ -55,76 +75,130 @@ impl Checked for PackedCountry {
     }
 }
 
-#[tactic(auto, using(format::proofs::FirstLaws::first_one), unfolding(format::specs::Refusal::switch_number, format::specs::Refusal::first_of))]
+#[tactic(auto, using(format::proofs::FirstLaws::first_one, crate::proofs::GoodLaws::good_two), unfolding(format::specs::Refusal::switch_number, format::specs::Refusal::first_of))]
 impl Checked for Switch {
     ghost number = { switch_number };
 
-    fn checked(self, tables: &Tables) -> Result<(), Refusal> {
-        self.date.checked(tables)?;
-        self.from.checked(tables)
+    fn good(self, tables: &Tables) -> bool {
+        tables.good_date(self.date) & tables.good_tag(self.from)
+    }
+
+    fn checked(self) -> Result<(), Refusal> {
+        self.date.checked()?;
+        self.from.checked()
     }
 }
 
+#[tactic(auto, using(crate::proofs::GoodLaws::good_one))]
 impl Checked for PackedProvince {
     ghost number = { λ row. tag_number row.owner };
 
-    fn checked(self, tables: &Tables) -> Result<(), Refusal> {
-        self.owner.checked(tables)
+    fn good(self, tables: &Tables) -> bool {
+        tables.good_tag(self.owner)
+    }
+
+    fn checked(self) -> Result<(), Refusal> {
+        self.owner.checked()
     }
 }
 
-#[tactic(auto, using(format::proofs::FirstLaws::first_one), unfolding(format::specs::Refusal::owner_event_number, format::specs::Refusal::first_of))]
+#[tactic(auto, using(format::proofs::FirstLaws::first_one, crate::proofs::GoodLaws::good_two), unfolding(format::specs::Refusal::owner_event_number, format::specs::Refusal::first_of))]
 impl Checked for OwnerEvent {
     ghost number = { owner_event_number };
 
-    fn checked(self, tables: &Tables) -> Result<(), Refusal> {
-        self.date.checked(tables)?;
-        self.tag.checked(tables)
+    fn good(self, tables: &Tables) -> bool {
+        tables.good_date(self.date) & tables.good_tag(self.tag)
+    }
+
+    fn checked(self) -> Result<(), Refusal> {
+        self.date.checked()?;
+        self.tag.checked()
     }
 }
 
-#[tactic(auto, using(format::proofs::FirstLaws::first_one), unfolding(format::specs::Refusal::war_event_number, format::specs::Refusal::first_of))]
+#[tactic(auto, using(format::proofs::FirstLaws::first_one, crate::proofs::GoodLaws::good_three), unfolding(format::specs::Refusal::war_event_number, format::specs::Refusal::first_of))]
 impl Checked for WarEvent {
     ghost number = { war_event_number };
 
-    fn checked(self, tables: &Tables) -> Result<(), Refusal> {
-        self.date.checked(tables)?;
+    fn good(self, tables: &Tables) -> bool {
+        tables.good_date(self.date)
+            & record_head::kind_defined(self.kind)
+            & tables.good_tag(self.tag)
+    }
+
+    fn checked(self) -> Result<(), Refusal> {
+        self.date.checked()?;
         if !record_head::kind_defined(self.kind) {
             return Err(Refusal::UndefinedBit);
         }
-        self.tag.checked(tables)
+        self.tag.checked()
     }
 }
 
+#[tactic(auto, using(crate::proofs::GoodLaws::good_one))]
 impl Checked for PackedLedger {
     ghost number = { λ row. tag_number row.tag };
 
-    fn checked(self, tables: &Tables) -> Result<(), Refusal> {
-        self.tag.checked(tables)
+    fn good(self, tables: &Tables) -> bool {
+        tables.good_tag(self.tag)
+    }
+
+    fn checked(self) -> Result<(), Refusal> {
+        self.tag.checked()
     }
 }
 
-// The rows of a section, in order.
+// Whether every row is good. No way out of the loop: so it is compiled to one jump a row.
+fn all_good<R: Packed<WIDTH> + Checked, const WIDTH: usize>(
+    rows: &[[u8; WIDTH]],
+    tables: &Tables,
+) -> bool
+    ensures { result ≡ all_of (λ row. eqb (R.number (R.unpacked row)) 0) rows.now }
+{
+    let mut good = true;
+    for row in rows {
+        good &= R::unpack(row).good(tables);
+    }
+    good
+}
+
+// The refusal of the first bad row, found by testing field after field.
+fn first_bad<R: Packed<WIDTH> + Checked, const WIDTH: usize>(
+    rows: &[[u8; WIDTH]],
+) -> Result<(), Refusal>
+    ensures { number_of result ≡ first_in R.number (map R.unpacked rows.now) }
+{
+    for row in rows {
+        R::unpack(row).checked()?;
+    }
+    Ok(())
+}
+
+// The rows of a section, in order: which of them is bad is asked only where one is.
 pub(crate) fn rows_checked<R: Packed<WIDTH> + Checked, const WIDTH: usize>(
     rows: &[[u8; WIDTH]],
     tables: &Tables,
 ) -> Result<(), Refusal>
     ensures { number_of result ≡ first_in R.number (map R.unpacked rows.now) }
 {
-    for row in rows {
-        R::unpack(row).checked(tables)?;
+    if all_good::<R, WIDTH>(rows, tables) {
+        Ok(())
+    } else {
+        first_bad::<R, WIDTH>(rows)
     }
-    Ok(())
 }
 
-// The points, which are most of a record's bytes: whichever of them is bad refuses with the same number, so none needs a way out of the loop.
-// Without one (`&=`, and neither `all` nor `?`) it is compiled to steps over several points, which is quicker.
+// The points, which are most of a record's bytes: whichever of them is bad refuses with the same number, so the latest year tells.
 pub(crate) fn points_checked(rows: &[[u8; 6]]) -> Result<(), Refusal>
     ensures { number_of result ≡ first_in (λ p. year_number p.year) (map ⟦<Point as Packed<6>>⟧.unpacked rows.now) }
 {
-    let mut good = true;
+    let mut latest = 0;
     for row in rows {
-        good &= record_head::year_allowed(Point::unpack(row).year);
+        latest = latest.max(Point::unpack(row).year);
     }
-    if good { Ok(()) } else { Err(Refusal::LongYear) }
+    if record_head::year_allowed(latest) {
+        Ok(())
+    } else {
+        Err(Refusal::LongYear)
+    }
 }

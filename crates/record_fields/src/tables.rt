@@ -17,7 +17,8 @@ pub(crate) struct Tables<'a> {
 }
 
 impl Tables<'_> {
-    // Whether a tag's three bytes are tag bytes. By division, and not by `to_be_bytes`: a word of more than three bytes is no tag.
+    // Whether a tag's three bytes are tag bytes. By division, and not by `to_be_bytes`: a word of more than three bytes is no tag, and of a word that
+    // was just read the compiler takes the bytes themselves.
     #[tactic(auto, unfolding(format::specs::Tags::is_tag))]
     pub(crate) fn good_tag(&self, tag: CountryTag) -> bool
         ensures { result ≡ is_tag tag }

@@ -9,7 +9,7 @@ use lib.ListN.{length, take, drop, replicate, get_or-eq_default, length-take, le
 use lib.Seq.{take-take}
 use Rattle.std.proofs.lemmas.List.{get_or-take, get_or-drop, get_or-append_right, drop-drop, drop-take}
 use Rattle.std.specs.Simd.{first_chunks}
-use Rattle.lists.proofs.TableLaws.{blank}
+use Rattle.lists.proofs.TableLaws.{blank-entry}
 use Rattle.format.specs.Bytes.{byte_at}
 use Rattle.format.specs.Head.{head_of}
 use Rattle.format.specs.Rows.{rows_at}
@@ -26,7 +26,7 @@ filled xs size n e k h =
       | no p ↦
           get_or-append_right (take n xs) (drop n (replicate size 0)) n k 0 taken (omega arith)
           ∙ get_or-drop n (replicate size 0) (k - n) 0
-          ∙ blank 0 size (n + (k - n))
+          ∙ blank-entry 0 size (n + (k - n))
           ∙ sym (get_or-eq_default xs 0 (omega arith))
     ]
 

@@ -10,12 +10,12 @@ use std::io::Read;
 use stored_input::{BrokenOff, Counts, Replay, read_part, replay_file, stored_answer};
 
 // How many bytes a stored record has at most.
-const MOST_BYTES: usize = 65536;
+const RECORD_BYTES: usize = 65536;
 
 // Room for the longest record: of a fixed size, since nothing is allocated.
 #[derive(Drop)]
 struct Records {
-    bytes: [u8; MOST_BYTES],
+    bytes: [u8; RECORD_BYTES],
 }
 
 // Whether a record is refused by another number, or by one where the number is 0.
@@ -44,7 +44,7 @@ impl Replay for Records {
 // What is printed no promise tells: no clause of the host's output says which bytes reach it. It is held to the file stdout.
 fn main(rt: HostRuntime) -> io::Result<()> {
     let mut records = Records {
-        bytes: [0; MOST_BYTES],
+        bytes: [0; RECORD_BYTES],
     };
     let all = replay_file(&rt, "vectors.bin", &mut records).unwrap_or_default();
     println!(rt; "{} records, {} wrong", all.cases, all.counts.wrong)

@@ -6,10 +6,9 @@ use mathlib.Core.List.{List, [], ◌∷◌}
 use mathlib.Core.Option.{Option, none, some, map}
 use Rattle.std.specs.Prelude as code
 use Rattle.std.specs.Prelude.{Ok, Err, IsErr, IsErrAnd}
-use Prim.Native.Nat.{ℕ, ◌+◌, ◌<◌}
+use Prim.Native.Nat.{ℕ, ◌<◌}
 use native.Mathlib.Omega.{arith}
 use Rattle.std.specs.List.{list_all}
-use Rattle.lists.specs.Lists.{last_or, last}
 use Rattle.lists.proofs.BoolLaws.{cases}
 use Rattle.format.specs.declared.tag.CountryTag.{CountryTag}
 use Rattle.format.specs.declared.date.Eu4Date.{Eu4Date}
@@ -21,17 +20,16 @@ use Rattle.format.specs.Refused.{refusal_number}
 use Rattle.format.proofs.FirstLaws.{first-zero, first-pass, first-stop}
 use Rattle.format.proofs.RefusedLaws.{refuses}
 use Rattle.rules.specs.Lent.{refused, gives, answered}
-use Rattle.rules.specs.NationRows.{NationRow, well_shaped}
+use Rattle.rules.specs.NationRows.{well_shaped}
 use Rattle.rules.specs.Refusals.{chronicle_number, asked_tag_number, asked_date_number}
-use Rattle.rules.specs.Resolver.{TagData, plain_data, day_data, switched_data, walked, resolve, initial, resolve_on, initial_on}
+use Rattle.rules.specs.Resolver.{TagData, plain_data, day_data, switched_data, resolve, initial, resolve_on, initial_on}
 use Rattle.rules.specs.Outcomes.{call_resolve, call_initial, call_resolve_on, call_initial_on}
 use Rattle.rules.proofs.LentLaws.{answered-refused, answered-gives}
-use Rattle.chronicle_rows.specs.RowAt.{nation_row_at, nation_numbered}
 use Rattle.claims.specs.declared.claims.Claim.{Claim}
 use Rattle.claims.specs.Claims.{initial_claims, claims_in, best_of, last_to, plain_of}
 use Rattle.resolver.specs.declared.forms.TagData as Found
 use Rattle.resolver.specs.Cases.{resolved_answer}
-use Rattle.resolver.specs.Found.{asked_number, worn_in, day_of, switched_of}
+use Rattle.resolver.specs.Found.{asked_number, day_of, switched_of}
 use Rattle.claims.proofs.ResolvedLaws.{claim_nation, map-twice, claim-resolved, claim-initial}
 
 -- ## The tests of a question
@@ -131,45 +129,3 @@ module _ (ws es : List ℕ) (best : Option Claim) where
         switched-claim : (o : Option Claim) → switched_data day (map (claim_nation ws es) o) ≡ switched_of ws es day o
         switched-claim none = refl
         switched-claim (some c) = refl
-
--- ## The answer of a claim
-
--- The best claim's row, as the code has read it.
-module _ (ws : List ℕ) (best : Option Claim) where
-  module _ (c : Claim) (row : NationRow) (e : best ≡ some c) (r : row ≡ nation_row_at ws c.nation) where
-    pub plain-found : some (record { current = row.latest; stored = row.stored }) ≡ map (plain_of ws) best
-    plain-found = rw (e, r)
-
-    module _ (es : List ℕ) (day : Eu4Date) (w : Option CountryTag) (k : w ≡ worn_in es day row.first row.count) where
-      last-is : (d t : CountryTag) (ts : List CountryTag) → some t ≡ last ts → t ≡ last_or d ts
-      last-is d t [] h = let z : ◌≡◌ {A = ℕ} 0 1 = cc in absurd (omega arith)
-      last-is d t (x ∷ ts) h = cc
-
-      last-nowhere : (d : CountryTag) (ts : List CountryTag) → none ≡ last ts → d ≡ last_or d ts
-      last-nowhere d [] h = refl
-      last-nowhere d (x ∷ ts) h = let z : ◌≡◌ {A = ℕ} 0 1 = cc in absurd (omega arith)
-
-      there : w ≡ worn_in es day (nation_row_at ws c.nation).first (nation_row_at ws c.nation).count
-      there = rw (← r) k
-
-      pub day-worn : (t : CountryTag) → w ≡ some t → some (record { current = t; stored = row.stored }) ≡ map (day_of ws es day) best
-      day-worn t h =
-          let n = nation_numbered ws es c.nation in
-          let f : t ≡ last_or n.initial (walked day n) = last-is n.initial t (walked day n) (sym h ∙ there) in
-          rw (e, r) (ap (λ (x : CountryTag). some (record { current = x; stored = n.stored })) f)
-
-      pub day-bare : w ≡ none → some (record { current = row.initial; stored = row.stored }) ≡ map (day_of ws es day) best
-      day-bare h =
-          let n = nation_numbered ws es c.nation in
-          let f : n.initial ≡ last_or n.initial (walked day n) = last-nowhere n.initial (walked day n) (sym h ∙ there) in
-          rw (e, r) (ap (λ (x : CountryTag). some (record { current = x; stored = n.stored })) f)
-
-      pub switched-worn : (t : CountryTag) → w ≡ some t → some (record { current = t; stored = row.stored }) ≡ switched_of ws es day best
-      switched-worn t h =
-          let f : worn_in es day (nation_row_at ws c.nation).first (nation_row_at ws c.nation).count ≡ some t = sym there ∙ h in
-          rw (e, r) (sym (simp f))
-
-      pub switched-bare : w ≡ none → none ≡ switched_of ws es day best
-      switched-bare h =
-          let f : worn_in es day (nation_row_at ws c.nation).first (nation_row_at ws c.nation).count ≡ none = sym there ∙ h in
-          rw e (sym (simp f))

@@ -10,7 +10,7 @@ ghost use Rattle.claims.specs.Claims.{plain_of};
 ghost use Rattle.resolver.specs.Found.{asked_number, day_of, switched_of};
 
 use crate::worn::worn_on;
-use chronicle_rows::{Chronicle, nation_at};
+use chronicle_rows::{Chronicle, nation_row_at};
 use claims::{Claim, best_claim, best_initial};
 use format::{CountryTag, Eu4Date, Refusal};
 
@@ -42,7 +42,7 @@ fn open_asked<'a>(
 fn plain_answer(nations: &[u32], best: Option<Claim>) -> Option<TagData>
     ensures { map tag_data_told (option_of result) ≡ map (plain_of nations.now) (option_of best) }
 {
-    let nation = nation_at(nations, best?.nation);
+    let nation = nation_row_at(nations, best?.nation);
     Some(TagData {
         current: nation.latest,
         stored: nation.stored,
@@ -53,7 +53,7 @@ fn plain_answer(nations: &[u32], best: Option<Claim>) -> Option<TagData>
 fn day_answer(chronicle: Chronicle<'_>, best: Option<Claim>, day: Eu4Date) -> Option<TagData>
     ensures { map tag_data_told (option_of result) ≡ map (day_of chronicle.entry.nations.now chronicle.entry.entries.now day) (option_of best) }
 {
-    let nation = nation_at(chronicle.nations, best?.nation);
+    let nation = nation_row_at(chronicle.nations, best?.nation);
     let current = worn_on(chronicle.entries, nation, day).unwrap_or(nation.initial);
     Some(TagData {
         current,
@@ -65,7 +65,7 @@ fn day_answer(chronicle: Chronicle<'_>, best: Option<Claim>, day: Eu4Date) -> Op
 fn switched_answer(chronicle: Chronicle<'_>, best: Option<Claim>, day: Eu4Date) -> Option<TagData>
     ensures { map tag_data_told (option_of result) ≡ switched_of chronicle.entry.nations.now chronicle.entry.entries.now day (option_of best) }
 {
-    let nation = nation_at(chronicle.nations, best?.nation);
+    let nation = nation_row_at(chronicle.nations, best?.nation);
     let current = worn_on(chronicle.entries, nation, day)?;
     Some(TagData {
         current,

@@ -6,7 +6,7 @@ ghost use Rattle.rules.specs.Nations.{kind_target};
 ghost use Rattle.chronicle_rows.specs.Cases.{kind_told};
 ghost use Rattle.resolver.specs.Found.{worn_in};
 
-use chronicle_rows::{Kind, Nation};
+use chronicle_rows::{Kind, NationRow};
 use format::{CountryTag, Eu4Date};
 
 // The tag behind an entry: the target of a switch, else the tag worn so far. A function of its own, so that the loop's proof has one case.
@@ -21,7 +21,7 @@ fn behind(worn: Option<CountryTag>, kind: Kind) -> Option<CountryTag>
 
 // The target of a nation's last switch before its first entry dated later than the day.
 #[tactic(auto, using(crate::proofs::WornLaws::worn))]
-pub(crate) fn worn_on(entries: &[u32], row: Nation, day: Eu4Date) -> Option<CountryTag>
+pub(crate) fn worn_on(entries: &[u32], row: NationRow, day: Eu4Date) -> Option<CountryTag>
     ensures { option_of result ≡ worn_in entries.now day row.first row.count }
 {
     let mut worn = None;

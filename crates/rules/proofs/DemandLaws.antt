@@ -26,7 +26,7 @@ use Rattle.rules.specs.Holding.{wears}
 use Rattle.rules.specs.NationRows.{nation_width, entry_width, nation_words, entry_words, nations_in, well_shaped}
 use Rattle.rules.specs.Resolver.{resolved_nation, resolve, walked, resolve_on}
 use Rattle.rules.specs.Bookings.{Booking, joinings_of, booking_of, bookings_of, booking_rows, bookings_in, booking_width}
-use Rattle.rules.specs.Outcomes.{Counts, answers_of, NationCells, cells_of, all_fit, all_written, counts_of, call_nation_events, call_resolve_on, call_war_participants}
+use Rattle.rules.specs.Outcomes.{NationCounts, answers_of, NationCells, cells_of, all_fit, all_written, counts_of, call_nation_events, call_resolve_on, call_war_participants}
 use Rattle.rules.specs.Refusals.{asked_tag, asked_date}
 use Rattle.rules.specs.Demand.{Living, nations_given, entries_given, changes_given, bookings_given, OnDay, Chronicled, Demand3}
 use Rattle.rules.proofs.CampaignLaws.{living}
@@ -113,7 +113,7 @@ module _ (xs : List ℕ) (accepted : refusal xs ≡ 0) (lent : NationCells) (roo
   chronicled =
       let c : Campaign = campaign_of xs in
       let ns : List Nation = nations_of c in
-      let o : Outcome Counts NationCells = call_nation_events xs lent in
+      let o : Outcome NationCounts NationCells = call_nation_events xs lent in
       let nation-rows : nations_given o ≡ nation_words ns =
       simp nations-answer (front nation_width (length ns) (nation_words ns) lent.nations (length-nation_words ns)) in
       let entry-rows : entries_given o ≡ entry_words ns =
@@ -124,7 +124,7 @@ module _ (xs : List ℕ) (accepted : refusal xs ≡ 0) (lent : NationCells) (roo
       let told : nations_in (nation_words ns) (entry_words ns) ≡ ns = read-written ns in
       let goods : All GoodNation ns = nations-good c s in
       record {
-        answer = ap (λ (x : Outcome Counts NationCells). x.answer) nations-answer;
+        answer = ap (λ (x : Outcome NationCounts NationCells). x.answer) nations-answer;
         changes = change-rows;
         nations = rw (nation-rows, entry-rows) told;
         on_day =

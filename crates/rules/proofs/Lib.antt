@@ -3,6 +3,7 @@ pub mod LivingLaws
 pub mod CampaignLaws
 pub mod ResolverLaws
 pub mod RowLaws
+pub mod HistoryRowLaws
 pub mod ShapeLaws
 pub mod DemandLaws
 pub mod WitnessLaws

@@ -14,7 +14,7 @@ use Rattle.rules.specs.Lent.{gives, Outcome}
 use Rattle.rules.specs.Holding.{holds_on}
 use Rattle.rules.specs.NationRows.{nations_in}
 use Rattle.rules.specs.Bookings.{Booking}
-use Rattle.rules.specs.Outcomes.{NationCells, Counts, call_nation_events, call_resolve_on, call_war_participants}
+use Rattle.rules.specs.Outcomes.{NationCells, NationCounts, call_nation_events, call_resolve_on, call_war_participants}
 use Rattle.rules.specs.Demand.{counted, nations_given, entries_given, changes_given, bookings_given, Chronicled, Demand3}
 use Rattle.rules.specs.cases.Worked.{ENG, GBR, FRA, dated, starts_on, worked_wars}
 use Rattle.rules.specs.Table.{sevens}
@@ -70,7 +70,7 @@ abbrev pub Books : ℕ → Booking → Type 0
 Books k b = get_elem? (bookings_given (call_war_participants worked_wars nations entries (sevens 16))) k ≡ some b
 
 -- What nations does with the record.
-abbrev pub done : Outcome Counts NationCells
+abbrev pub done : Outcome NationCounts NationCells
 done = call_nation_events worked_wars lent
 
 pub record Witnessed : Type 0 where

@@ -18,7 +18,7 @@ use Rattle.rules.specs.Holding.{holds_on, wears}
 use Rattle.rules.specs.NationRows.{nation_width, entry_width, nations_in}
 use Rattle.rules.specs.Resolver.{is_switch_to}
 use Rattle.rules.specs.Bookings.{Joining, joinings_of, Booking, booking_width, bookings_of, booking_rows, bookings_in}
-use Rattle.rules.specs.Outcomes.{answers_of, NationCells, cells_of, all_fit, Counts, counts_of, call_nation_events, call_resolve_on, call_war_participants}
+use Rattle.rules.specs.Outcomes.{answers_of, NationCells, cells_of, all_fit, NationCounts, counts_of, call_nation_events, call_resolve_on, call_war_participants}
 
 -- ## What is counted, and whose tag it is
 
@@ -49,14 +49,14 @@ rows_given width count (refused number) cells = []
 rows_given width count (gives values) cells = take (width * count values) cells
 
 -- The nation words and the entry words that nations wrote: exactly these are lent to resolver and bookings.
-abbrev pub nations_given : Outcome Counts NationCells → List ℕ
+abbrev pub nations_given : Outcome NationCounts NationCells → List ℕ
 nations_given o = rows_given nation_width (λ c. c.nations) o.answer o.memory.nations
 
-abbrev pub entries_given : Outcome Counts NationCells → List ℕ
+abbrev pub entries_given : Outcome NationCounts NationCells → List ℕ
 entries_given o = rows_given entry_width (λ c. c.entries) o.answer o.memory.entries
 
 -- The change words that nations wrote.
-abbrev pub changes_given : Outcome Counts NationCells → List ℕ
+abbrev pub changes_given : Outcome NationCounts NationCells → List ℕ
 changes_given o = rows_given change_width (λ c. c.changes) o.answer o.memory.changes
 
 -- The bookings that bookings wrote.
@@ -86,7 +86,7 @@ pub record OnDay (xs ws es : List ℕ) (n : Nation) (others : List Nation) (day 
       ≡ some (record { war = j.war; tag = wears n day; stored = n.stored })
 
 -- A finished chronicle: what nations answered, and the memory that it left.
-pub record Chronicled (xs : List ℕ) (o : Outcome Counts NationCells) : Type 0 where
+pub record Chronicled (xs : List ℕ) (o : Outcome NationCounts NationCells) : Type 0 where
   pub answer : o.answer ≡ gives (counts_of (answers_of (campaign_of xs)))
   -- The rows written tell the record's changes and its nations with their entries, no more and no fewer.
   pub changes : changes_given o ≡ change_rows (changes_of (campaign_of xs))

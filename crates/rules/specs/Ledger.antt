@@ -94,7 +94,11 @@ nation_ledger c n = join_of (span_points c.ledgers) (spans_of c n)
 
 -- ## Rows
 
--- The three words of a row.
+-- The width of a row.
+abbrev pub ledger_width : ℕ
+ledger_width = 3
+
+-- Its words: tag, year, value.
 abbrev pub point_words : LedgerPoint → List ℕ
 point_words p = p.tag.0 ∷ p.year ∷ p.value ∷ []
 

@@ -87,7 +87,7 @@ all_written cells before =
     }
 
 -- How many rows or cells of each slice the answer fills.
-pub record Counts : Type 0 where
+pub record NationCounts : Type 0 where
   pub nations : ℕ
   pub entries : ℕ
   pub slots : ℕ
@@ -95,7 +95,7 @@ pub record Counts : Type 0 where
   pub changes : ℕ
 
 -- They are the lengths of the lists.
-unfoldable pub counts_of : Answers → Counts
+unfoldable pub counts_of : Answers → NationCounts
 counts_of a =
     record {
       nations = length a.nations;
@@ -106,7 +106,7 @@ counts_of a =
     }
 
 -- Refused by the record's number, or 10.
-unfoldable pub call_nation_events : List ℕ → NationCells → Outcome Counts NationCells
+unfoldable pub call_nation_events : List ℕ → NationCells → Outcome NationCounts NationCells
 call_nation_events xs before =
     let answers = answers_of (campaign_of xs) in
     let cells = cells_of answers in

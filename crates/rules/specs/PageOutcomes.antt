@@ -1,6 +1,6 @@
 -- 01, Page: its limits and refusal numbers, the outcome of the page's call, and what the program prints. How an outcome becomes the one
 -- number that a C function returns is said in the crate host_answers.
-use Rattle.std.specs.Prelude.{cond, ◌&&◌, List, [], ◌∷◌, ℕ, zero, suc, leb, length}
+use Rattle.std.specs.Prelude.{cond, ◌&&◌, List, [], ◌∷◌, ℕ, leb, length}
 use Rattle.std.proofs.Math.Option.{Option, none, some}
 use Rattle.lists.specs.Lists.{join_of}
 use Rattle.lists.specs.Text.{ascii}
@@ -57,9 +57,13 @@ abbrev pub file_bytes : Option (List ℕ) → List ℕ
 file_bytes none = []
 file_bytes (some xs) = xs
 
--- The page, or on a refusal only the line of `refused` and its number.
+-- The line of a refusal: `refused` and its number.
+abbrev pub refused_line : ℕ → List ℕ
+refused_line n = line (ascii "refused" ∷ decimal n ∷ [])
+
+-- The page, or on a refusal only its line.
 abbrev pub printed : Answer (List ℕ) → List ℕ
-printed (refused n) = line (ascii "refused" ∷ decimal n ∷ [])
+printed (refused n) = refused_line n
 printed (gives text) = text
 
 -- Of `campaign.atl`, if it can be read, and of standard input, the selection. The program has room for every page.

@@ -43,7 +43,11 @@ players_of c = join_of (player_of c.multiplayer) (pairs_from 0 c.strings)
 
 -- ## Rows
 
--- The two words of a player row.
+-- The width of a player row.
+abbrev pub player_width : ℕ
+player_width = 2
+
+-- Its words: name, tag.
 abbrev pub player_words : Player → List ℕ
 player_words p = p.name ∷ p.tag.0 ∷ []
 

@@ -19,7 +19,7 @@ pub record Question : Type 0 where
   pub tag : CountryTag
   pub date : Eu4Date
 
--- The width of a question row, and of an answer row.
+-- The width of a question row.
 abbrev pub question_width : ℕ
 question_width = 2
 
@@ -38,6 +38,10 @@ question_shaped q = is_tag q.tag && good_date q.date
 -- 12: the words are not whole rows, or some question is bad.
 abbrev pub questions_number : List ℕ → ℕ
 questions_number qs = cond (is_whole question_width qs && all_of question_shaped (questions_in qs)) 0 12
+
+-- The width of an answer row.
+abbrev pub answer_width : ℕ
+answer_width = 2
 
 -- An answer's words: current and stored tag, 0 and 0 for none.
 abbrev pub answer_words : Option TagData → List ℕ

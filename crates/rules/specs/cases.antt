@@ -3,5 +3,7 @@ pub mod Worked
 pub mod CaseForms
 pub mod RecordCases
 pub mod LentCases
+pub mod QuestionCases
+pub mod LedgerCases
 pub mod PlayerCases
 pub mod PageCases

@@ -57,14 +57,11 @@ encloses-one keys x from end e q =
       counted = λ s. omega (arith, e.low s, e.high s);
     }
 
--- Below 0 is none, and an even number is found by the one two before it.
+-- Below 0 is none.
 pub none_below : (keys : List ℕ) (x : ℕ) → x < 2 → CountsBelow keys (x / 2 * 2) 0
 none_below keys x h =
     let e : x / 2 * 2 ≡ 0 = omega arith in
     rw e (record { inside = omega arith; counted = λ s. sym (count_none (λ k. ltb k 0) keys (all-each (λ k. le-ltb k 0 (omega arith)) keys)) })
-
-pub even-below : (keys : List ℕ) (x n : ℕ) → 2 ≤ x → CountsBelow keys ((x - 2) / 2 * 2 + 2) n → CountsBelow keys (x / 2 * 2) n
-even-below keys x n h k = let e : (x - 2) / 2 * 2 + 2 ≡ x / 2 * 2 = omega arith in rw e at k
 
 -- The key in the middle tells which half the count lies in.
 module _ (keys : List ℕ) (x base size half mid top r : ℕ) (e : Encloses keys (x / 2 * 2 + 2) base (base + size)) (some : 0 < half) (most : half ≤ size)

@@ -4,9 +4,13 @@ use Rattle.std.proofs.Math.Option.{Option, none, some}
 use Rattle.format.specs.declared.tag.CountryTag.{CountryTag}
 use Rattle.format.specs.Tags.{same_tag}
 
+-- How many keys a tag has, one for each number: one more of a tag adds this to a key.
+abbrev pub keys_per_tag : ℕ
+keys_per_tag = 65536
+
 -- A tag and a number in one key: so keys stand in the order of tags, those of one tag by rising number.
 abbrev pub tag_key : CountryTag → ℕ → ℕ
-tag_key t n = t.0 * 65536 + n
+tag_key t n = t.0 * keys_per_tag + n
 
 -- The keys of tags that are numbered from k on.
 unfoldable pub tag_keys_from : ℕ → List CountryTag → List ℕ

@@ -4,8 +4,7 @@ use mathlib.Core.List.{List, [], ◌∷◌, ◌++◌, append_assoc, append-nil}
 use Prim.Native.Nat.{ℕ, suc, ◌+◌, ◌-◌, ◌<◌, ◌≤◌, min}
 use native.Mathlib.Omega.{arith}
 use lib.ListN.{length, length-append, length-map}
-use lib.Dec.{leb, ltb}
-use Rattle.lists.specs.Lists.{leading, skipping, numbers_from}
+use Rattle.lists.specs.Lists.{numbers_from}
 use Rattle.lists.proofs.ListLaws.{length-numbers}
 use Rattle.format.specs.declared.tag.CountryTag.{CountryTag}
 use Rattle.format.specs.declared.rows.Point.{Point}
@@ -57,11 +56,6 @@ filled-count tag last running [] = zeros-length tag running (last + 1)
 filled-count tag last running (p ∷ ps) =
     let rest : List LedgerPoint = filled_to tag last (p.year + 1) ps in
     omega (arith, length-append (year_filled tag running p) rest, year-length tag running p, filled-count tag last (p.year + 1) ps)
-
--- What a span gives, from the first point that is not older than its first year on.
-module _ (s : Span) (first : ℕ) (all left : List Point) (e : first ≡ year s.start) (skipped : left ≡ skipping (λ p. ltb p.year first) all) where
-  pub span-filled : filled s (year s.start + 1) (within s all) ≡ filled_to s.tag (year s.end) (first + 1) (leading (λ p. leb p.year (year s.end)) left)
-  span-filled = rw (skipped, e) (filled-to s (year s.start + 1) (within s all))
 
 -- ## Read point by point
 

@@ -23,8 +23,7 @@ use Rattle.std.proofs.lemmas.List.{map-id}
 use Rattle.lists.specs.Lists.{leading, skipping}
 use Rattle.format.specs.declared.rows.Point.{Point}
 use Rattle.format.specs.Dates.{year}
-use Rattle.record.specs.declared.rows.Rows.{Rows}
-use Rattle.record.specs.Cursors.{points_left}
+use Rattle.record.specs.Cursors.{Points, points_left}
 use Rattle.rules.specs.Ledger.{Span, within}
 
 module _ {A : Type 0} (p : A → Bool) where
@@ -57,12 +56,12 @@ read s ps first last e f = lead (in_time last) _ ∙ rw (skip (older first) ps, 
 
 -- A loop over the points of a row that passes over the older ones and stops behind the last in time has read, at its end, what the span reads.
 pub read-all : {F G : Type 0} {g : Mut F (Bor Point × Unit {0}) Bool} {h : Mut G (Bor Point × Unit {0}) Bool}
-    → (sp : Span) (points : Rows Point 6) (first last : ℕ) → first ≡ year sp.start → last ≡ year sp.end
-    → (s : SkipWhile (Rows Point 6) F) {f : F} → skip_while_source s ≡ points → skip_while_callee s ≡ f → skip_while_done_skipping s ≡ false
-    → (t : TakeWhile (SkipWhile (Rows Point 6) F) G) {e : G} → take_while_source t ≡ s → take_while_callee t ≡ e → take_while_done t ≡ false
-    → (it at : TakeWhile (SkipWhile (Rows Point 6) F) G) → it ≡ t → (yielded : List Point)
+    → (sp : Span) (points : Points) (first last : ℕ) → first ≡ year sp.start → last ≡ year sp.end
+    → (s : SkipWhile Points F) {f : F} → skip_while_source s ≡ points → skip_while_callee s ≡ f → skip_while_done_skipping s ≡ false
+    → (t : TakeWhile (SkipWhile Points F) G) {e : G} → take_while_source t ≡ s → take_while_callee t ≡ e → take_while_done t ≡ false
+    → (it at : TakeWhile (SkipWhile Points F) G) → it ≡ t → (yielded : List Point)
     → Yields (take_while_steps (skip_while_steps (YieldsFirst points_left) g) h) it yielded at
-    → (r : code.Option Point) (u : TakeWhile (SkipWhile (Rows Point 6) F) G) → r ≡ None
+    → (r : code.Option Point) (u : TakeWhile (SkipWhile Points F) G) → r ≡ None
     → take_while_steps (skip_while_steps (YieldsFirst points_left) g) h at r u
     → ((x : Point) (b : Bool) (q : F) → CalledAt g f x b q → (q ≡ f) × (b ≡ older first x))
     → ((x : Point) (b : Bool) (q : G) → CalledAt h e x b q → (q ≡ e) × (b ≡ in_time last x))

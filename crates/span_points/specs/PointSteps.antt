@@ -3,10 +3,9 @@ use Rattle.std.specs.Prelude.{◌≡◌, List, [], ◌∷◌, ◌++◌, ℕ, ◌
 use Rattle.format.specs.declared.tag.CountryTag.{CountryTag}
 use Rattle.format.specs.declared.rows.Point.{Point}
 use Rattle.format.specs.Dates.{year}
-use Rattle.record.specs.declared.rows.Rows.{Rows}
-use Rattle.record.specs.Cursors.{points_left}
+use Rattle.record.specs.Cursors.{Points, points_left}
 use Rattle.rules.specs.Lent.{written}
-use Rattle.rules.specs.Ledger.{LedgerPoint, zeros, filled, within, point_rows}
+use Rattle.rules.specs.Ledger.{LedgerPoint, zeros, filled, within, ledger_width, point_rows}
 use Rattle.spans.specs.declared.walk.Span.{Span}
 use Rattle.spans.specs.SpanSteps.{span_in}
 use Rattle.span_points.specs.declared.filling.LedgerPoint as Code
@@ -14,7 +13,7 @@ use Rattle.span_points.specs.declared.filling.LedgerPoint as Code
 -- ## What a span gives
 
 -- The points of a span, with those of its ledger row.
-abbrev pub span_filled : Rows Point 6 → Span → List LedgerPoint
+abbrev pub span_filled : Points → Span → List LedgerPoint
 span_filled points s = filled (span_in s) (year s.start + 1) (within (span_in s) (points_left points))
 
 -- The point that the code holds.
@@ -42,5 +41,5 @@ filled_count last running (p ∷ ps) = p.year - running + 1 + filled_count last 
 
 -- Points written into a lent slice: as many as find room there, and how many these are.
 pub record FillsSpan (ps : List LedgerPoint) (r : ℕ) (before after : List ℕ) : Type 0 where
-  pub counted : r ≡ min (length ps) (length before / 3)
-  pub cells : after ≡ written (point_rows (take (length before / 3) ps)) before
+  pub counted : r ≡ min (length ps) (length before / ledger_width)
+  pub cells : after ≡ written (point_rows (take (length before / ledger_width) ps)) before

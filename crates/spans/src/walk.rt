@@ -6,7 +6,7 @@ ghost use Rattle.chronicle_rows.specs.Cases.{kind_told};
 ghost use Rattle.chronicle_rows.specs.RowAt.{entries_at};
 ghost use Rattle.spans.specs.SpanSteps.{span_in, running_in, opened_span, closes_one, spans_left};
 
-use chronicle_rows::{Entry, Kind, Nation, NationEntries};
+use chronicle_rows::{Entry, Kind, NationEntries, NationRow};
 use format::{CountryTag, Eu4Date};
 
 // A tag, with the dates whose years bound the points that it gives.
@@ -80,7 +80,7 @@ pub struct Spans<'a> {
 
 impl<'a> Spans<'a> {
     // The spans of a nation's row, from the campaign's start date on.
-    pub fn of(entries: &'a [u32], nation: Nation, start: Eu4Date, current: Eu4Date) -> Spans<'a>
+    pub fn of(entries: &'a [u32], nation: NationRow, start: Eu4Date, current: Eu4Date) -> Spans<'a>
         ensures { spans_left result ≡ spans_from current (opened_span nation.initial start) (entries_at entries.now nation.first nation.count) }
     {
         Spans {

@@ -4,9 +4,10 @@
 
 mod shown;
 
-use chronicle::{at, nation_events, resolve};
-use chronicle_rows::{ENTRY_WIDTH, Entry};
-use record::{CountryTag, Eu4Date, check};
+use change_keys::CHANGE_WIDTH;
+use chronicle::{CountryTag, Eu4Date, at, nation_events, resolve};
+use chronicle_rows::{ENTRY_WIDTH, Entry, NATION_WIDTH};
+use record::check;
 use shown::Shown;
 use std::io;
 use stored_input::read_file;
@@ -58,7 +59,7 @@ fn nation_rows(
 ) -> io::Result<()> {
     let mut holders = [0u32; 3];
     let mut held = [0u32; 2];
-    let mut changes = [0u32; 8];
+    let mut changes = [0u32; CHANGE_WIDTH * 2];
     match nation_events(s, nations, entries, &mut holders, &mut held, &mut changes) {
         Ok(counts) => {
             let rows = entries.as_chunks::<ENTRY_WIDTH>().0;
@@ -73,8 +74,8 @@ fn nation_rows(
 
 // The worked record: its rows, and what the resolver makes of them.
 fn worked(rt: &impl Print, s: &[u8]) -> io::Result<()> {
-    let mut nations = [0u32; 10];
-    let mut entries = [0u32; 9];
+    let mut nations = [0u32; NATION_WIDTH * 2];
+    let mut entries = [0u32; ENTRY_WIDTH * 3];
     println!(rt; "entries of the worked record:")?;
     nation_rows(rt, s, &mut nations, &mut entries)?;
     questions(rt, &nations, &entries)
@@ -82,8 +83,8 @@ fn worked(rt: &impl Print, s: &[u8]) -> io::Result<()> {
 
 // The record in which GBR's only slot goes from ENG to GBR.
 fn one_slot(rt: &impl Print, s: &[u8]) -> io::Result<()> {
-    let mut nations = [0u32; 5];
-    let mut entries = [0u32; 9];
+    let mut nations = [0u32; NATION_WIDTH];
+    let mut entries = [0u32; ENTRY_WIDTH * 3];
     println!(rt; "entries with one slot, from ENG to GBR:")?;
     nation_rows(rt, s, &mut nations, &mut entries)
 }

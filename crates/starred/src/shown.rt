@@ -1,7 +1,6 @@
 // Answers as lines of text.
-use chronicle::TagData;
+use chronicle::{CountryTag, Refusal, TagData};
 use chronicle_rows::{Entry, Kind};
-use record::{CountryTag, Refusal};
 use std::fmt;
 
 // A value as it is printed: a tag by its three bytes, a check as accepted or refused, an answer of the resolver by current and stored tag, an

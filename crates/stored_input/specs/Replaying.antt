@@ -22,21 +22,21 @@ abbrev pub broken_off : Counts
 broken_off = record { questions = 0; wrong = 1; noticed = 0 }
 
 -- a case of a list: the number that it begins with, the bytes behind it, and what it came to
-pub record Case : Type 0 where
+pub record ReplayedCase : Type 0 where
   pub first : ℕ
   pub bytes : List ℕ
   pub counts : Counts
 
 -- the bytes of a case, with its number
-abbrev pub case_bytes : Case → List ℕ
+abbrev pub case_bytes : ReplayedCase → List ℕ
 case_bytes c = to_le_bytes w32 c.first ++ c.bytes
 
 -- what cases come to together
-abbrev pub sum_of_cases : List Case → Counts
+abbrev pub sum_of_cases : List ReplayedCase → Counts
 sum_of_cases cases = fold (λ so_far c. plus so_far c.counts) no_counts cases
 
 -- The first cases of a list, one behind the other: each comes to what was counted of it, and so many they are, and come to so much together.
-pub record Replayed (ComesTo : ℕ → List ℕ → Counts → Type 0) (old new : Option (List ℕ)) (cases : List Case) (all : Tally) : Type 0 where
+pub record Replayed (ComesTo : ℕ → List ℕ → Counts → Type 0) (old new : Option (List ℕ)) (cases : List ReplayedCase) (all : Tally) : Type 0 where
   pub each : All (λ c. ComesTo c.first c.bytes c.counts) cases
   pub read : Consumes old new (flat_map case_bytes cases)
   pub number : all.cases ≡ length cases
@@ -49,5 +49,5 @@ told_broken all = record { cases = all.cases; counts = plus all.counts broken_of
 -- A list was replayed to its end, or up to the most cases; or to where it breaks off or cannot be read.
 abbrev pub ListReplayed : (ℕ → List ℕ → Counts → Type 0) → ℕ → Option (List ℕ) → Option (List ℕ) → Tally → Type 0
 ListReplayed ComesTo most old new all =
-    (cases : List Case) × (Replayed ComesTo old new cases all × (IsAtEnd new ⊎ (all.cases ≡ most))
+    (cases : List ReplayedCase) × (Replayed ComesTo old new cases all × (IsAtEnd new ⊎ (all.cases ≡ most))
     ⊎ ((left : Option (List ℕ)) × (before : Tally) × Replayed ComesTo old left cases before × (all ≡ told_broken before)))

@@ -8,7 +8,9 @@ ghost use Rattle.std.specs.Prelude.{◌<◌, ◌≤◌, length, IfOk, IfErr, IfS
 ghost use Rattle.std.specs.Io.KnownBytes.{IsAtEnd};
 ghost use Rattle.stored_input.specs.Reading.{BeginsRead, ReadsAll};
 
-pub use numbers::{BrokenOff, Stored, next_number, read_head, read_part, stored_answer, take_part};
+pub use numbers::{
+    BrokenOff, Stored, next_number, read_numbers, read_part, stored_answer, take_part,
+};
 pub use replay::{Counts, Replay, Tally, replay_file, replay_list};
 use std::fs::File;
 use std::io::Read;

@@ -44,7 +44,7 @@ impl Stored for u32 {
         for number in buf.iter_mut() {
             let mut bytes = [0u8; 4];
             u8::fill(list, &mut bytes)?;
-            *number = number_of(bytes);
+            *number = number_from_bytes(bytes);
         }
         Ok(())
     }
@@ -52,7 +52,7 @@ impl Stored for u32 {
 
 // The number of four bytes.
 #[tactic(auto, using(std::proofs::lemmas::Nat::le_bytes_4))]
-fn number_of(bytes: [u8; 4]) -> u32
+fn number_from_bytes(bytes: [u8; 4]) -> u32
     ensures { to_le_bytes w32 result ≡ bytes }
 {
     u32::from_le_bytes(bytes)
@@ -67,7 +67,7 @@ pub fn next_number<R: Read>(list: &mut R) -> Result<Option<u32>, BrokenOff>
     let mut bytes = [0u8; 4];
     match read_full(list, &mut bytes)? {
         0 => Ok(None),
-        4 => Ok(Some(number_of(bytes))),
+        4 => Ok(Some(number_from_bytes(bytes))),
         _ => Err(BrokenOff),
     }
 }
@@ -86,7 +86,7 @@ pub fn read_part<'a, T: Stored, R: Read>(
 }
 
 // The next N numbers.
-pub fn read_head<const N: usize, R: Read>(list: &mut R) -> Result<[u32; N], BrokenOff>
+pub fn read_numbers<const N: usize, R: Read>(list: &mut R) -> Result<[u32; N], BrokenOff>
     ensures { IfOk result (λ ns. Consumes (R.remaining list.old) (R.remaining list.new) (number_bytes ns)) }
 {
     let mut numbers = [0u32; N];

@@ -68,7 +68,7 @@ fn asked(
     assert_eq!(recalled(rows, record, lengths, expected), Ok(()));
 }
 
-/// The cases that stand computed in crates/rules/specs/PlayerCases.antt, by the code.
+/// The cases that stand computed in crates/rules/specs/cases/PlayerCases.antt, by the code.
 #[test]
 fn released_cases_of_the_rules() {
     let aaa = lived("AAA");

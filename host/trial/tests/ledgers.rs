@@ -75,7 +75,7 @@ fn told() -> [Vec<u32>; 4] {
     [switched.concat(), gone, rows(NOR, &back), vec![]]
 }
 
-/// The cases that stand computed in crates/rules/specs/LentCases.antt, by the code.
+/// The cases that stand computed in crates/rules/specs/cases/LentCases.antt, by the code.
 #[test]
 fn cases_of_the_rules() {
     let record = pack(&accounts());

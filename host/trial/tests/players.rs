@@ -29,7 +29,7 @@ fn word(tag: &str) -> u32 {
     tag_word(tag.as_bytes().try_into().expect("a tag has three bytes"))
 }
 
-/// The cases that stand computed in crates/rules/specs/PlayerCases.antt, by the code.
+/// The cases that stand computed in crates/rules/specs/cases/PlayerCases.antt, by the code.
 #[test]
 fn cases_of_the_rules() {
     let [aaa, bbb] = ["AAA", "BBB"].map(word);

@@ -15,7 +15,7 @@ use Rattle.lists.proofs.FillLaws.{Filling}
 use Rattle.lists.proofs.ListLaws.{length-numbers, numbers-at, count-append, count-le}
 use Rattle.rules.specs.Lent.{written}
 use Rattle.nation_tables.specs.Layout.{most_slots, cell_rows}
-use Rattle.nation_tables.specs.Holders.{rows_in, slot_counts, SlotsRoom}
+use Rattle.nation_tables.specs.Holders.{rows_in_cells, slot_counts, SlotsRoom}
 
 -- ## Lists
 
@@ -100,7 +100,7 @@ counts-written rows before counts n h e =
 -- The slots before i are counted, by the rows in their cells.
 pub record SlotsCounting (slots counts₀ counts : List ℕ) (i : ℕ) : Type 0 where
   pub inside : i ≤ length slots
-  pub cells : counts ≡ slot_counts (take i (rows_in slots)) (length counts₀)
+  pub cells : counts ≡ slot_counts (take i (rows_in_cells slots)) (length counts₀)
 
 -- Cells of 0 count no slot.
 pub slots-counting-none : (slots before counts : List ℕ) → counts ≡ map (λ _. 0) before → SlotsCounting slots counts counts 0
@@ -113,15 +113,15 @@ slots-counting-none slots before counts e =
 module _ (slots counts₀ counts : List ℕ) (i : ℕ) (q : SlotsCounting slots counts₀ counts i) where
   -- As many cells as at first.
   pub slots-counting-long : length counts ≡ length counts₀
-  slots-counting-long = ap length q.cells ∙ length-counts (take i (rows_in slots)) (length counts₀)
+  slots-counting-long = ap length q.cells ∙ length-counts (take i (rows_in_cells slots)) (length counts₀)
 
   -- As many rows as slots.
-  rows_long : length (rows_in slots) ≡ length slots
+  rows_long : length (rows_in_cells slots) ≡ length slots
   rows_long = length-map slots (λ x. x % cell_rows)
 
   module _ (h : i < length slots) where
     -- The row in the next slot's cell.
-    row-in-cell : get_or (rows_in slots) i 0 ≡ get_or slots i 0 % cell_rows
+    row-in-cell : get_or (rows_in_cells slots) i 0 ≡ get_or slots i 0 % cell_rows
     row-in-cell = get_or-map (λ x. x % cell_rows) slots i 0
 
     -- So few that one more has room.
@@ -132,8 +132,8 @@ module _ (slots counts₀ counts : List ℕ) (i : ℕ) (q : SlotsCounting slots 
         omega (
           arith,
           ap (λ (l : List ℕ). get_or l row 0) q.cells,
-          slot-count-small (take i (rows_in slots)) (length counts₀) row (omega (arith, slots-counting-long)),
-          length-take-le i (rows_in slots) (omega arith),
+          slot-count-small (take i (rows_in_cells slots)) (length counts₀) row (omega (arith, slots-counting-long)),
+          length-take-le i (rows_in_cells slots) (omega arith),
         )
 
     -- The next slot is counted.
@@ -144,8 +144,8 @@ module _ (slots counts₀ counts : List ℕ) (i : ℕ) (q : SlotsCounting slots 
           inside = omega arith;
           cells =
               ap (λ (n : ℕ). set counts n (get_or counts n 0 + 1)) (sym row-in-cell)
-              ∙ ap (λ (l : List ℕ). set l (get_or (rows_in slots) i 0) (get_or l (get_or (rows_in slots) i 0) 0 + 1)) q.cells
-              ∙ counts-next (rows_in slots) i (length counts₀) (omega arith);
+              ∙ ap (λ (l : List ℕ). set l (get_or (rows_in_cells slots) i 0) (get_or l (get_or (rows_in_cells slots) i 0) 0 + 1)) q.cells
+              ∙ counts-next (rows_in_cells slots) i (length counts₀) (omega arith);
         }
 
     -- It has no row.
@@ -155,14 +155,14 @@ module _ (slots counts₀ counts : List ℕ) (i : ℕ) (q : SlotsCounting slots 
         let e = row-in-cell in
         record {
           inside = omega arith;
-          cells = q.cells ∙ counts-outside (rows_in slots) i (length counts₀) (omega arith) (omega (arith, slots-counting-long));
+          cells = q.cells ∙ counts-outside (rows_in_cells slots) i (length counts₀) (omega arith) (omega (arith, slots-counting-long));
         }
 
   -- All slots are counted.
-  pub slots-counting-done : (before : List ℕ) → counts₀ ≡ map (λ _. 0) before → length slots ≤ i → counts ≡ slot_counts (rows_in slots) (length before)
+  pub slots-counting-done : (before : List ℕ) → counts₀ ≡ map (λ _. 0) before → length slots ≤ i → counts ≡ slot_counts (rows_in_cells slots) (length before)
   slots-counting-done before e h =
       let r = rows_long in
-      q.cells ∙ ap₂ slot_counts (take_all i (rows_in slots) (omega arith)) (ap length e ∙ length-map before (λ _. 0))
+      q.cells ∙ ap₂ slot_counts (take_all i (rows_in_cells slots) (omega arith)) (ap length e ∙ length-map before (λ _. 0))
 
 -- ## Room for the rows of slots, as the code tests it
 

@@ -11,7 +11,7 @@ use lib.ListN.{length, get_or, set, take, drop, length-set, length-map, length-t
 use lib.Seq.{take-length, drop-length, take-suc, drop-cons, append_snoc, set_at, length-take-le, get_or-take, get_or-drop, drop-drop, get_or-set_same, get_or-set_other, map-set_same, set_out}
 use Rattle.lists.proofs.BoolLaws.{cases}
 use Rattle.std.proofs.lemmas.List.{map-set}
-use Rattle.nation_tables.specs.declared.layout.Turn.{Turn}
+use Rattle.nation_tables.specs.declared.layout.LossGain.{LossGain}
 use Rattle.nation_tables.specs.Layout.{no_change}
 use Rattle.nation_tables.specs.Turning.{losses, gains, first_at, links_from, Fresh, Linked, TurnsLinked, Pushed, LossPushed, GainPushed}
 
@@ -98,15 +98,15 @@ linking-done rows links heads k e i =
 -- ## Both chains of a list
 
 -- What a place past the end reads as.
-abbrev past_end : Turn
+abbrev past_end : LossGain
 past_end = record { loss = 0; gain = 0 }
 
-module _ (firsts : List Turn) (row k : ℕ) where
-  abbrev here : Turn
+module _ (firsts : List LossGain) (row k : ℕ) where
+  abbrev here : LossGain
   here = get_or firsts row past_end
 
   -- No row has this number: nothing is pushed.
-  none-pushed : (f : Turn → ℕ) → length firsts ≤ row → Pushed (map f firsts) row k no_change (map f firsts)
+  none-pushed : (f : LossGain → ℕ) → length firsts ≤ row → Pushed (map f firsts) row k no_change (map f firsts)
   none-pushed f h =
       let past : length (map f firsts) ≤ row = omega (arith, length-map firsts f) in
       record { next = simp (le-ltb row (length (map f firsts)) past); cells = sym (set_out (map f firsts) row k past) }
@@ -118,7 +118,7 @@ module _ (firsts : List Turn) (row k : ℕ) where
   gain-outside h = record { gain = none-pushed (λ x. x.gain) h; loss = refl }
 
   -- A row has it: one of its two numbers is pushed.
-  one-pushed : (f : Turn → ℕ) (v : Turn) → f past_end ≡ 0 → f v ≡ k → row < length firsts → Pushed (map f firsts) row k (f here) (map f (set firsts row v))
+  one-pushed : (f : LossGain → ℕ) (v : LossGain) → f past_end ≡ 0 → f v ≡ k → row < length firsts → Pushed (map f firsts) row k (f here) (map f (set firsts row v))
   one-pushed f v z e h =
       let inside : row < length (map f firsts) = omega (arith, length-map firsts f) in
       record {
@@ -128,16 +128,16 @@ module _ (firsts : List Turn) (row k : ℕ) where
 
   pub loss-inside : row < length firsts → (r n : ℕ) → r ≡ here.loss → n ≡ k → LossPushed firsts row k r (set firsts row (record { loss = n; gain = here.gain }))
   loss-inside h r n e w =
-      let v : Turn = record { loss = n; gain = here.gain } in
+      let v : LossGain = record { loss = n; gain = here.gain } in
       rw e (record { loss = one-pushed (λ x. x.loss) v refl w h; gain = map-set_same (λ x. x.gain) firsts row v past_end refl })
 
   pub gain-inside : row < length firsts → (r n : ℕ) → r ≡ here.gain → n ≡ k → GainPushed firsts row k r (set firsts row (record { loss = here.loss; gain = n }))
   gain-inside h r n e w =
-      let v : Turn = record { loss = here.loss; gain = n } in
+      let v : LossGain = record { loss = here.loss; gain = n } in
       rw e (record { gain = one-pushed (λ x. x.gain) v refl w h; loss = map-set_same (λ x. x.loss) firsts row v past_end refl })
 
 -- Both chains are linked from change k on.
-pub record BothLinking (turns₀ firsts₀ turns firsts : List Turn) (k : ℕ) : Type 0 where
+pub record BothLinking (turns₀ firsts₀ turns firsts : List LossGain) (k : ℕ) : Type 0 where
   pub loss : Linking (losses turns₀) (losses turns) (losses firsts) k
   pub gain : Linking (gains turns₀) (gains turns) (gains firsts) k
   pub inside : k ≤ length turns₀
@@ -145,7 +145,7 @@ pub record BothLinking (turns₀ firsts₀ turns firsts : List Turn) (k : ℕ) :
   pub long : length turns ≡ length turns₀
   pub rows : length firsts ≡ length firsts₀
 
-pub both-none : (turns firsts : List Turn) → length turns ≤ no_change → Fresh (losses firsts) → Fresh (gains firsts)
+pub both-none : (turns firsts : List LossGain) → length turns ≤ no_change → Fresh (losses firsts) → Fresh (gains firsts)
     → BothLinking turns firsts turns firsts (length turns)
 both-none turns firsts few loss gain =
     record {
@@ -157,13 +157,13 @@ both-none turns firsts few loss gain =
       rows = refl;
     }
   where
-    begin : (f : Turn → ℕ) → Fresh (map f firsts) → Linking (map f turns) (map f turns) (map f firsts) (length turns)
+    begin : (f : LossGain → ℕ) → Fresh (map f firsts) → Linking (map f turns) (map f turns) (map f firsts) (length turns)
     begin f fresh =
         let l : length (map f turns) ≡ length turns = length-map turns f in
         subst (Linking (map f turns) (map f turns) (map f firsts)) l (linking-none (map f turns) (map f firsts) (omega arith) fresh)
 
 -- One of the two numbers of a change more.
-number_step : (f : Turn → ℕ) (turns₀ turns : List Turn) (heads after : List ℕ) (k r : ℕ) (v : Turn) → f past_end ≡ 0 → f v ≡ r → 0 < k
+number_step : (f : LossGain → ℕ) (turns₀ turns : List LossGain) (heads after : List ℕ) (k r : ℕ) (v : LossGain) → f past_end ≡ 0 → f v ≡ r → 0 < k
     → Linking (map f turns₀) (map f turns) heads k → Pushed heads (f (get_or turns (k - 1) past_end)) (k - 1) r after
     → Linking (map f turns₀) (map f (set turns (k - 1) v)) after (k - 1)
 number_step f turns₀ turns heads after k r v z e h i p =
@@ -172,12 +172,12 @@ number_step f turns₀ turns heads after k r v z e h i p =
     let put : map f (set turns (k - 1) v) ≡ set (map f turns) (k - 1) r = map-set f turns (k - 1) v ∙ ap (set (map f turns) (k - 1)) e in
     rw put (linking-step (map f turns₀) (map f turns) heads k r after h i (rw there p))
 
-module _ (turns₀ firsts₀ turns firsts : List Turn) (k : ℕ) (b : BothLinking turns₀ firsts₀ turns firsts k) where
+module _ (turns₀ firsts₀ turns firsts : List LossGain) (k : ℕ) (b : BothLinking turns₀ firsts₀ turns firsts k) where
   -- Both numbers of change k - 1 are pushed.
-  pub both-step : 0 < k → (loss gain : ℕ) (after last : List Turn) → LossPushed firsts (get_or turns (k - 1) past_end).loss (k - 1) loss after
+  pub both-step : 0 < k → (loss gain : ℕ) (after last : List LossGain) → LossPushed firsts (get_or turns (k - 1) past_end).loss (k - 1) loss after
       → GainPushed after (get_or turns (k - 1) past_end).gain (k - 1) gain last → BothLinking turns₀ firsts₀ (set turns (k - 1) (record { loss = loss; gain = gain })) last (k - 1)
   both-step h loss gain after last p q =
-      let v : Turn = record { loss = loss; gain = gain } in
+      let v : LossGain = record { loss = loss; gain = gain } in
       record {
         loss = rw q.loss (number_step (λ x. x.loss) turns₀ turns (losses firsts) (losses after) k loss v refl refl h b.loss p.loss);
         gain = number_step (λ x. x.gain) turns₀ turns (gains firsts) (gains last) k gain v refl refl h b.gain (rw p.gain at q.gain);

@@ -28,10 +28,10 @@ use Rattle.rules.specs.NationRows.{holder_word}
 use Rattle.change_keys.specs.ChangeSteps.{entered, change_key, change_keys_from, tags_of, change_at, per_id, per_date}
 use Rattle.nation_tables.specs.Layout.{key_rows, key_tags, cell_rows, row_number}
 use Rattle.nation_tables.specs.Lookup.{no_row}
-use Rattle.nation_tables.specs.Countries.{tag_at_row, words_of_tags, places_of, row_of, Keyed}
+use Rattle.nation_tables.specs.Countries.{tag_at_row, country_tags, words_of_tags, places_of, row_of, Keyed}
 use Rattle.nation_tables.specs.Settling.{or_tag, settling_row, settled_row}
 use Rattle.nation_tables.specs.Turning.{first_at, holder_row}
-use Rattle.nation_tables.specs.Holders.{Settler, Small, slot_cell, holder_cell, Step, step_at, steps_of}
+use Rattle.nation_tables.specs.Holders.{Settler, Small, no_tag, slot_cell, holder_cell, Step, step_at, steps_of}
 use Rattle.rules.proofs.CampaignLaws.{all-changes}
 use Rattle.change_keys.proofs.ChangeLaws.{Narrow}
 use Rattle.change_keys.proofs.ChangeKeyLaws.{changes-back, keys-sorted}
@@ -48,14 +48,14 @@ unfolding first_at places_of
 first-places x k [] = refl
 first-places x k (y ∷ ys) = cases (eqb y x) (λ e. simp e) (λ e. simp e (first-places x (suc k) ys))
 
--- The word in a row is that of its country's tag; without a country it is the given tag's.
-word_at : (ks : List Country) (row : ℕ) (t : CountryTag) → get_or (words_of_tags ks) row t.0 ≡ (or_tag t (tag_at_row ks row)).0
-word_at [] row t = refl
-word_at (k ∷ ks) zero t = refl
-word_at (k ∷ ks) (suc row) t = word_at ks row t
+-- The tag in a row is its country's; without a country it is the given one.
+tag-at : (ks : List Country) (row : ℕ) (t : CountryTag) → get_or (country_tags ks) row t ≡ or_tag t (tag_at_row ks row)
+tag-at [] row t = refl
+tag-at (k ∷ ks) zero t = refl
+tag-at (k ∷ ks) (suc row) t = tag-at ks row t
 
--- The same for the holder in a row, which may be nobody.
-pub holder-word : (ks : List Country) (row : ℕ) → get_or (words_of_tags ks) row 0 ≡ holder_word (tag_at_row ks row)
+-- The same for the word of the holder in a row, which may be nobody.
+pub holder-word : (ks : List Country) (row : ℕ) → (get_or (country_tags ks) row no_tag).0 ≡ holder_word (tag_at_row ks row)
 holder-word [] row = refl
 holder-word (k ∷ ks) zero = refl
 holder-word (k ∷ ks) (suc row) = holder-word ks row
@@ -105,17 +105,17 @@ Short ks = All (λ k. k.tag.0 < key_tags) ks
 pub all-sorted : (xs keys : List ℕ) → keys ≡ sort_by leb xs → sort_by leb keys ≡ keys
 all-sorted xs keys e = ap (sort_by leb) e ∙ sort-again xs ∙ sym e
 
-module _ (ks : List Country) (ws ss : List ℕ) (q : Settler ks ws ss) (x : Change) (small : Small x) (row : ℕ)
+module _ (ks : List Country) (ts : List CountryTag) (ss : List ℕ) (q : Settler ks ts ss) (x : Change) (small : Small x) (row : ℕ)
     (found : row ≡ row_number (settling_row ss x.to x.date)) where
-  -- The row that was found and the word that stands there make the cell of the change.
-  pub cell-made : (to : ℕ) → to ≡ x.to.0 → get_or ws row to * cell_rows + row ≡ holder_cell ks x
+  -- The row that was found and the tag that stands there make the cell of the change.
+  pub cell-made : (to : CountryTag) → to ≡ x.to → (get_or ts row to).0 * cell_rows + row ≡ holder_cell ks x
   unfolding holder_cell
   cell-made to e =
       let whom : CountryTag = settles (all_switches ks) x in
       let all = row-holds ss x.to x.date in
       let r : row ≡ row_of ks whom = found ∙ all.holds ks x q.keyed q.own q.once q.keys refl refl small.date in
       let t : whom ≡ or_tag x.to (tag_at_row ks row) = rw found (all.holder ks x q.keyed q.own q.once q.keys refl refl small.date) in
-      let w : get_or ws row to ≡ whom.0 = rw (q.words, e) (word_at ks row x.to) ∙ ap (λ (t : CountryTag). t.0) (sym t) in
+      let w : (get_or ts row to).0 ≡ whom.0 = ap (λ (t : CountryTag). t.0) (rw (q.tags, e) (tag-at ks row x.to) ∙ sym t) in
       ap₂ (λ (a b : ℕ). a * cell_rows + b) w (r ∙ sym (first-places whom.0 0 (words_of_tags ks)))
 
 module _ (ks : List Country) where

@@ -7,6 +7,7 @@ use lib.Dec.{leb}
 use lib.ListN.{length, take, length-map, length-take}
 use lib.Seq.{length-take-le}
 use Rattle.sorting.proofs.SortLaws.{length-sort}
+use Rattle.format.specs.declared.tag.CountryTag.{CountryTag}
 use Rattle.format.specs.Campaign.{Campaign, Country, campaign_of}
 use Rattle.format.proofs.SoundLaws.{sound}
 use Rattle.record.specs.Cursors.{countries_left, provinces_left}
@@ -15,18 +16,18 @@ use Rattle.change_keys.specs.ChangeSteps.{most_changes}
 use Rattle.change_keys.proofs.ChangeLaws.{changes-few}
 use Rattle.record.specs.declared.opened.Record.{Record}
 use Rattle.nation_tables.specs.declared.gathering.Sizes.{Sizes}
-use Rattle.nation_tables.specs.declared.layout.Turn.{Turn}
+use Rattle.nation_tables.specs.declared.layout.LossGain.{LossGain}
 use Rattle.nation_tables.specs.Layout.{most_countries, most_switches, most_settling, most_slots, rows_within, no_change}
 use Rattle.nation_tables.specs.Countries.{switch_keys_from, settling_keys_from, with_own, Keyed, OwnLast}
 use Rattle.nation_tables.specs.Turning.{losses, gains}
-use Rattle.nation_tables.specs.Holders.{Tables, HoldingRoom, HoldingAsked, slot_cells, started_of, Held}
+use Rattle.nation_tables.specs.Holders.{CountryTables, HoldingRoom, HoldingAsked, slot_cells, Held}
 use Rattle.nation_tables.specs.Switches.{runs_from, run_keys, target_words}
-use Rattle.nation_tables.specs.Gathering.{Begun, TablesRoom, TablesFilled, SwitchesRoom, Arranged, CampaignCells, cells_from, Gathered}
+use Rattle.nation_tables.specs.Gathering.{Begun, TableRoom, TablesRoom, TablesFilled, SwitchesRoom, Arranged, CampaignCells, cells_from, Gathered}
 use Rattle.nation_tables.proofs.tables.KeyedLaws.{countries-few, provinces-few, switches-few, accepted-keyed, accepted-own}
 use Rattle.nation_tables.proofs.tables.OwnLaws.{keyed-own}
 use Rattle.nation_tables.proofs.tables.OwnKeyLaws.{settling-count}
 use Rattle.nation_tables.proofs.tables.SwitchLaws.{runs-few}
-use Rattle.nation_tables.proofs.slots.RoomLaws.{CellsRoom, countries-fit, slots-fit, settling-fit, switches-fit, entered-fit, changes-fit}
+use Rattle.nation_tables.proofs.slots.RoomLaws.{countries-fit, slots-fit, settling-fit, switches-fit, entered-fit, changes-fit}
 
 -- A part from the first element on has as many elements as were taken.
 length-first : (n k : ℕ) (xs : List ℕ) → n ≤ length xs → n ≡ k → length (take n xs) ≡ k
@@ -85,157 +86,152 @@ module _ (xs : List ℕ) (from : Record) (pre : Begun xs from) where
   slots-within n m e z = let a = slots-fit xs pre.ready.accepted m z in let b = ap length pre.ready.rows in omega arith
 
   -- What the tables of countries ask.
-  pub tables-asked : (words scratch initials switches : List ℕ) → rows_within most_countries (length xs) ≤ length words
+  pub tables-asked : (tags : List CountryTag) (scratch initials switches : List ℕ) → rows_within most_countries (length xs) ≤ length tags
       → rows_within most_countries (length xs) ≤ length scratch → rows_within most_countries (length xs) ≤ length initials
-      → rows_within most_settling (length xs) ≤ length switches → TablesRoom told words scratch initials switches
-  tables-asked words scratch initials switches w c i s =
-      record { words = told-fit _ w; scratch = told-fit _ c; initials = told-fit _ i; switches = told-settling-few _ s }
+      → rows_within most_settling (length xs) ≤ length switches → TablesRoom told tags scratch initials switches
+  tables-asked tags scratch initials switches w c i s =
+      record { tags = told-fit _ w; scratch = told-fit _ c; initials = told-fit _ i; switches = told-settling-few _ s }
 
-  -- Room for its tables.
-  module _ (words initials switches keys cells slots started : List ℕ) (turns : List Turn)
-      (room : CellsRoom (length xs) words initials switches keys cells slots started turns) where
-    -- The tables of countries and switches are filled.
-    module _ (r : Sizes) (p : ℕ) (words₁ initials₁ switches₁ : List ℕ) (f : TablesFilled told r words₁ initials₁ switches₁)
-        (provinces : p ≡ length (provinces_left from.provinces)) where
-      filled : TablesFilled c.countries r words₁ initials₁ switches₁
-      filled = subst (λ ks. TablesFilled ks r words₁ initials₁ switches₁) pre.countries f
+  -- The tables of countries and switches are filled.
+  module _ (r : Sizes) (p : ℕ) (tags₁ : List CountryTag) (initials₁ switches₁ : List ℕ) (f : TablesFilled told r tags₁ initials₁ switches₁)
+      (provinces : p ≡ length (provinces_left from.provinces)) where
+    filled : TablesFilled c.countries r tags₁ initials₁ switches₁
+    filled = subst (λ ks. TablesFilled ks r tags₁ initials₁ switches₁) pre.countries f
 
-      -- There is a slot more than provinces.
-      slot-count : p + 1 ≡ suc (length c.provinces)
-      slot-count = let b = ap length pre.ready.rows in omega arith
+    -- There is a slot more than provinces.
+    slot-count : p + 1 ≡ suc (length c.provinces)
+    slot-count = let b = ap length pre.ready.rows in omega arith
 
-      -- As many switches as keys but for the countries' own.
-      pub own-within : r.countries ≤ r.settling
-      own-within = omega (arith, settling-count 0 told, f.keyed, f.countries)
+    -- As many switches as keys but for the countries' own.
+    pub own-within : r.countries ≤ r.settling
+    own-within = omega (arith, settling-count 0 told, f.keyed, f.countries)
 
-      switched : r.settling - r.countries ≡ length (switch_keys_from 0 told)
-      switched = omega (arith, settling-count 0 told, f.keyed, f.countries)
+    switched : r.settling - r.countries ≡ length (switch_keys_from 0 told)
+    switched = omega (arith, settling-count 0 told, f.keyed, f.countries)
 
-      -- The slots are as many as the iterator at the provinces tells, and the countries as many as their words.
-      abbrev q : ℕ
-      q = length (provinces_left from.provinces)
+    -- The slots are as many as the iterator at the provinces tells, and the countries as many as their tags.
+    abbrev q : ℕ
+    q = length (provinces_left from.provinces)
 
-      worded : length (take r.countries words₁) ≡ r.countries
-      worded = ap length filled.words ∙ length-map c.countries _ ∙ sym filled.countries
+    pub tagged : length (take r.countries tags₁) ≡ r.countries
+    tagged = ap length filled.tags ∙ length-map c.countries _ ∙ sym filled.countries
 
-      -- What the settling asks.
-      pub holding-asked : (cells₁ : List ℕ) → length cells₁ ≡ length cells → (counts : List ℕ) → length counts ≡ length started
-          → HoldingAsked xs from.provinces (take r.countries words₁) (take r.countries initials₁) (take r.settling switches₁) keys cells₁
-          (take (length (provinces_left from.provinces) + 1) slots) (take (length (take r.countries words₁)) counts) turns
-      holding-asked cells₁ kept counts same =
-          let g = filled in
-          let tables : Tables c.countries (take r.countries words₁) (take r.countries initials₁) (take r.settling switches₁) =
-          record {
-            settler =
-                record {
-                  keyed = accepted-keyed xs pre.ready.accepted;
-                  own = accepted-own xs pre.ready.accepted;
-                  once = (sound xs pre.ready.accepted).tags_once;
-                  words = g.words;
-                  keys = g.switches;
-                };
-            initials = g.initials;
-          } in
-          let held : HoldingRoom xs keys cells₁ (take (q + 1) slots) (take (length (take r.countries words₁)) counts) turns =
-          record {
-            keys = entered-fit xs pre.ready.accepted _ room.keys;
-            cells = entered-fit xs pre.ready.accepted _ (omega (arith, room.cells, kept));
-            turns = entered-fit xs pre.ready.accepted _ room.turns;
-            slots = length-first (q + 1) _ slots (slots-within q (length slots) refl room.slots) (omega (arith, slot-count, provinces));
-            started = length-first (length (take r.countries words₁)) _ counts (countries-within (length (take r.countries words₁)) _ _ (worded ∙ f.countries) same room.started) (worded ∙ g.countries);
-          } in
-          record { ready = pre.ready; tables = tables; room = held }
-
-      -- All changes are settled.
-      module _ (n : ℕ) (keys₁ slots₁ started₁ : List ℕ) (turns₁ : List Turn)
-          (h : Held xs n keys₁ (take (q + 1) slots₁) (take (length (take r.countries words₁)) started₁) turns₁) where
-        -- There are not many.
-        pub changes-within : (m k : ℕ) → m ≡ k → rows_within most_changes (length xs) ≤ k → n ≤ m
-        changes-within m k e l = let a = changes-fit xs pre.ready.accepted k l in let b = h.counted in omega arith
-
-        few-changes : n ≤ most_changes
-        few-changes = let a = changes-few xs pre.ready.accepted in let b = h.counted in omega arith
-
-        -- What `arrange` asks.
-        pub arrange-asked : (cells₁ : List ℕ) → length cells₁ ≡ length cells → length switches₁ ≡ length switches
-            → SwitchesRoom told switches₁ cells₁ × (n ≤ no_change)
-        arrange-asked cells₁ kept same =
-            let a = told-switches-fit (length cells) room.cells in
-            let b = told-settling-few (length switches) room.switches in
-            let s = settling-count 0 told in
-            let k = few-changes in (
-              record { runs = omega arith; targets = omega arith },
-              omega arith,
-            )
-
-        -- All is arranged, in slices as long as before.
-        module _ (links firsts₁ : List Turn) (runs₁ targets : List ℕ) (a : Arranged told (take n turns₁) (take n links) firsts₁ runs₁ targets)
-            (firsts_room : rows_within most_countries (length xs) ≤ length firsts₁) where
-          runs-there : take (r.settling - r.countries) runs₁ ≡ run_keys c.countries
-          runs-there = ap (λ (m : ℕ). take m runs₁) switched ∙ a.runs ∙ ap run_keys pre.countries
-
-          targets-there : take (r.settling - r.countries) targets ≡ target_words c.countries
-          targets-there = ap (λ (m : ℕ). take m targets) switched ∙ a.targets ∙ ap target_words pre.countries
-
-          few-runs : length (run_keys c.countries) ≤ most_switches
-          few-runs = let e = length-sort leb (runs_from 0 0 c.countries) in let h = runs-few xs pre.ready.accepted in omega arith
-
-          started-there : take r.countries started₁ ≡ started_of c
-          started-there = ap (λ (m : ℕ). take m started₁) (sym worded) ∙ h.started
-
-          slots-there : take (p + 1) slots₁ ≡ slot_cells c (holders_of c)
-          slots-there = ap (λ (m : ℕ). take (m + 1) slots₁) provinces ∙ h.slots
-
-          -- A row of each country.
-          rows-there : (l : List ℕ) → length l ≡ length firsts₁ → length c.countries ≤ length l
-          rows-there l e = let k = countries-fit xs pre.ready.accepted _ firsts_room in omega arith
-
-          -- The cells are those of the campaign.
-          chronicled : CampaignCells c
-              (cells_from (take r.countries words₁) (take r.countries initials₁) (take (r.settling - r.countries) runs₁) (take (r.settling - r.countries) targets) firsts₁
-              (take r.countries started₁) (take n keys₁) (take n links) from.start)
-          chronicled =
+    -- What the settling asks, in cells for any record of as many bytes.
+    pub holding-asked : {k s m n : ℕ} → TableRoom (length xs) k s m n → (keys cells slots started : List ℕ) (turns : List LossGain)
+        → length keys ≡ n → length cells ≡ n → length slots ≡ s → length started ≡ k → length turns ≡ n
+        → HoldingAsked xs from.provinces (take r.countries tags₁) (take r.countries initials₁) (take r.settling switches₁) keys cells
+        (take (length (provinces_left from.provinces) + 1) slots) (take (length (take r.countries tags₁)) started) turns
+    holding-asked {k} {s} {m} {n} room keys cells slots started turns a b d e h =
+        let g = filled in
+        let tables : CountryTables c.countries (take r.countries tags₁) (take r.countries initials₁) (take r.settling switches₁) =
+        record {
+          settler =
               record {
                 keyed = accepted-keyed xs pre.ready.accepted;
+                own = accepted-own xs pre.ready.accepted;
                 once = (sound xs pre.ready.accepted).tags_once;
-                sound = sound xs pre.ready.accepted;
-                tags = filled.words;
-                initials = filled.initials;
-                runs = runs-there;
-                few_runs = rw runs-there few-runs;
-                targets = targets-there;
-                start = pre.start;
-                started = started-there;
-                old_rows = losses (take n turns₁);
-                new_rows = gains (take n turns₁);
-                rowed = h.rowed;
-                few = let l = length-take n keys₁ in let k = few-changes in omega arith;
-                losses = a.linked.loss;
-                gains = a.linked.gain;
-                loss_rows = rows-there (losses firsts₁) (length-map firsts₁ (λ x. x.loss));
-                gain_rows = rows-there (gains firsts₁) (length-map firsts₁ (λ x. x.gain));
-                slots = omega (arith, provinces-few xs pre.ready.accepted);
-              }
+                tags = g.tags;
+                keys = g.switches;
+              };
+          initials = g.initials;
+        } in
+        let held : HoldingRoom xs keys cells (take (q + 1) slots) (take (length (take r.countries tags₁)) started) turns =
+        record {
+          keys = entered-fit xs pre.ready.accepted (length keys) (omega (arith, room.changes, a));
+          cells = entered-fit xs pre.ready.accepted (length cells) (omega (arith, room.changes, b));
+          turns = entered-fit xs pre.ready.accepted (length turns) (omega (arith, room.changes, h));
+          slots = length-first (q + 1) _ slots (slots-within q (length slots) refl (omega (arith, room.slots, d))) (omega (arith, slot-count, provinces));
+          started = length-first (length (take r.countries tags₁)) _ started (countries-within (length (take r.countries tags₁)) _ _ (tagged ∙ f.countries) e room.countries) (tagged ∙ g.countries);
+        } in
+        record { ready = pre.ready; tables = tables; room = held }
 
-          -- So all is gathered.
-          pub gathered : Gathered xs
-              (record {
-                start = from.start;
-                countries = r.countries;
-                switches = r.settling - r.countries;
-                slots = p + 1;
-                changes = n;
-              })
-              from.provinces words₁ initials₁ runs₁ keys₁ targets slots₁ started₁ links firsts₁
-          gathered =
-              record {
-                ready = pre.ready;
-                start = pre.start;
-                countries = filled.countries;
-                changes = h.counted;
-                slotted = slot-count;
-                switches = switched ∙ ap (λ (ks : List Country). length (switch_keys_from 0 ks)) pre.countries;
-                cells = chronicled;
-                sorted = h.sorted;
-                slots = slots-there;
-              }
+    -- All changes are settled.
+    module _ (n : ℕ) (keys₁ slots₁ started₁ : List ℕ) (turns₁ : List LossGain)
+        (h : Held xs n keys₁ (take (q + 1) slots₁) (take r.countries started₁) turns₁) where
+      -- There are not many.
+      pub changes-within : (m k : ℕ) → m ≡ k → rows_within most_changes (length xs) ≤ k → n ≤ m
+      changes-within m k e l = let a = changes-fit xs pre.ready.accepted k l in let b = h.counted in omega arith
+
+      few-changes : n ≤ most_changes
+      few-changes = let a = changes-few xs pre.ready.accepted in let b = h.counted in omega arith
+
+      -- What `arrange` asks.
+      pub arrange-asked : (runs cells : List ℕ) → rows_within most_settling (length xs) ≤ length runs → rows_within most_changes (length xs) ≤ length cells
+          → SwitchesRoom told runs cells × (n ≤ no_change)
+      arrange-asked runs cells a b =
+          let t = told-switches-fit (length cells) b in
+          let l = told-settling-few (length runs) a in
+          let s = settling-count 0 told in
+          let k = few-changes in (
+            record { runs = omega arith; targets = omega arith },
+            omega arith,
+          )
+
+      -- All is arranged, in slices as long as before.
+      module _ (links firsts₁ : List LossGain) (runs₁ targets : List ℕ) (a : Arranged told (take n turns₁) (take n links) firsts₁ runs₁ targets)
+          (firsts_room : rows_within most_countries (length xs) ≤ length firsts₁) where
+        runs-there : take (r.settling - r.countries) runs₁ ≡ run_keys c.countries
+        runs-there = ap (λ (m : ℕ). take m runs₁) switched ∙ a.runs ∙ ap run_keys pre.countries
+
+        targets-there : take (r.settling - r.countries) targets ≡ target_words c.countries
+        targets-there = ap (λ (m : ℕ). take m targets) switched ∙ a.targets ∙ ap target_words pre.countries
+
+        few-runs : length (run_keys c.countries) ≤ most_switches
+        few-runs = let e = length-sort leb (runs_from 0 0 c.countries) in let h = runs-few xs pre.ready.accepted in omega arith
+
+        slots-there : take (p + 1) slots₁ ≡ slot_cells c (holders_of c)
+        slots-there = ap (λ (m : ℕ). take (m + 1) slots₁) provinces ∙ h.slots
+
+        -- A row of each country.
+        rows-there : (l : List ℕ) → length l ≡ length firsts₁ → length c.countries ≤ length l
+        rows-there l e = let k = countries-fit xs pre.ready.accepted _ firsts_room in omega arith
+
+        -- The cells are those of the campaign.
+        chronicled : CampaignCells c
+            (cells_from (take r.countries tags₁) (take r.countries initials₁) (take (r.settling - r.countries) runs₁) (take (r.settling - r.countries) targets) firsts₁
+            (take r.countries started₁) (take n keys₁) (take n links) from.start)
+        chronicled =
+            record {
+              keyed = accepted-keyed xs pre.ready.accepted;
+              once = (sound xs pre.ready.accepted).tags_once;
+              sound = sound xs pre.ready.accepted;
+              tags = filled.tags;
+              initials = filled.initials;
+              runs = runs-there;
+              few_runs = rw runs-there few-runs;
+              targets = targets-there;
+              start = pre.start;
+              started = h.started;
+              old_rows = losses (take n turns₁);
+              new_rows = gains (take n turns₁);
+              rowed = h.rowed;
+              few = let l = length-take n keys₁ in let k = few-changes in omega arith;
+              losses = a.linked.loss;
+              gains = a.linked.gain;
+              loss_rows = rows-there (losses firsts₁) (length-map firsts₁ (λ x. x.loss));
+              gain_rows = rows-there (gains firsts₁) (length-map firsts₁ (λ x. x.gain));
+              slots = omega (arith, provinces-few xs pre.ready.accepted);
+            }
+
+        -- So all is gathered.
+        pub gathered : Gathered xs
+            (record {
+              start = from.start;
+              countries = r.countries;
+              switches = r.settling - r.countries;
+              slots = p + 1;
+              changes = n;
+            })
+            from.provinces tags₁ initials₁ runs₁ keys₁ targets slots₁ started₁ links firsts₁
+        gathered =
+            record {
+              ready = pre.ready;
+              start = pre.start;
+              countries = filled.countries;
+              changes = h.counted;
+              slotted = slot-count;
+              switches = switched ∙ ap (λ (ks : List Country). length (switch_keys_from 0 ks)) pre.countries;
+              cells = chronicled;
+              sorted = h.sorted;
+              slots = slots-there;
+            }

@@ -30,11 +30,11 @@ use Rattle.rules.proofs.CampaignLaws.{holders-of}
 use Rattle.change_keys.specs.ChangeSteps.{entered, AtFirstProvince, change_keys_from, KeysFilled}
 use Rattle.nation_tables.specs.Layout.{key_rows, key_tags, word_span, no_change, cell_rows}
 use Rattle.nation_tables.specs.Lookup.{no_row}
-use Rattle.nation_tables.specs.Countries.{tag_at_row, words_of_tags, initial_words, row_keys, initial_number}
+use Rattle.nation_tables.specs.Countries.{tag_at_row, country_tags, words_of_tags, initial_words, row_keys, initial_number}
 use Rattle.nation_tables.specs.Starting.{owner_in, slot_rows, Slotted, Started}
-use Rattle.nation_tables.specs.declared.layout.Turn.{Turn}
+use Rattle.nation_tables.specs.declared.layout.LossGain.{LossGain}
 use Rattle.nation_tables.specs.Turning.{losses, gains, row_turns_of, Rowed}
-use Rattle.nation_tables.specs.Holders.{Small, rows_in, row_cell, slot_cell, slot_cells, cell_word, slot_counts, holder_cell, step_at, steps_of}
+use Rattle.nation_tables.specs.Holders.{Small, rows_in_cells, row_cell, slot_cell, slot_cells, cell_word, slot_counts, holder_cell, step_at, steps_of}
 use Rattle.nation_tables.specs.Holders.{turns_along, cells_along, turn_cell, Passed, Began, Stepped, Held}
 use Rattle.change_keys.proofs.ChangeLaws.{entered-few, entered-narrow}
 use Rattle.change_keys.proofs.ChangeKeyLaws.{length-change-keys}
@@ -61,12 +61,12 @@ module _ (c : Campaign) (few : length c.countries ≤ key_rows) (once : twice (w
   slot-holders = s.holders c refl size few initials
 
   -- The cells of these rows are those of the start holders.
-  pub start-cells : map (row_cell (words_of_tags ks)) (rows_in rows) ≡ map (slot_cell (words_of_tags ks)) (start_holders c)
+  pub start-cells : map (row_cell (country_tags ks)) (rows_in_cells rows) ≡ map (slot_cell (words_of_tags ks)) (start_holders c)
   start-cells =
-      ap (λ (l : List ℕ). map (row_cell (words_of_tags ks)) (rows_in l)) s.cells
-      ∙ map-then (λ x. x % cell_rows) (row_cell (words_of_tags ks)) slots
-      ∙ map_same (λ r. row_cell (words_of_tags ks) (r % cell_rows)) (λ r. slot_cell (words_of_tags ks) (tag_at_row ks r)) slots
-      (all-images (λ r. row_cell (words_of_tags ks) (r % cell_rows) ≡ slot_cell (words_of_tags ks) (tag_at_row ks r))
+      ap (λ (l : List ℕ). map (row_cell (country_tags ks)) (rows_in_cells l)) s.cells
+      ∙ map-then (λ x. x % cell_rows) (row_cell (country_tags ks)) slots
+      ∙ map_same (λ r. row_cell (country_tags ks) (r % cell_rows)) (λ r. slot_cell (words_of_tags ks) (tag_at_row ks r)) slots
+      (all-images (λ r. row_cell (country_tags ks) (r % cell_rows) ≡ slot_cell (words_of_tags ks) (tag_at_row ks r))
       (λ n. initial_number keys (owner_in c.provinces (record { 0 = n })))
       (λ n. let t = owner_in c.provinces (record { 0 = n }) in
       one_cell (initial_number keys t) ((initial-mapped keys t).inside ks few initials))
@@ -74,14 +74,14 @@ module _ (c : Campaign) (few : length c.countries ≤ key_rows) (once : twice (w
       ∙ sym (map-then (tag_at_row ks) (slot_cell (words_of_tags ks)) slots)
       ∙ ap (map (slot_cell (words_of_tags ks))) slot-holders
     where
-      one_cell : (r : ℕ) → ((r ≡ no_row → ⊥) → r < length ks) → row_cell (words_of_tags ks) (r % cell_rows) ≡ slot_cell (words_of_tags ks) (tag_at_row ks r)
+      one_cell : (r : ℕ) → ((r ≡ no_row → ⊥) → r < length ks) → row_cell (country_tags ks) (r % cell_rows) ≡ slot_cell (words_of_tags ks) (tag_at_row ks r)
       one_cell r inside =
           let small : r < cell_rows =
           cases (eqb r no_row)
           (λ g. omega (arith, eqb-true r no_row g))
           (λ g. let l = inside (eqb-false r no_row g) in omega arith) in
           let same : r % cell_rows ≡ r = omega arith in
-          ap (row_cell (words_of_tags ks)) same
+          ap (row_cell (country_tags ks)) same
           ∙ ap₂ (λ (w p : ℕ). w * cell_rows + p) (holder-word ks r) (sym (row_back ks few once r inside))
           ∙ sym (cell_parts (words_of_tags ks) (tag_at_row ks r))
 
@@ -119,7 +119,7 @@ module _ (xs : List ℕ) (z : refusal xs ≡ 0) where
 
   -- How many slots have each row is how many each country holds.
   counts-of : (holders : List (Option CountryTag)) (n : ℕ) → n ≡ length campaign.countries
-      → slot_counts (rows_in (slot_cells campaign holders)) n ≡ map (λ k. count_of (matches k.tag) holders) campaign.countries
+      → slot_counts (rows_in_cells (slot_cells campaign holders)) n ≡ map (λ k. count_of (matches k.tag) holders) campaign.countries
   counts-of holders n e =
       let tags = words_of_tags campaign.countries in
       let long : length tags ≡ length campaign.countries = length-map campaign.countries (λ k. k.tag.0) in
@@ -129,9 +129,9 @@ module _ (xs : List ℕ) (z : refusal xs ≡ 0) where
 
   -- By the cells of the slots after the last change each country holds as many as it does.
   pub held-counted : (slots counts : List ℕ) (n : ℕ) → slots ≡ slot_cells campaign (holders_of campaign) → n ≡ length campaign.countries
-      → counts ≡ slot_counts (rows_in slots) n → counts ≡ held_of campaign
+      → counts ≡ slot_counts (rows_in_cells slots) n → counts ≡ held_of campaign
   unfolding held_of
-  held-counted slots counts n e c f = f ∙ ap (λ (l : List ℕ). slot_counts (rows_in l) n) e ∙ counts-of (holders_of campaign) n c
+  held-counted slots counts n e c f = f ∙ ap (λ (l : List ℕ). slot_counts (rows_in_cells l) n) e ∙ counts-of (holders_of campaign) n c
 
   -- The words of all holders have 32 bits.
   small-start : All (λ h. holder_word h < word_span) (start_holders campaign)
@@ -162,16 +162,16 @@ module _ (xs : List ℕ) (z : refusal xs ≡ 0) where
       (all_after (λ h. holder_word h < word_span) (moves_of campaign) (start_holders campaign) small-moves small-start))
 
   -- What `start_slots` leaves.
-  pub began : (ws is : List ℕ) (ps : List Province) → ps ≡ campaign.provinces → ws ≡ words_of_tags campaign.countries
+  pub began : (ts : List CountryTag) (is : List ℕ) (ps : List Province) → ps ≡ campaign.provinces → ts ≡ country_tags campaign.countries
       → is ≡ row_keys (initial_words campaign.countries) → (count : ℕ) (rows slots counts : List ℕ) (n : ℕ)
       → count ≡ suc (length campaign.provinces) → n ≡ length campaign.countries
-      → Started is ps count rows → slots ≡ map (row_cell ws) (rows_in rows) → counts ≡ slot_counts (rows_in slots) n
+      → Started is ps count rows → slots ≡ map (row_cell ts) (rows_in_cells rows) → counts ≡ slot_counts (rows_in_cells slots) n
       → Began campaign slots counts
-  began ws is ps p w i count rows slots counts n size e s f g =
+  began ts is ps p w i count rows slots counts n size e s f g =
       let s' : Started is campaign.provinces count rows = rw p at s in
       let cells : slots ≡ slot_cells campaign (start_holders campaign) =
-      f ∙ ap (λ (l : List ℕ). map (row_cell l) (rows_in rows)) w ∙ start-cells campaign few once is i count rows size s' in
-      record { slots = cells; started = g ∙ ap (λ (l : List ℕ). slot_counts (rows_in l) n) cells ∙ counts-of (start_holders campaign) n e }
+      f ∙ ap (λ (l : List CountryTag). map (row_cell l) (rows_in_cells rows)) w ∙ start-cells campaign few once is i count rows size s' in
+      record { slots = cells; started = g ∙ ap (λ (l : List ℕ). slot_counts (rows_in_cells l) n) cells ∙ counts-of (start_holders campaign) n e }
 
   -- What `sort_steps` leaves.
   pub stepped : (n : ℕ) (keys sorted cells keys' : List ℕ) → KeysFilled xs n keys → sorted ≡ sort_by leb (take n keys)
@@ -182,7 +182,7 @@ module _ (xs : List ℕ) (z : refusal xs ≡ 0) where
       record { counted = k.counted; sorted = take_at sorted keys' n long ∙ all; filled = f }
 
   -- The pass over these steps, from that start.
-  module _ (n : ℕ) (slots started keys cells : List ℕ) (b : Began campaign slots started) (q : Stepped xs n keys cells) (slots₁ : List ℕ) (turns : List Turn)
+  module _ (n : ℕ) (slots started keys cells : List ℕ) (b : Began campaign slots started) (q : Stepped xs n keys cells) (slots₁ : List ℕ) (turns : List LossGain)
       (p : Passed (take n keys) (take n cells) slots slots₁ turns) where
     steps : steps_of (take n cells) (take n keys) ≡ steps_in campaign
     steps = campaign-steps (take n cells) (take n keys) q.filled q.sorted
@@ -204,7 +204,7 @@ module _ (xs : List ℕ) (z : refusal xs ≡ 0) where
         ∙ length-change-keys 0 (entered xs)
         ∙ sym q.counted
 
-    held_all : (turns' : List Turn) → Held xs n keys slots₁ started (turns ++ turns')
+    held_all : (turns' : List LossGain) → Held xs n keys slots₁ started (turns ++ turns')
     unfolding changes_of
     held_all turns' =
         record {
@@ -216,6 +216,6 @@ module _ (xs : List ℕ) (z : refusal xs ≡ 0) where
         }
 
   -- What `hold_slots` leaves.
-  pub held : (n : ℕ) (slots started keys cells : List ℕ) → Began campaign slots started → Stepped xs n keys cells → (slots₁ : List ℕ) (turns turns' : List Turn)
+  pub held : (n : ℕ) (slots started keys cells : List ℕ) → Began campaign slots started → Stepped xs n keys cells → (slots₁ : List ℕ) (turns turns' : List LossGain)
       → Passed (take n keys) (take n cells) slots slots₁ turns → Held xs n keys slots₁ started (turns ++ turns')
   held n slots started keys cells b q slots₁ turns turns' p = held_all n slots started keys cells b q slots₁ turns p turns'

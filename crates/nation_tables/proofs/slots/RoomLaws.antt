@@ -1,4 +1,4 @@
--- Cells for any record of so many bytes suffice for each. Whether there is room for the tables, as the code tests it.
+-- An accepted record has no more rows than its bytes allow. Whether there is room for the tables, as the code tests it.
 use Rattle.std.specs.Prelude as code
 use Rattle.std.specs.Prelude.{Ok}
 use mathlib.Core.Path.{◌≡◌, refl, sym, ◌∙◌}
@@ -16,15 +16,15 @@ use Rattle.format.specs.declared.refused.Refusal.{Refusal}
 use Rattle.format.specs.Refusal.{refusal}
 use Rattle.record.specs.declared.opened.Record.{Record}
 use Rattle.record.specs.Opened.{Tells, RightlyOpened}
+use Rattle.record.proofs.WidthLaws.{provinces-within}
 use Rattle.rules.specs.Changes.{by_date_and_id, changes_of}
 use Rattle.change_keys.specs.ChangeSteps.{entered, most_changes}
 use Rattle.change_keys.proofs.ChangeLaws.{entered-few, entered-bytes}
-use Rattle.nation_tables.specs.declared.layout.Turn.{Turn}
 use Rattle.nation_tables.specs.Layout.{most_countries, most_settling, most_slots, rows_within}
 use Rattle.nation_tables.specs.Countries.{switch_keys_from, settling_keys_from}
 use Rattle.nation_tables.specs.Gathering.{Begun, TableRoom, room_of}
 use Rattle.nation_tables.proofs.tables.OwnKeyLaws.{settling-count}
-use Rattle.nation_tables.proofs.tables.KeyedLaws.{countries-few, provinces-few, slots-bytes, settling-few, settling-bytes}
+use Rattle.nation_tables.proofs.tables.KeyedLaws.{countries-few, provinces-few, settling-few, settling-bytes}
 
 -- ## An accepted record has no more rows than its bytes allow
 
@@ -33,7 +33,7 @@ module _ (xs : List ℕ) (h : refusal xs ≡ 0) (room : ℕ) where
   countries-fit l = omega (arith, countries-few xs h, settling-bytes xs h, settling-count 0 (campaign_of xs).countries)
 
   pub slots-fit : rows_within most_slots (length xs) ≤ room → suc (length (campaign_of xs).provinces) ≤ room
-  slots-fit l = omega (arith, provinces-few xs h, slots-bytes xs h)
+  slots-fit l = omega (arith, provinces-few xs h, provinces-within xs h)
 
   pub settling-fit : rows_within most_settling (length xs) ≤ room → length (settling_keys_from 0 (campaign_of xs).countries) ≤ room
   settling-fit l = omega (arith, settling-few xs h, settling-bytes xs h)
@@ -47,37 +47,6 @@ module _ (xs : List ℕ) (h : refusal xs ≡ 0) (room : ℕ) where
   pub changes-fit : rows_within most_changes (length xs) ≤ room → length (changes_of (campaign_of xs)) ≤ room
   unfolding changes_of
   changes-fit l = omega (arith, length-sort by_date_and_id (entered xs), entered-fit l)
-
--- ## Cells
-
--- Cells of the tables that are long enough for any record of so many bytes.
-pub record CellsRoom (bytes : ℕ) (words₀ initials₀ switches₀ keys₀ cells₀ slots₀ started₀ : List ℕ) (turns₀ : List Turn) : Type 0 where
-  pub words : rows_within most_countries bytes ≤ length words₀
-  pub initials : rows_within most_countries bytes ≤ length initials₀
-  pub switches : rows_within most_settling bytes ≤ length switches₀
-  pub keys : rows_within most_changes bytes ≤ length keys₀
-  pub cells : rows_within most_changes bytes ≤ length cells₀
-  pub slots : rows_within most_slots bytes ≤ length slots₀
-  pub started : rows_within most_countries bytes ≤ length started₀
-  pub turns : rows_within most_changes bytes ≤ length turns₀
-
-module _ {bytes c p m n : ℕ} (room : TableRoom bytes c p m n) where
-  -- Arrays for enough of each are.
-  pub cells-room : (words initials switches keys cells slots started : List ℕ) (turns : List Turn)
-      → length words ≡ c → length initials ≡ c → length switches ≡ m → length keys ≡ n → length cells ≡ n
-      → length slots ≡ p → length started ≡ c → length turns ≡ n
-      → CellsRoom bytes words initials switches keys cells slots started turns
-  cells-room words initials switches keys cells slots started turns w i u k e s b t =
-      record {
-        words = omega (arith, room.countries);
-        initials = omega (arith, room.countries);
-        switches = omega (arith, room.keys);
-        keys = omega (arith, room.changes);
-        cells = omega (arith, room.changes);
-        slots = omega (arith, room.slots);
-        started = omega (arith, room.countries);
-        turns = omega (arith, room.changes);
-      }
 
 -- ## The test
 

@@ -7,7 +7,7 @@ use native.Mathlib.Omega.{arith}
 use lib.ListN.{length, get_or, set, drop, length-set, length-map}
 use Rattle.lists.proofs.ListLaws.{map-then}
 use Rattle.lists.proofs.FillLaws.{Filling, filling-new, filling-put, filling-whole}
-use Rattle.nation_tables.specs.declared.layout.Turn.{Turn}
+use Rattle.nation_tables.specs.declared.layout.LossGain.{LossGain}
 use Rattle.nation_tables.specs.Layout.{cell_rows, nobody_cell}
 use Rattle.nation_tables.specs.Turning.{losses, gains, key_date, Rowed}
 use Rattle.nation_tables.specs.Holders.{Step, step_at, steps_of, turns_along, cells_along, turn_cell, Replaced, Passed}
@@ -30,7 +30,7 @@ turn-dates cells (key ∷ keys) slots =
     (turn-dates cells keys (set slots (step_at cells key).slot (step_at cells key).cell))
 
 -- What the pass leaves are the turns, by keys and rows.
-pub passed-rows : (keys cells slots₀ slots₁ : List ℕ) (turns : List Turn) → Passed keys cells slots₀ slots₁ turns
+pub passed-rows : (keys cells slots₀ slots₁ : List ℕ) (turns : List LossGain) → Passed keys cells slots₀ slots₁ turns
     → Rowed keys (losses turns) (gains turns) (turns_along slots₀ (steps_of cells keys))
 passed-rows keys cells slots₀ slots₁ turns p =
     record {
@@ -42,7 +42,7 @@ passed-rows keys cells slots₀ slots₁ turns p =
 -- ## The loop
 
 -- The steps of the keys passed are done.
-pub record PassLoop (keys cells slots₀ : List ℕ) (turns₀ : List Turn) (slots : List ℕ) (turns : List Turn) (k : ℕ) : Type 0 where
+pub record PassLoop (keys cells slots₀ : List ℕ) (turns₀ : List LossGain) (slots : List ℕ) (turns : List LossGain) (k : ℕ) : Type 0 where
   pub inside : k ≤ length keys
   pub long : length slots ≡ length slots₀
   pub told :
@@ -55,7 +55,7 @@ length-told keys cells slots =
     length-map (turns_along slots (steps_of cells keys)) turn_cell ∙ length-along slots (steps_of cells keys) ∙ length-map keys (step_at cells)
 
 -- Nothing is passed yet.
-pub pass-none : (keys cells slots : List ℕ) (turns : List Turn) → length turns ≡ length keys → PassLoop keys cells slots turns slots turns 0
+pub pass-none : (keys cells slots : List ℕ) (turns : List LossGain) → length turns ≡ length keys → PassLoop keys cells slots turns slots turns 0
 pass-none keys cells slots turns e =
     record {
       inside = omega arith;
@@ -64,7 +64,7 @@ pass-none keys cells slots turns e =
       after = refl;
     }
 
-module _ (keys cells slots₀ : List ℕ) (turns₀ : List Turn) (slots : List ℕ) (turns : List Turn) (k : ℕ) (p : PassLoop keys cells slots₀ turns₀ slots turns k) where
+module _ (keys cells slots₀ : List ℕ) (turns₀ : List LossGain) (slots : List ℕ) (turns : List LossGain) (k : ℕ) (p : PassLoop keys cells slots₀ turns₀ slots turns k) where
   abbrev here : Step
   here = step_at cells (get_or keys k 0)
 

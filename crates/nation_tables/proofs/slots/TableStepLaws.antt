@@ -7,11 +7,12 @@ use lib.Dec.{leb}
 use lib.ListN.{length, get_or, take, drop, length-map}
 use lib.Seq.{take_at}
 use Rattle.sorting.proofs.SortLaws.{length-sort}
+use Rattle.format.specs.declared.tag.CountryTag.{CountryTag}
 use Rattle.format.specs.Campaign.{Country}
 use Rattle.rules.specs.Lent.{written}
-use Rattle.nation_tables.specs.declared.layout.Turn.{Turn}
+use Rattle.nation_tables.specs.declared.layout.LossGain.{LossGain}
 use Rattle.nation_tables.specs.Layout.{no_change}
-use Rattle.nation_tables.specs.Countries.{words_of_tags, row_keys, switch_keys_from, settling_keys_from, settling_keys, Tabled, Filled}
+use Rattle.nation_tables.specs.Countries.{country_tags, row_keys, switch_keys_from, settling_keys_from, settling_keys, Tabled, Filled}
 use Rattle.nation_tables.specs.Turning.{losses, gains, Fresh}
 use Rattle.nation_tables.specs.Switches.{runs_from, run_keys, target_words}
 use Rattle.nation_tables.specs.Gathering.{TablesFilled, SwitchesRoom}
@@ -19,17 +20,17 @@ use Rattle.nation_tables.proofs.tables.CountryLaws.{initial-table, settling-tabl
 use Rattle.nation_tables.proofs.tables.SwitchLaws.{length_runs, length-targets}
 
 -- The tables, each at the front of its cells.
-pub tables-filled : (ks : List Country) (c m : ℕ) (words₀ words₁ inits₀ inits₁ initials₀ initials₁ switches₀ switches₁ : List ℕ)
-    → c ≡ length ks → Tabled ks words₀ words₁ inits₀ inits₁ → initials₁ ≡ written (row_keys (take c inits₁)) initials₀ → Filled (settling_keys ks) m switches₀ switches₁
-    → TablesFilled ks (record { countries = c; settling = m }) words₁ initials₁ switches₁
-tables-filled ks c m words₀ words₁ inits₀ inits₁ initials₀ initials₁ switches₀ switches₁ l q i f =
+pub tables-filled : (ks : List Country) (c m : ℕ) (tags₀ tags₁ : List CountryTag) (inits₀ inits₁ initials₀ initials₁ switches₀ switches₁ : List ℕ)
+    → c ≡ length ks → Tabled ks tags₀ tags₁ inits₀ inits₁ → initials₁ ≡ written (row_keys (take c inits₁)) initials₀ → Filled (settling_keys ks) m switches₀ switches₁
+    → TablesFilled ks (record { countries = c; settling = m }) tags₁ initials₁ switches₁
+tables-filled ks c m tags₀ tags₁ inits₀ inits₁ initials₀ initials₁ switches₀ switches₁ l q i f =
     record {
       countries = l;
       keyed = f.counted ∙ length-sort leb (settling_keys_from 0 ks);
-      words =
+      tags =
           ap (take c) q.tags
-          ∙ take_at (words_of_tags ks) (drop (length (words_of_tags ks)) words₀) c (length-map ks (λ k. k.tag.0) ∙ sym l);
-      initials = initial-table ks c words₀ words₁ inits₀ inits₁ l q initials₀ initials₁ i;
+          ∙ take_at (country_tags ks) (drop (length (country_tags ks)) tags₀) c (length-map ks (λ k. k.tag) ∙ sym l);
+      initials = initial-table ks c tags₀ tags₁ inits₀ inits₁ l q initials₀ initials₁ i;
       switches = settling-table ks m switches₀ switches₁ f;
     }
 
@@ -62,17 +63,17 @@ module _ (ks : List Country) where
 
 -- ## Rows with no change yet
 
-abbrev pub nothing : Turn
+abbrev pub nothing : LossGain
 nothing = record { loss = no_change; gain = no_change }
 
-fresh_set : (f : Turn → ℕ) (x : Turn) (cells : List Turn) → f x ≡ no_change → Fresh (map f (map (λ _. x) cells))
+fresh_set : (f : LossGain → ℕ) (x : LossGain) (cells : List LossGain) → f x ≡ no_change → Fresh (map f (map (λ _. x) cells))
 fresh_set f x cells e = record { none = go cells }
   where
-    go : (l : List Turn) (r : ℕ) → r < length (map f (map (λ _. x) l)) → get_or (map f (map (λ _. x) l)) r 0 ≡ no_change
+    go : (l : List LossGain) (r : ℕ) → r < length (map f (map (λ _. x) l)) → get_or (map f (map (λ _. x) l)) r 0 ≡ no_change
     go [] r h = absurd (omega arith)
     go (y ∷ l) zero h = e
     go (y ∷ l) (suc r) h = go l r (omega arith)
 
 -- So it is with the firsts of all rows.
-pub fresh-firsts : (before after : List Turn) → after ≡ map (λ _. nothing) before → Fresh (losses after) × Fresh (gains after)
+pub fresh-firsts : (before after : List LossGain) → after ≡ map (λ _. nothing) before → Fresh (losses after) × Fresh (gains after)
 fresh-firsts before after e = rw e (fresh_set (λ x. x.loss) nothing before refl, fresh_set (λ x. x.gain) nothing before refl)

@@ -24,7 +24,7 @@ use Rattle.rules.specs.NationRows.{holder_word}
 use Rattle.nation_tables.specs.Layout.{word_span, no_change, no_row, cell_rows, nobody_cell}
 use Rattle.nation_tables.specs.Countries.{words_of_tags}
 use Rattle.nation_tables.specs.Turning.{RowTurn, first_at, row_tag, row_among, holder_row, row_turn, row_turns_of, row_lived}
-use Rattle.nation_tables.specs.Holders.{rows_in, slot_counts, slot_cell, slot_cells, cell_word, Step, turns_along, cells_along}
+use Rattle.nation_tables.specs.Holders.{rows_in_cells, slot_counts, slot_cell, slot_cells, cell_word, Step, turns_along, cells_along}
 use Rattle.std.proofs.lemmas.List.{map-set}
 use Rattle.nation_tables.proofs.slots.ChainLaws.{first-from}
 use Rattle.rules.proofs.LivingLaws.{after_moves, turn-count}
@@ -167,7 +167,7 @@ module _ (tags : List ℕ) (few : length tags ≤ no_change) where
   cell_row none = refl
   cell_row (some t) = low_half t.0 (row_among tags t) (first_small t.0 0 tags (omega arith))
 
-  pub cell-rows : (hs : List (Option CountryTag)) → rows_in (map (slot_cell tags) hs) ≡ map (holder_row tags) hs
+  pub cell-rows : (hs : List (Option CountryTag)) → rows_in_cells (map (slot_cell tags) hs) ≡ map (holder_row tags) hs
   cell-rows [] = refl
   cell-rows (h ∷ hs) = ap₂ (λ (r : ℕ) (l : List ℕ). r ∷ l) (cell_row h) (cell-rows hs)
 

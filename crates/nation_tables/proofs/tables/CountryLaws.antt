@@ -11,6 +11,7 @@ use lib.Seq.{drop-cons, take_at}
 use Rattle.sorting.specs.Sort.{sort_by}
 use Rattle.sorting.proofs.SortedKeyLaws.{sorted_front}
 use Rattle.sorting.proofs.SortLaws.{length-sort}
+use Rattle.format.specs.declared.tag.CountryTag.{CountryTag}
 use Rattle.format.specs.Campaign.{Country}
 use Rattle.nation_tables.specs.Countries.{initial_words, word_keys, row_keys, settling_keys_from, settling_keys, Tabled, Filled}
 use Rattle.nation_tables.specs.Keys.{row_key}
@@ -59,7 +60,7 @@ word-table ws words₀ words keys₀ keys n l e k =
     let front : take n words ≡ ws = ap (take n) e ∙ take_at ws (drop (length ws) words₀) n (sym l) in
     sorted-front (word_keys 0 ws) keys₀ keys n (rw front at k) (l ∙ sym (length-word-keys 0 ws))
 
-module _ (ks : List Country) (n : ℕ) (tags₀ tags₁ initials₀ initials₁ : List ℕ) (l : n ≡ length ks) (q : Tabled ks tags₀ tags₁ initials₀ initials₁) (keys₀ keys : List ℕ) where
+module _ (ks : List Country) (n : ℕ) (tags₀ tags₁ : List CountryTag) (initials₀ initials₁ : List ℕ) (l : n ≡ length ks) (q : Tabled ks tags₀ tags₁ initials₀ initials₁) (keys₀ keys : List ℕ) where
   pub initial-table : keys ≡ written (row_keys (take n initials₁)) keys₀ → take n keys ≡ row_keys (initial_words ks)
   initial-table e =
       word-table (initial_words ks) initials₀ initials₁ keys₀ keys n (l ∙ sym (length-map ks (λ k. (initial_of k).0))) q.initials e

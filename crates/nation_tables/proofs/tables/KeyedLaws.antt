@@ -10,19 +10,16 @@ use lib.ListN.{length, length-append, length-map}
 use Rattle.lists.specs.Lists.{all_of, join_of}
 use Rattle.lists.proofs.ListLaws.{all_map, all-all_of}
 use Rattle.format.specs.declared.rows.Switch.{Switch}
-use Rattle.format.specs.Head.{head_of, provinces_at}
-use Rattle.format.specs.Rows.{province_at}
-use Rattle.format.specs.Campaign.{Country, province_rows, owner_events, campaign_of}
+use Rattle.format.specs.Campaign.{Country, campaign_of}
 use Rattle.format.specs.Refusal.{refusal}
 use Rattle.format.specs.Sound.{GoodSwitch, GoodCountry, GoodProvince}
-use Rattle.format.proofs.AcceptLaws.{accepted, accepted-laid}
-use Rattle.format.proofs.RowLaws.{rows-counted}
-use Rattle.format.proofs.CampaignLaws.{provinces-length}
 use Rattle.format.proofs.SoundLaws.{sound}
 pub use Rattle.format.proofs.BoundLaws.{tag_small, date-small}
-use Rattle.format.proofs.BoundLaws.{date-most, switches-bytes}
+use Rattle.format.proofs.BoundLaws.{date-most}
+use Rattle.record.specs.Width.{row_bytes}
+use Rattle.record.proofs.WidthLaws.{switches-within}
 use Rattle.nation_tables.proofs.tables.OwnKeyLaws.{settling-count}
-use Rattle.nation_tables.specs.Layout.{most_countries, most_switches, most_settling, key_dates, key_tags}
+use Rattle.nation_tables.specs.Layout.{most_countries, most_switches, most_slots, most_settling, key_dates, key_tags}
 use Rattle.nation_tables.specs.Countries.{switch_key, switch_keys_from, settling_keys_from, small_switch, Keyed, OwnLast}
 use Rattle.nation_tables.specs.Starting.{Slotted}
 
@@ -46,8 +43,8 @@ module _ (xs : List ℕ) (h : refusal xs ≡ 0) where
   pub countries-few : length (campaign_of xs).countries ≤ most_countries
   countries-few = (sound xs h).few_countries
 
-  pub provinces-few : length (campaign_of xs).provinces ≤ 8000
-  provinces-few = (sound xs h).few_provinces
+  pub provinces-few : length (campaign_of xs).provinces < most_slots
+  provinces-few = omega (arith, (sound xs h).few_provinces)
 
   pub switches-few : length (switch_keys_from 0 (campaign_of xs).countries) ≤ most_switches
   switches-few = rw keys_length (sound xs h).few_switches
@@ -72,19 +69,11 @@ module _ (xs : List ℕ) (h : refusal xs ≡ 0) where
   settling-few =
       let a = countries-few in let b = switches-few in omega (arith, settling-count 0 (campaign_of xs).countries)
 
-  -- A province takes 7 bytes of the record, and the head more than 7.
-  pub slots-bytes : 7 * suc (length (campaign_of xs).provinces) ≤ length xs
-  unfolding campaign_of
-  slots-bytes =
-      let grouped = provinces-length (province_rows xs) (owner_events xs) in
-      let counted = rows-counted (province_at xs) 7 xs (provinces_at (head_of xs)) (head_of xs).provinces in
-      omega (arith, (accepted-laid xs (accepted xs h)).inside)
-
-  -- A switch takes 7 bytes of the record, and a country 12.
-  pub settling-bytes : 7 * length (settling_keys_from 0 (campaign_of xs).countries) ≤ length xs
+  -- A key for each switch and each country.
+  pub settling-bytes : row_bytes * length (settling_keys_from 0 (campaign_of xs).countries) ≤ length xs
   settling-bytes =
       let count = settling-count 0 (campaign_of xs).countries in
-      omega (arith, keys_length 0 (campaign_of xs).countries, switches-bytes xs h)
+      omega (arith, keys_length 0 (campaign_of xs).countries, switches-within xs h)
 
   pub accepted-slotted : (slots : ℕ) → length (campaign_of xs).provinces < slots → Slotted slots (campaign_of xs).provinces
   accepted-slotted slots l =

@@ -14,6 +14,7 @@ use Rattle.lists.specs.Lists.{count_of}
 use Rattle.lists.proofs.BoolLaws.{and_left, and_right, and-false}
 use Rattle.record.specs.declared.provinces.Provinces.{Provinces}
 use Rattle.format.specs.Campaign.{Campaign, campaign_of}
+use Rattle.format.specs.declared.tag.CountryTag.{CountryTag}
 use Rattle.format.specs.declared.refused.Refusal.{Refusal}
 use Rattle.format.specs.Refused.{refusal_number}
 use Rattle.format.specs.Refusal.{refusal}
@@ -24,18 +25,18 @@ use Rattle.rules.specs.Changes.{changes_of, change_rows, change_width}
 use Rattle.rules.specs.Nations.{nations_of, matches, slots_of, moves_of, last_holder, holders_of, held_of}
 use Rattle.rules.proofs.CampaignLaws.{length-slots}
 use Rattle.rules.specs.NationRows.{nation_words, entry_words, holder_word, nation_width, entry_width}
-use Rattle.rules.specs.Outcomes.{answers_of, NationCells, cells_of, all_fit, all_written, Counts, counts_of, call_nation_events}
+use Rattle.rules.specs.Outcomes.{answers_of, NationCells, cells_of, all_fit, all_written, NationCounts, counts_of, call_nation_events}
 use Rattle.nation_tables.specs.declared.gathering.TableSizes.{TableSizes}
-use Rattle.nation_tables.specs.declared.layout.Turn.{Turn}
+use Rattle.nation_tables.specs.declared.layout.LossGain.{LossGain}
 use Rattle.nation_tables.specs.Holders.{slot_cells, SlotsRoom}
 use Rattle.nation_tables.specs.Gathering.{Cells, CampaignCells, fronts_of, TableRoom, Gathered}
-use Rattle.nation_tables.proofs.tables.KeyedLaws.{countries-few, provinces-few}
+use Rattle.nation_tables.proofs.tables.KeyedLaws.{provinces-few}
 use Rattle.nation_tables.proofs.tables.OwnKeyLaws.{settling-count}
 use Rattle.nation_tables.proofs.tables.SwitchLaws.{run-entries, targets-small}
 use Rattle.nation_tables.proofs.slots.HoldersLaws.{holder-words, held-counted}
 use Rattle.nation_tables.proofs.slots.RoomLaws.{countries-fit, slots-fit, settling-fit, switches-fit, changes-fit}
 use Rattle.nation_listing.specs.declared.placing.Listed.{Listed}
-use Rattle.chronicle_rows.specs.declared.counts.NationCounts.{NationCounts}
+use Rattle.chronicle_rows.specs.declared.counts.NationCounts as code_counts
 use Rattle.chronicle_rows.specs.Cases.{counts_in}
 use Rattle.nations.specs.Cases.{nation_cells}
 use Rattle.nation_listing.specs.Listing.{nations_at}
@@ -64,7 +65,7 @@ regroup true false d e f = refl
 regroup false b d e f = refl
 
 -- Counts of equal numbers are the same.
-abbrev five_counts : ℕ → ℕ → ℕ → ℕ → ℕ → Counts
+abbrev five_counts : ℕ → ℕ → ℕ → ℕ → ℕ → NationCounts
 five_counts a b c d e = record { nations = a; entries = b; slots = c; countries = d; changes = e }
 
 counts_same : (a b c d e a' b' c' d' e' : ℕ) → a ≡ a' → b ≡ b' → c ≡ c' → d ≡ d' → e ≡ e' → five_counts a b c d e ≡ five_counts a' b' c' d' e'
@@ -129,7 +130,7 @@ module _ (xs : List ℕ) (accepted : refusal xs ≡ 0) (z : TableSizes) (countri
         → (r : Listed) (rows₁ entries₁ holders₁ held₁ changes₁ : List ℕ)
         → PlacedRows (nations_of c) r before.nations rows₁ before.entries entries₁
         → RestWritten xs z slots before.holders holders₁ before.held held₁ before.changes changes₁
-        → (counts : NationCounts) → counts ≡ counts_from z r → record { answer = gives (counts_in counts); memory = nation_cells rows₁ entries₁ holders₁ held₁ changes₁ }
+        → (counts : code_counts.NationCounts) → counts ≡ counts_from z r → record { answer = gives (counts_in counts); memory = nation_cells rows₁ entries₁ holders₁ held₁ changes₁ }
         ≡ call_nation_events xs before
     all-fit f slots e r rows₁ entries₁ holders₁ held₁ changes₁ p w counts k =
         nations-rows xs before _ _ accepted
@@ -145,14 +146,14 @@ module _ (xs : List ℕ) (accepted : refusal xs ≡ 0) (z : TableSizes) (countri
 
 -- ## All gathered
 
-module _ (xs : List ℕ) (z : TableSizes) (provinces : Provinces) (words initials runs keys targets slots started : List ℕ) (turns firsts : List Turn)
-    (q : Gathered xs z provinces words initials runs keys targets slots started turns firsts)
+module _ (xs : List ℕ) (z : TableSizes) (provinces : Provinces) (tags : List CountryTag) (initials runs keys targets slots started : List ℕ) (turns firsts : List LossGain)
+    (q : Gathered xs z provinces tags initials runs keys targets slots started turns firsts)
     {k p m n : ℕ} (room : TableRoom (length xs) k p m n) where
   abbrev accepted : refusal xs ≡ 0
   accepted = q.ready.accepted
 
   abbrev front : Cells
-  front = fronts_of z words initials runs targets firsts started keys turns
+  front = fronts_of z tags initials runs targets firsts started keys turns
 
   abbrev nations : List Nation
   nations = nations_at front (take z.countries initials)
@@ -176,7 +177,7 @@ module _ (xs : List ℕ) (z : TableSizes) (provinces : Provinces) (words initial
 
   -- So they can be read.
   abbrev readable : Bool
-  readable = fronts_readable z words initials runs firsts started keys turns
+  readable = fronts_readable z tags initials runs firsts started keys turns
 
   fronts-readable : readable ≡ true
   fronts-readable =
@@ -230,7 +231,7 @@ module _ (xs : List ℕ) (z : TableSizes) (provinces : Provinces) (words initial
           }
 
       -- Whatever the placing tells.
-      module _ {r : code.Result Listed Refusal} (placed : fronts_placed z words initials runs targets firsts started keys turns r rows₀ rows₁ entries₀ entries₁) where
+      module _ {r : code.Result Listed Refusal} (placed : fronts_placed z tags initials runs targets firsts started keys turns r rows₀ rows₁ entries₀ entries₁) where
         pub none-placed : {e : Refusal} → r ≡ Err e → RefusedBy xs holders held changes (refusal_number e) rows₀ rows₁ entries₀ entries₁
         none-placed {e} w = placed-refused e (subst (λ (x : code.Result Listed Refusal). placed_told readable nations x rows₀ rows₁ entries₀ entries₁) w placed)
 
@@ -275,7 +276,7 @@ module _ (xs : List ℕ) (rows₀ entries₀ holders₀ held₀ changes₀ : Lis
 
   -- What is written is the answer.
   pub all-placed : (holders₁ held₁ changes₁ : List ℕ) → RestWritten xs z slots holders₀ holders₁ held₀ held₁ changes₀ changes₁
-      → (counts : NationCounts) → counts ≡ counts_from z r → record { answer = gives (counts_in counts); memory = nation_cells rows₁ entries₁ holders₁ held₁ changes₁ }
+      → (counts : code_counts.NationCounts) → counts ≡ counts_from z r → record { answer = gives (counts_in counts); memory = nation_cells rows₁ entries₁ holders₁ held₁ changes₁ }
       ≡ call_nation_events xs (nation_cells rows₀ entries₀ holders₀ held₀ changes₀)
   all-placed holders₁ held₁ changes₁ w counts k =
       all-fit xs q.ready.ready.accepted z q.countries q.counted q.slotted (nation_cells rows₀ entries₀ holders₀ held₀ changes₀)

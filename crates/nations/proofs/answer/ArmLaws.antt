@@ -4,6 +4,7 @@ use Rattle.std.specs.Prelude.{Ok, Err, IsErr, IsErrAnd}
 use mathlib.Core.Path.{◌≡◌, refl, subst}
 use mathlib.Core.List.{List}
 use Prim.Native.Nat.{ℕ}
+use Rattle.format.specs.declared.tag.CountryTag.{CountryTag}
 use Rattle.format.specs.declared.refused.Refusal.{Refusal}
 use Rattle.format.specs.Refused.{refusal_number}
 use Rattle.format.specs.Refusal.{refusal}
@@ -12,16 +13,16 @@ use Rattle.rules.specs.Outcomes.{NationCells}
 use Rattle.chronicle_rows.specs.declared.counts.NationCounts.{NationCounts}
 use Rattle.chronicle_rows.specs.Cases.{counts_in}
 use Rattle.nation_tables.specs.declared.gathering.TablesGathered.{TablesGathered}
-use Rattle.nation_tables.specs.declared.layout.Turn.{Turn}
+use Rattle.nation_tables.specs.declared.layout.LossGain.{LossGain}
 use Rattle.nation_tables.specs.Gathering.{Gathered, RightlyGathered}
 use Rattle.nations.specs.declared.telling.NationsTold.{NationsTold}
 use Rattle.nations.specs.NationSteps.{NationsPlaced, RefusedBy, nations_told}
 
 -- ## What callers know in each arm
 
-module _ {xs words initials runs keys targets slots started : List ℕ} {turns firsts : List Turn} {r : code.Result TablesGathered Refusal}
-    (told : RightlyGathered xs r words initials runs keys targets slots started turns firsts) where
-  pub tables-told : {t : TablesGathered} → r ≡ Ok t → Gathered xs t.sizes t.provinces words initials runs keys targets slots started turns firsts
+module _ {xs : List ℕ} {tags : List CountryTag} {initials runs keys targets slots started : List ℕ} {turns firsts : List LossGain} {r : code.Result TablesGathered Refusal}
+    (told : RightlyGathered xs r tags initials runs keys targets slots started turns firsts) where
+  pub tables-told : {t : TablesGathered} → r ≡ Ok t → Gathered xs t.sizes t.provinces tags initials runs keys targets slots started turns firsts
   tables-told e = rw e at told.tables
 
   pub tables-refused : {e : Refusal} → r ≡ Err e → refusal_number e ≡ refusal xs

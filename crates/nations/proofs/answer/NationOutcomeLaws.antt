@@ -18,17 +18,17 @@ use Rattle.nation_tables.specs.Layout.{most_countries, most_slots}
 use Rattle.rules.specs.Lent.{refused, gives, room_number}
 use Rattle.rules.specs.Nations.{matches, slots_of, moves_of, last_holder, holders_of, held_of}
 use Rattle.rules.specs.NationRows.{holder_word, nation_width, entry_width}
-use Rattle.rules.specs.Outcomes.{Answers, answers_of, NationCells, cells_of, all_fit, all_written, Counts, counts_of, call_nation_events}
+use Rattle.rules.specs.Outcomes.{Answers, answers_of, NationCells, cells_of, all_fit, all_written, NationCounts, counts_of, call_nation_events}
 use Rattle.rules.proofs.RowLaws.{length-nation_words, length-entry_words, length-change_rows}
 use Rattle.rules.proofs.LentLaws.{outcome-refused, outcome-gives, answered-given}
 use Rattle.change_keys.proofs.ChangeLaws.{changes-few}
 use Rattle.nation_tables.proofs.tables.KeyedLaws.{countries-few, provinces-few}
-use Rattle.nations.proofs.answer.NationSizeLaws.{nations-few, entries-few}
+use Rattle.nations.proofs.answer.NationSizeLaws.{most_entries, nations-few, entries-few}
 
 -- ## Room
 
 -- The counts tell whether the cells fit.
-pub room_fits : (a : Answers) (r : Counts) (before : NationCells) → r ≡ counts_of a
+pub room_fits : (a : Answers) (r : NationCounts) (before : NationCells) → r ≡ counts_of a
     → (leb (nation_width * r.nations) (length before.nations)
     && leb (entry_width * r.entries) (length before.entries)
     && leb r.slots (length before.holders)
@@ -41,11 +41,11 @@ room_fits a r before e =
     (and
     (and
     (and
-    (same _ (ap (λ (x : Counts). nation_width * x.nations) e ∙ sym (length-nation_words a.nations)))
-    (same _ (ap (λ (x : Counts). entry_width * x.entries) e ∙ sym (length-entry_words a.nations))))
-    (same _ (ap (λ (x : Counts). x.slots) e ∙ sym (length-map a.holders holder_word))))
-    (same _ (ap (λ (x : Counts). x.countries) e)))
-    (same _ (ap (λ (x : Counts). change_width * x.changes) e ∙ sym (length-change_rows a.changes)))
+    (same _ (ap (λ (x : NationCounts). nation_width * x.nations) e ∙ sym (length-nation_words a.nations)))
+    (same _ (ap (λ (x : NationCounts). entry_width * x.entries) e ∙ sym (length-entry_words a.nations))))
+    (same _ (ap (λ (x : NationCounts). x.slots) e ∙ sym (length-map a.holders holder_word))))
+    (same _ (ap (λ (x : NationCounts). x.countries) e)))
+    (same _ (ap (λ (x : NationCounts). change_width * x.changes) e ∙ sym (length-change_rows a.changes)))
   where
     same : {m n : ℕ} (k : ℕ) → m ≡ n → leb m k ≡ leb n k
     same k h = ap (λ (j : ℕ). leb j k) h
@@ -75,7 +75,7 @@ module _ (xs : List ℕ) (before : NationCells) where
       let first : number ≡ 10 = first-pass (refusal xs) _ z ∙ first_one _ ∙ ap room_number h in
       sym (rw first (outcome-refused 10 (counts_of answers) (all_written (cells_of answers) before) before (omega arith)))
 
-  pub nations-rows : (counts : Counts) (after : NationCells) → refusal xs ≡ 0 → all_fit (cells_of (answers_of (campaign_of xs))) before ≡ true
+  pub nations-rows : (counts : NationCounts) (after : NationCells) → refusal xs ≡ 0 → all_fit (cells_of (answers_of (campaign_of xs))) before ≡ true
       → counts ≡ counts_of (answers_of (campaign_of xs)) → after ≡ all_written (cells_of (answers_of (campaign_of xs))) before
       → record { answer = gives counts; memory = after } ≡ call_nation_events xs before
   unfolding call_nation_events number
@@ -86,9 +86,9 @@ module _ (xs : List ℕ) (before : NationCells) where
 -- ## Sizes
 
 -- What is counted is small.
-pub record SmallCounts (r : Counts) : Type 0 where
+pub record SmallCounts (r : NationCounts) : Type 0 where
   pub nations : r.nations ≤ most_countries
-  pub entries : r.entries ≤ 280000000
+  pub entries : r.entries ≤ most_entries
   pub slots : r.slots ≤ most_slots
   pub countries : r.countries ≤ most_countries
   pub changes : r.changes ≤ most_changes
@@ -115,7 +115,7 @@ counts-small xs z =
     }
 
 -- So are the counts of an answer.
-pub nations-given : (xs : List ℕ) (before : NationCells) (counts : Counts) → gives counts ≡ (call_nation_events xs before).answer → SmallCounts counts
+pub nations-given : (xs : List ℕ) (before : NationCells) (counts : NationCounts) → gives counts ≡ (call_nation_events xs before).answer → SmallCounts counts
 unfolding call_nation_events
 nations-given xs before counts e =
     let g = answered-given (first_of (refusal xs ∷ room_number (all_fit (cells_of (answers_of (campaign_of xs))) before) ∷ [])) (counts_of (answers_of (campaign_of xs))) counts e in

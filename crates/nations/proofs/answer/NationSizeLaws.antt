@@ -65,6 +65,13 @@ all-entries-short c k =
 
 -- ## All of them
 
+-- A country has at most so many entries: one for each of 20,000 switches, and two for each of 60,000 changes. And all 2,000 have so many.
+abbrev most_own_entries : ℕ
+most_own_entries = 140000
+
+abbrev pub most_entries : ℕ
+most_entries = 280000000
+
 own-few : (row : ℕ) (ks : List Country) (bound : ℕ) → length (switch_keys_from row ks) ≤ bound → All (λ k. length k.switches ≤ bound) ks
 unfolding switch_keys_from
 own-few row [] bound h = tt
@@ -94,7 +101,7 @@ module _ (xs : List ℕ) (z : refusal xs ≡ 0) where
   nations-few = omega (arith, length-map (listed_countries c) (nation_of c), listed-few)
 
   abbrev FewEntries : Country → Type 0
-  FewEntries k = length (nation_of c k).entries ≤ 140000
+  FewEntries k = length (nation_of c k).entries ≤ most_own_entries
 
   listed-short : All FewEntries (listed_countries c)
   unfolding listed_countries
@@ -104,13 +111,12 @@ module _ (xs : List ℕ) (z : refusal xs ≡ 0) where
       all_map {Q = FewEntries} (λ k h. omega (arith, all-entries-short c k, changes-few xs z)) c.countries (own-few 0 c.countries most_switches (switches-few xs z)) in
       all-sort (λ (a b : Country). leb (initial_of a).0 (initial_of b).0) FewEntries (keep listed c.countries) (all_keep FewEntries listed c.countries all)
 
-  -- At most 20,000 switches and twice 60,000 others each.
-  pub entries-few : length (join_of (λ n. n.entries) (nations_of c)) ≤ 280000000
+  pub entries-few : length (join_of (λ n. n.entries) (nations_of c)) ≤ most_entries
   unfolding nations_of
   entries-few =
       let same : join_of (λ n. n.entries) (map (nation_of c) (listed_countries c)) ≡ join_of (λ k. (nation_of c k).entries) (listed_countries c) =
       join-map (λ n. n.entries) (nation_of c) (listed_countries c) in
-      let b = join-short (λ k. (nation_of c k).entries) 140000 (listed_countries c) listed-short in
+      let b = join-short (λ k. (nation_of c k).entries) most_own_entries (listed_countries c) listed-short in
       let l = listed-few in
       omega (arith, ap length same)
     where

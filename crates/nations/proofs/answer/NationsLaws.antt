@@ -10,7 +10,7 @@ use lib.Dec.{leb, ltb}
 use lib.ListN.{length, get_or, get_elem?, length-map}
 use Rattle.lists.specs.Lists.{All, count_of, join_of, last_or}
 use Rattle.lists.proofs.BoolLaws.{cases}
-use Rattle.lists.proofs.ElementLaws.{at-within, all-inside, cell_at}
+use Rattle.lists.proofs.ElementLaws.{at-within, all-inside, cell-at}
 use Rattle.lists.proofs.ListLaws.{all_append, all_map, all-images, all-at, join-none, count-le, join-same}
 use Rattle.sorting.specs.Sort.{sort_by}
 use Rattle.sorting.specs.Steps.{into, merge_by}
@@ -30,6 +30,7 @@ use Rattle.nation_tables.specs.Switches.{runs_from, run_keys, target_words, swit
 use Rattle.nation_listing.specs.Entries.{latest_tag}
 use Rattle.nation_tables.specs.Turning.{by_date, first_at, row_tag, row_turns_of, Lived}
 use Rattle.nation_listing.specs.Walks.{lived_left, first_lives}
+use Rattle.nation_tables.specs.Holders.{no_tag}
 use Rattle.nation_tables.specs.Gathering.{Cells, CampaignCells}
 use Rattle.nation_listing.specs.Tables.{KeyInside, Readable}
 use Rattle.nation_listing.specs.Listing.{run_of, lived_of, row_entries, is_row, nation_of_key, key_nations, nations_at}
@@ -98,9 +99,9 @@ pub runs-told : (c : Campaign) (w : Cells) → CampaignCells c w
     → RunEntries c w
 runs-told c w q h row k there = ap₂ (λ (ts rs : List ℕ). map (switch_in ts) (run_of rs row)) q.targets q.runs ∙ h row k there
 
--- A nation whose stored tag is a word.
-abbrev tag_nation : CountryTag → CountryTag → ℕ → List Entry → Nation
-tag_nation initial latest stored entries = record { initial = initial; latest = latest; stored = record { 0 = stored }; entries = entries }
+-- A nation of three tags and its entries.
+abbrev tag_nation : CountryTag → CountryTag → CountryTag → List Entry → Nation
+tag_nation initial latest stored entries = record { initial = initial; latest = latest; stored = stored; entries = entries }
 
 module _ (c : Campaign) (w : Cells) (q : CampaignCells c w) (run : RunEntries c w) (key : ℕ) (here : InitialKey c.countries key) where
   abbrev row : ℕ
@@ -117,12 +118,12 @@ module _ (c : Campaign) (w : Cells) (q : CampaignCells c w) (run : RunEntries c 
 
   -- The row's cells tell the country's tag, its start slots and its first gain.
   tag-here : get_or (words_of_tags c.countries) row 0 ≡ k.tag.0
-  tag-here = cell_at (λ x. x.tag.0) c.countries row k 0 here.there
+  tag-here = cell-at (λ x. x.tag.0) c.countries row k 0 here.there
 
   started-here : get_or w.started row 0 ≡ count_of (matches (row_tag c row)) (start_holders c)
   started-here =
       ap (λ (l : List ℕ). get_or l row 0) q.started
-      ∙ cell_at (λ x. count_of (matches x.tag) (start_holders c)) c.countries row k 0 here.there
+      ∙ cell-at (λ x. count_of (matches x.tag) (start_holders c)) c.countries row k 0 here.there
       ∙ ap (λ (t : ℕ). count_of (matches (record { 0 = t })) (start_holders c)) (sym tag-here)
 
   gain-here : get_or w.gains row 0 ≡ first_at row 0 (map (λ x. x.new) (row_turns_of c))
@@ -166,14 +167,14 @@ module _ (c : Campaign) (w : Cells) (q : CampaignCells c w) (run : RunEntries c 
       ap₂ (λ (i : CountryTag) (es : List Entry). last_or i (targets es)) initial-here (run row k here.there)
       ∙ ap (λ (ts : List CountryTag). last_or (initial_of k) ts) (sym (entry-targets c k))
 
-  stored_here : get_or w.tags row 0 ≡ k.tag.0
-  stored_here = ap (λ (l : List ℕ). get_or l row 0) q.tags ∙ tag-here
+  stored_here : get_or w.tags row no_tag ≡ k.tag
+  stored_here = ap (λ (l : List CountryTag). get_or l row no_tag) q.tags ∙ cell-at (λ x. x.tag) c.countries row k no_tag here.there
 
   -- So the key gives the country's nation, and gives it if the country is listed.
   nation-here : nation_of_key w key ≡ nation_of c k
   nation-here =
-      ap₂ (λ (i l : CountryTag). tag_nation i l (get_or w.tags row 0) (row_entries w row)) initial-here latest-here
-      ∙ ap₂ (λ (s : ℕ) (es : List Entry). tag_nation (initial_of k) (nation_of c k).latest s es) stored_here entries-here
+      ap₂ (λ (i l : CountryTag). tag_nation i l (get_or w.tags row no_tag) (row_entries w row)) initial-here latest-here
+      ∙ ap₂ (λ (s : CountryTag) (es : List Entry). tag_nation (initial_of k) (nation_of c k).latest s es) stored_here entries-here
 
   mapped-here : is_row (last_within (key / key_rows * key_rows) (key / key_rows * key_rows + key_rows) w.initials) row ≡ is_mapped c.countries k
   mapped-here =
@@ -223,7 +224,7 @@ cells-readable c w q =
     let ks : List Country = c.countries in
     let few : length w.keys ≤ no_change = omega (arith, q.few) in
     let count : Country → ℕ = λ k. count_of (matches k.tag) (start_holders c) in
-    let all-tags : length w.tags ≡ length ks = ap length q.tags ∙ length-map ks (λ k. k.tag.0) in
+    let all-tags : length w.tags ≡ length ks = ap length q.tags ∙ length-map ks (λ k. k.tag) in
     let all-started : length w.started ≡ length ks = ap length q.started ∙ length-map ks count in
     let all-initials : length w.initials ≡ length ks =
     ap length q.initials

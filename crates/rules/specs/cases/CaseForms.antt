@@ -1,6 +1,6 @@
--- How the computed cases are written. Nothing here, nor in RecordCases, LentCases, PlayerCases and PageCases, is a rule that a reader
--- must believe: these are questions, with the answers that a reader of 01 expects. proofs/CaseLaws shows that the rules give them.
-use Rattle.std.specs.Prelude.{◌≡◌, List, [], ◌∷◌, ◌++◌, map, ℕ, take, drop}
+-- How the computed cases are written. Nothing here, nor in the pages of cases beside it, is a rule that a reader must believe: these are
+-- questions, with the answers that a reader of 01 expects. proofs/CaseLaws shows that the rules give them.
+use Rattle.std.specs.Prelude.{◌≡◌, List, [], ◌∷◌, ◌++◌, ℕ, take, drop}
 use Prim.Native.String.{String}
 use Rattle.lists.specs.Lists.{join_of}
 use Rattle.rules.specs.Lent.{gives, refused, Outcome}
@@ -55,5 +55,5 @@ abbrev pub wrote : ℕ → List (List ℕ) → ℕ → Outcome ℕ (List ℕ)
 wrote count rs beyond = record { answer = gives count; memory = rows rs ++ sevens beyond }
 
 -- The call refused, and left so many cells as they were.
-abbrev pub kept : ℕ → ℕ → Outcome ℕ (List ℕ)
-kept number cells = record { answer = refused number; memory = sevens cells }
+abbrev pub unwritten : ℕ → ℕ → Outcome ℕ (List ℕ)
+unwritten number cells = record { answer = refused number; memory = sevens cells }

@@ -8,12 +8,12 @@ use Rattle.rules.specs.Resolver.{TagData}
 use Rattle.rules.specs.Outcomes.{call_resolve, call_initial, call_resolve_on, call_initial_on, call_war_participants, call_nation_ledger}
 use Rattle.rules.specs.cases.Packing.{tagged, word, DraftWarEvent, DraftLedger, war, point, ledger, packed}
 use Rattle.rules.specs.Table.{sevens}
-use Rattle.rules.specs.cases.CaseForms.{Case, case, spoiled, nation, turned, came, went, rows, wrote, kept}
+use Rattle.rules.specs.cases.CaseForms.{Case, case, spoiled, nation, turned, came, went, rows, wrote, unwritten}
 
 -- The words of a chronicle.
-record LentChronicle : Type 0 where
-  nations : List ℕ
-  entries : List ℕ
+pub record LentChronicle : Type 0 where
+  pub nations : List ℕ
+  pub entries : List ℕ
 
 -- A tag and whose it is.
 abbrev known : String → String → Answer (Option TagData)
@@ -22,7 +22,7 @@ known current stored = gives (some (record { current = tagged current; stored = 
 -- ## Resolver
 
 -- Nations 0 and 1 have one initial; 1 and 2 became GBR on one day. The entries of nation 0 stand from the last to the first.
-abbrev mixed : LentChronicle
+abbrev pub mixed : LentChronicle
 mixed =
     record {
       nations = rows (nation "ENG" "LA0" "ST0" 0 3 ∷ nation "ENG" "LA1" "ST1" 3 2 ∷ nation "SCO" "LA2" "ST2" 5 2 ∷ []);
@@ -67,7 +67,8 @@ resolve_cases =
     ∷ []
 
 -- Set to a day: nation 0's walk ends at once, though SCO is dated before that day; from 14500101 on it goes to its end. Nation 2 before,
--- and from, 14480101. Initial, with a switch up to the day, also of a tag that another nation has by then; without one; and of no nation.
+-- and from, 14480101. Initial, with a switch up to the day, also of a tag that another nation has by then; with two; without one; and of
+-- no nation.
 unfoldable pub day_resolve_cases : List (Case (Answer (Option TagData)))
 day_resolve_cases =
     case (resolved_on 14460101 (word "SCO") 14460101) (known "ENG" "ST0")
@@ -77,6 +78,7 @@ day_resolve_cases =
     ∷ case (resolved_on 14480101 (word "GBR") 14441231) (gives none)
     ∷ case (first_on 14480101 (word "ENG")) (known "GBR" "ST1")
     ∷ case (first_on 14500101 (word "SCO")) (known "GBR" "ST2")
+    ∷ case (call_initial_on (nation "ENG" "LA0" "ST0" 0 2) (turned 14460101 "SCO" ++ turned 14470101 "IRE") 14470101 (word "ENG")) (known "IRE" "ST0")
     ∷ case (first_on 14471231 (word "ENG")) (gives none)
     ∷ case (first_on 14480101 (word "DEN")) (gives none)
     ∷ []
@@ -97,7 +99,7 @@ asked_cases =
 -- ## Shape
 
 -- One nation and its one entry.
-abbrev told : List ℕ → List ℕ → LentChronicle
+abbrev pub told : List ℕ → List ℕ → LentChronicle
 told nations entries = record { nations = nations; entries = entries }
 
 abbrev sole_nation : List ℕ
@@ -107,7 +109,7 @@ abbrev sole_entry : List ℕ
 sole_entry = turned 14480601 "GBR"
 
 -- One thing wrong in each: a word over in either list; a word for each tag that is none; the date; the kind; the target of a switch and of
--- another kind; a first entry other than 0; an entry that no nation has.
+-- another kind; a first entry other than 0; an entry that no nation has; one that two have; one that is not there.
 abbrev misshapen : List LentChronicle
 misshapen =
     told (sole_nation ++ (7 ∷ [])) sole_entry
@@ -122,6 +124,8 @@ misshapen =
     ∷ told sole_nation (14480601 ∷ 2 ∷ word "GBR" ∷ [])
     ∷ told (nation "ENG" "GBR" "GBR" 1 1) sole_entry
     ∷ told sole_nation (sole_entry ++ sole_entry)
+    ∷ told (sole_nation ++ sole_nation) (sole_entry ++ sole_entry)
+    ∷ told (nation "ENG" "GBR" "GBR" 0 2) sole_entry
     ∷ []
 
 -- Nothing wrong: no rows at all; one nation; two with entries behind each other, one in between that has none.
@@ -191,16 +195,16 @@ unfoldable pub booking_cases : List (Case (Outcome ℕ (List ℕ)))
 booking_cases =
     case (call_war_participants wars fighters sole_entry (sevens 12)) (wrote 4 bookings 0)
     ∷ case (call_war_participants wars fighters sole_entry (sevens 14)) (wrote 4 bookings 2)
-    ∷ case (call_war_participants wars fighters sole_entry (sevens 11)) (kept 10 11)
-    ∷ case (call_war_participants wars (fighters ++ (7 ∷ [])) sole_entry (sevens 11)) (kept 11 11)
-    ∷ case (call_war_participants (spoiled wars) (fighters ++ (7 ∷ [])) sole_entry (sevens 11)) (kept 2 11)
+    ∷ case (call_war_participants wars fighters sole_entry (sevens 11)) (unwritten 10 11)
+    ∷ case (call_war_participants wars (fighters ++ (7 ∷ [])) sole_entry (sevens 11)) (unwritten 11 11)
+    ∷ case (call_war_participants (spoiled wars) (fighters ++ (7 ∷ [])) sole_entry (sevens 11)) (unwritten 2 11)
     ∷ []
 
 -- ## Ledger
 
 -- ENG's points before the first in or after 1444 are passed over, a later one of 1443 is not; 1449 ends the row's use, 1447 behind it
 -- is lost. ENG's second row is never read. A value may be any word.
-abbrev accounts : List ℕ
+abbrev pub accounts : List ℕ
 accounts =
     fought []
     (ledger "ENG" (point 1443 1 ∷ point 1444 6 ∷ point 1446 4294967295 ∷ point 1443 3 ∷ point 1449 4 ∷ point 1447 5 ∷ [])
@@ -210,7 +214,7 @@ accounts =
     ∷ [])
 
 -- Annexed, then a switch; Appeared, then Annexed; Annexed, then Appeared; a nation without a ledger row.
-abbrev owners : LentChronicle
+abbrev pub owners : LentChronicle
 owners =
     told
     (rows
@@ -222,7 +226,7 @@ owners =
     (rows (went 14470101 ∷ turned 14480101 "SCO" ∷ came 14450101 ∷ went 14460101 ∷ went 14450101 ∷ came 14470101 ∷ []))
 
 -- A row of the answer.
-abbrev given : String → ℕ → ℕ → List ℕ
+abbrev pub given : String → ℕ → ℕ → List ℕ
 given tag year value = word tag ∷ year ∷ value ∷ []
 
 -- From 1444 to 1447; from 1444 again, to 1448; SCO from 1448 to 1450.
@@ -250,11 +254,11 @@ switched_points =
     ∷ []
 
 -- From 1445 to 1446, and no more.
-abbrev gone_points : List (List ℕ)
+abbrev pub gone_points : List (List ℕ)
 gone_points = given "NOR" 1445 2 ∷ given "NOR" 1446 0 ∷ []
 
 -- From 1444 to 1445; from 1447 to 1450.
-abbrev back_points : List (List ℕ)
+abbrev pub back_points : List (List ℕ)
 back_points =
     given "NOR" 1444 1
     ∷ given "NOR" 1445 2
@@ -274,9 +278,9 @@ ledger_cases =
     ∷ case (ledger_call 1 7) (wrote 2 gone_points 1)
     ∷ case (ledger_call 2 18) (wrote 6 back_points 0)
     ∷ case (ledger_call 3 0) (wrote 0 [] 0)
-    ∷ case (ledger_call 1 5) (kept 10 5)
-    ∷ case (ledger_call 4 5) (kept 13 5)
-    ∷ case (call_nation_ledger accounts [] [] 0 (sevens 5)) (kept 13 5)
-    ∷ case (call_nation_ledger accounts (owners.nations ++ (7 ∷ [])) owners.entries 4 (sevens 5)) (kept 11 5)
-    ∷ case (call_nation_ledger (spoiled accounts) (owners.nations ++ (7 ∷ [])) owners.entries 4 (sevens 5)) (kept 2 5)
+    ∷ case (ledger_call 1 5) (unwritten 10 5)
+    ∷ case (ledger_call 4 5) (unwritten 13 5)
+    ∷ case (call_nation_ledger accounts [] [] 0 (sevens 5)) (unwritten 13 5)
+    ∷ case (call_nation_ledger accounts (owners.nations ++ (7 ∷ [])) owners.entries 4 (sevens 5)) (unwritten 11 5)
+    ∷ case (call_nation_ledger (spoiled accounts) (owners.nations ++ (7 ∷ [])) owners.entries 4 (sevens 5)) (unwritten 2 5)
     ∷ []

@@ -54,7 +54,7 @@ pub record DraftLedger : Type 0 where
   pub points : List DraftPoint
 
 -- A record.
-pub record Draft : Type 0 where
+pub record DraftRecord : Type 0 where
   pub flags : ℕ
   pub start : ℕ
   pub current : ℕ
@@ -127,7 +127,7 @@ abbrev pub string_bytes : String → List ℕ
 string_bytes s = length (ascii s) ∷ ascii s
 
 -- The head: `ATL`, version 1, flags, the two dates, and how many rows each section has.
-abbrev pub head_bytes : Draft → List ℕ
+abbrev pub head_bytes : DraftRecord → List ℕ
 head_bytes d =
     ascii "ATL" ++ two 1 ++ (d.flags ∷ four d.start ++ four d.current)
     ++ two (length d.countries)
@@ -142,7 +142,7 @@ head_bytes d =
     ++ four (sum_of (λ l. length l.points) d.ledgers)
 
 -- The record's bytes: the head, then the sections.
-abbrev pub packed : Draft → List ℕ
+abbrev pub packed : DraftRecord → List ℕ
 packed d =
     head_bytes d
     ++ join_of country_bytes d.countries

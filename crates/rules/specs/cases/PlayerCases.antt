@@ -7,7 +7,7 @@ use Rattle.rules.specs.Lent.{Answer, gives, refused, Outcome}
 use Rattle.rules.specs.PlayerOutcomes.{call_players, HistoryCells, HistoryCounts, call_player_histories, call_starting_country}
 use Rattle.rules.specs.cases.Packing.{tagged, word, DraftCountry, played, packed}
 use Rattle.rules.specs.Table.{sevens}
-use Rattle.rules.specs.cases.CaseForms.{Case, case, spoiled, nation, turned, came, went, rows, wrote, kept}
+use Rattle.rules.specs.cases.CaseForms.{Case, case, spoiled, nation, turned, came, went, rows, wrote, unwritten}
 
 -- A record of countries and strings, with flags: 1 ironman, 2 multiplayer.
 abbrev named : ℕ → List DraftCountry → List String → List ℕ
@@ -36,8 +36,8 @@ player_cases =
     case (call_players (named 1 [] pairs) (sevens 5)) (wrote 2 ((0 ∷ word "AAA" ∷ []) ∷ (8 ∷ word "AAA" ∷ []) ∷ []) 1)
     ∷ case (call_players (named 2 [] pairs) (sevens 6))
     (wrote 3 ((0 ∷ word "AAA" ∷ []) ∷ (2 ∷ word "BBB" ∷ []) ∷ (8 ∷ word "AAA" ∷ []) ∷ []) 0)
-    ∷ case (call_players (named 2 [] pairs) (sevens 5)) (kept 10 5)
-    ∷ case (call_players (spoiled (named 2 [] pairs)) (sevens 5)) (kept 2 5)
+    ∷ case (call_players (named 2 [] pairs) (sevens 5)) (unwritten 10 5)
+    ∷ case (call_players (spoiled (named 2 [] pairs)) (sevens 5)) (unwritten 2 5)
     ∷ []
 
 -- ## Histories
@@ -99,12 +99,17 @@ unreleased latest human =
     (history "IN0" latest "AAA" 2 human 0 1 ∷ history "IN1" "LA1" "LL1" 3 0 1 0 ∷ history "IN2" "LA2" "LL2" 4 0 1 0 ∷ [])
     (2 ∷ []) 3 1 0
 
--- AAA takes the initial of LL2, which is gone. Then each condition fails by itself: ironman, human, switched, cities above 0 (0 and -1),
+-- AAA takes the initial of LL2, which is gone.
+abbrev released_told : Outcome HistoryCounts HistoryCells
+released_told =
+    told (history "IN2" "AAA" "AAA" 2 1 0 1 ∷ history "IN1" "LA1" "LL1" 3 0 1 0 ∷ []) (2 ∷ []) 2 1 1
+
+-- Released with three cities, and with one. Then each condition fails by itself: ironman, human, switched, cities above 0 (0 and -1),
 -- stored and latest the same, one player. Last, none is left over to take from.
 unfoldable pub release_cases : List (Case (Outcome HistoryCounts HistoryCells))
 release_cases =
-    case (asked (released 1 7 3 ann) (lived "AAA") 15 2)
-    (told (history "IN2" "AAA" "AAA" 2 1 0 1 ∷ history "IN1" "LA1" "LL1" 3 0 1 0 ∷ []) (2 ∷ []) 2 1 1)
+    case (asked (released 1 7 3 ann) (lived "AAA") 15 2) released_told
+    ∷ case (asked (released 1 7 1 ann) (lived "AAA") 15 2) released_told
     ∷ case (asked (released 0 7 3 ann) (lived "AAA") 21 1) (unreleased "AAA" 1)
     ∷ case (asked (released 1 6 3 ann) (lived "AAA") 21 1) (unreleased "AAA" 0)
     ∷ case (asked (released 1 3 3 ann) (lived "AAA") 21 1) (unreleased "AAA" 1)
@@ -140,6 +145,43 @@ history_cases =
     ∷ case (asked several (lived "AAA") 21 2) (kept_room 10 21 2)
     ∷ case (asked several (lived "AAA" ++ (7 ∷ [])) 20 2) (kept_room 11 20 2)
     ∷ case (asked (spoiled several) (lived "AAA" ++ (7 ∷ [])) 20 2) (kept_room 2 20 2)
+    ∷ []
+
+-- Nobody's: ironman, and AAA fit to be released but for a player.
+abbrev nobodies : List ℕ
+nobodies = named 1 (played "LL1" 2 0 ∷ played "AAA" 7 3 ∷ played "LL2" 2 0 ∷ []) []
+
+abbrev nobodies_told : Outcome HistoryCounts HistoryCells
+nobodies_told =
+    told
+    (history "IN1" "LA1" "LL1" 3 0 0 0 ∷ history "IN0" "AAA" "AAA" 2 1 0 0 ∷ history "IN2" "LA2" "LL2" 4 0 0 0 ∷ [])
+    [] 3 0 2
+
+-- Four with players, and two without between them.
+abbrev many : List ℕ
+many =
+    named 1
+    (played "LL1" 2 0 ∷ played "BAR" 2 0 ∷ played "BAS" 2 0 ∷ played "LL2" 2 0 ∷ played "BAT" 2 0 ∷ played "AAA" 7 3 ∷ [])
+    ("Ann" ∷ "AAA" ∷ "Bob" ∷ "BAS" ∷ "Cid" ∷ "BAR" ∷ "Dan" ∷ "BAT" ∷ [])
+
+abbrev many_told : Outcome HistoryCounts HistoryCells
+many_told =
+    told
+    (history "BAR" "BAR" "BAR" 0 0 0 1
+    ∷ history "BAS" "BAS" "BAS" 0 0 1 1
+    ∷ history "BAT" "BAT" "BAT" 0 0 2 1
+    ∷ history "IN0" "AAA" "AAA" 2 1 3 1
+    ∷ history "IN1" "LA1" "LL1" 3 0 4 0
+    ∷ history "IN2" "LA2" "LL2" 4 0 4 0
+    ∷ [])
+    (4 ∷ 2 ∷ 6 ∷ 0 ∷ []) 6 4 0
+
+-- None with players, and none at all; more than two with players.
+unfoldable pub order_cases : List (Case (Outcome HistoryCounts HistoryCells))
+order_cases =
+    case (asked nobodies (lived "AAA") 23 2) nobodies_told
+    ∷ case (asked (named 1 (played "AAA" 5 3 ∷ []) ann) (lived "AAA") 1 1) (told [] [] 0 0 1)
+    ∷ case (asked many (lived "AAA") 42 4) many_told
     ∷ []
 
 -- ## The starting country

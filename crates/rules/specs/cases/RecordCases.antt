@@ -12,11 +12,11 @@ use Rattle.rules.specs.Changes.{DateRun}
 use Rattle.rules.specs.NationRows.{nations_in}
 use Rattle.rules.specs.Holding.{holder_on, holds_on, wears}
 use Rattle.rules.specs.Demand.{counted, is_named}
-use Rattle.rules.specs.Outcomes.{call_province_owners, call_events_on, NationCells, Counts, call_nation_events}
+use Rattle.rules.specs.Outcomes.{call_province_owners, call_events_on, NationCells, NationCounts, call_nation_events}
 use Rattle.rules.specs.cases.Packing.{tagged, word, DraftCountry, DraftProvince, on, country, province, packed}
 use Rattle.rules.specs.cases.Worked.{dated, worked}
 use Rattle.rules.specs.Table.{sevens}
-use Rattle.rules.specs.cases.CaseForms.{Case, case, spoiled, change, nation, turned, came, went, rows, wrote, kept}
+use Rattle.rules.specs.cases.CaseForms.{Case, case, spoiled, change, nation, turned, came, went, rows, wrote, unwritten}
 
 -- A record of countries and provinces, from 14440101 to 14500101.
 abbrev landed : List DraftCountry → List DraftProvince → List ℕ
@@ -56,8 +56,8 @@ unfoldable pub change_cases : List (Case (Outcome ℕ (List ℕ)))
 change_cases =
     case (call_province_owners tangled (sevens 17)) (wrote 4 tangled_changes 1)
     ∷ case (call_province_owners tangled (sevens 16)) (wrote 4 tangled_changes 0)
-    ∷ case (call_province_owners tangled (sevens 15)) (kept 10 15)
-    ∷ case (call_province_owners (spoiled tangled) (sevens 15)) (kept 2 15)
+    ∷ case (call_province_owners tangled (sevens 15)) (unwritten 10 15)
+    ∷ case (call_province_owners (spoiled tangled) (sevens 15)) (unwritten 2 15)
     ∷ []
 
 -- Before all changes, on a day with one and on a day with three, between, and after all; a bad date; the record's number before that.
@@ -74,7 +74,7 @@ events_on_cases =
 
 -- ## Nations
 
--- GBR became IRE first and SCO next by its rows, though the dates say otherwise. FRA and NOR have one initial, by a previous tag; SWE's
+-- GBR became IRE first and SCO next by its rows, though the dates say otherwise. FRA and NOR have one initial, their first previous tag; SWE's
 -- is `---`, which slot 0 starts as; POL never holds anything. DEN gains on the start day.
 abbrev pub realms : List ℕ
 realms =
@@ -82,7 +82,7 @@ realms =
     (country "GBR" ("AAA" ∷ "BBB" ∷ "SCO" ∷ []) (on 14490601 "TYR" ∷ on 14460101 "IRE" ∷ [])
     ∷ country "FRA" ("VAL" ∷ []) []
     ∷ country "ENG" [] []
-    ∷ country "NOR" ("VAL" ∷ []) []
+    ∷ country "NOR" ("VAL" ∷ "POL" ∷ []) []
     ∷ country "SWE" ("AAA" ∷ []) (on 14470101 "---" ∷ [])
     ∷ country "DEN" [] []
     ∷ country "POL" [] []
@@ -166,7 +166,7 @@ lent_cells nations entries holders held changes =
       changes = sevens changes;
     }
 
-abbrev kept_cells : ℕ → NationCells → Outcome Counts NationCells
+abbrev kept_cells : ℕ → NationCells → Outcome NationCounts NationCells
 kept_cells number before = record { answer = refused number; memory = before }
 
 -- Three countries were XXX, the last of them from the day that the second was. A slot that goes to XXX on their day or before it settles
@@ -202,7 +202,7 @@ settled_cells =
 
 -- Just enough room; one cell to spare; each slice by itself one cell too short for the worked record; a record of version 2, before any
 -- question of room.
-unfoldable pub nation_cases : List (Case (Outcome Counts NationCells))
+unfoldable pub nation_cases : List (Case (Outcome NationCounts NationCells))
 nation_cases =
     case (call_nation_events realms (lent_cells 25 33 5 7 28))
     (record {
@@ -243,12 +243,17 @@ abbrev worn : Option Nation → ℕ → Option CountryTag
 worn none day = none
 worn (some n) day = some (wears n (dated day))
 
+-- Of a nation whose later entry stands first.
+abbrev turned_round : Option Nation
+turned_round = get_elem? (nations_in (nation "ENG" "GBR" "GBR" 0 2) (turned 14500101 "GBR" ++ turned 14460101 "SCO")) 0
+
 unfoldable pub worn_cases : List (Case (Option CountryTag))
 worn_cases =
     case (worn (get_elem? realm_list 3) 14451231) (some (tagged "TYR"))
     ∷ case (worn (get_elem? realm_list 3) 14460101) (some (tagged "SCO"))
     ∷ case (worn (get_elem? realm_list 3) 14490531) (some (tagged "SCO"))
     ∷ case (worn (get_elem? realm_list 3) 14490601) (some (tagged "IRE"))
+    ∷ case (worn turned_round 14470101) (some (tagged "SCO"))
     ∷ []
 
 -- Whether a tag is named by some nation other than number 3. A stored tag, as NOR, names none; first tags and targets do.

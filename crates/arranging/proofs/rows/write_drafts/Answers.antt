@@ -5,7 +5,7 @@ use Rattle.std.proofs.lemmas.Iterator.{YieldsList}
 use Rattle.std.proofs.lemmas.Iterator.Consumers.{YieldsList-at, YieldsList-end}
 use Rattle.lists.proofs.ListLaws.{map-append}
 use Rattle.arranging.specs.declared.drafts.Draft.{Draft}
-use Rattle.arranging.proofs.DraftLaws.{Placed, placed}
+use Rattle.arranging.proofs.DraftLaws.{Placed, draft-placed}
 use Rattle.arranging.proofs.ArrangeStepLaws.{wrote-none, next_named, next-wrote, wrote-all}
 use Rattle.arranging.proofs.rows.write_drafts.Given.{Over}
 use Rattle.arranging.proofs.rows.write_drafts.Goals.{In-Some}
@@ -15,7 +15,7 @@ use Rattle.arranging.proofs.rows.write_drafts.Goals as goal
 next : (g : Over) (c : In-Some g) → Placed c.requires.ready.0 (map (λ (d : Draft). d) c.loop-draft.yielded) c.in-Some.draft
 next g c =
     let road : YieldsList g.I.Iterator.next_gives (λ (d : Draft). d) c.args.drafts c.requires.ready.0 = record { runs = c.requires.ready.1 } in
-    placed (YieldsList-at c.into_iter-draft-iterator.ensures.into_iter_gives road) c.loop-draft.yielded _ c.loop-draft.yielded_by _ _ c.in-Some.draft c.in-Some.is c.next.ensures.steps
+    draft-placed (YieldsList-at c.into_iter-draft-iterator.ensures.into_iter_gives road) c.loop-draft.yielded _ c.loop-draft.yielded_by _ _ c.in-Some.draft c.in-Some.is c.next.ensures.steps
 
 pub loop-draft-init : goal.loop-draft-init
 loop-draft-init g c = (search rules, search rules, wrote-none _ _)

@@ -7,4 +7,4 @@ use Rattle.bookings.proofs.passes.pass_over.Given as goal
 
 abbrev pub invariant-loop-i : goal.invariant-loop-i
 invariant-loop-i g l =
-    Passing (g.P.Pass.row_of l.fn.pass) (joinings_left l.fn.joinings) l.fn.out (joinings_left (enumerate_source l.i-iterator)) (3 * enumerate_count l.i-iterator) l.out
+    Passing (g.P.Pass.pass_row l.fn.pass) (joinings_left l.fn.joinings) l.fn.out (joinings_left (enumerate_source l.i-iterator)) (3 * enumerate_count l.i-iterator) l.out

@@ -1,7 +1,7 @@
 -- Of the nations with the initial the last, by its number.
 use Rattle.std.proofs.Common.{rules, tests, map, ap, ◌∙◌}
 use Rattle.chronicle_rows.specs.Cases.{nation_told}
-use Rattle.chronicle_rows.proofs.RowAtLaws.{nations_told}
+use Rattle.chronicle_rows.proofs.RowAtLaws.{nation_rows_told}
 use Rattle.claims.proofs.ClaimLaws.{numbered-claim, option-mapped, initial-last}
 use Rattle.claims.proofs.best.best_initial.Goals as goal
 
@@ -10,5 +10,5 @@ returns c =
     let e = c.enumerate.ensures in
     let f = c.filter.ensures in
     let ran = c.last.ensures.ran in
-    initial-last _ c.args.tag c.args.nations.now (ap (map nation_told) c.of.ensures ∙ nations_told c.args.nations.now) e.source e.count f.source f.closure (λ x b q k. search (rules, tests)) ran.0 ran.1 c.last.result ran.2 c.map.result
+    initial-last _ c.args.tag c.args.nations.now (ap (map nation_told) c.of.ensures ∙ nation_rows_told c.args.nations.now) e.source e.count f.source f.closure (λ x b q k. search (rules, tests)) ran.0 ran.1 c.last.result ran.2 c.map.result
     (option-mapped numbered-claim _ (λ x y h. search (rules, tests)) c.last.result c.map.result c.map.ensures.cases)

@@ -1,6 +1,6 @@
 use Rattle.std.proofs.Common.{refl, sym, ap, map, ◌∙◌}
 use Rattle.chronicle_rows.specs.Cases.{nation_told}
-use Rattle.chronicle_rows.proofs.RowAtLaws.{nations_told}
+use Rattle.chronicle_rows.proofs.RowAtLaws.{nation_rows_told}
 use Rattle.draft_parts.specs.Marks.{marked_from}
 use Rattle.draft_parts.proofs.MarkLaws.{marks_left, tags-read, marks-end, marks_next}
 use Rattle.draft_parts.proofs.marks.mark_nations.Goals as goal
@@ -10,7 +10,7 @@ loop-number-init c = (
   refl,
   λ ts few sorted.
       rw (c.into_iter-number-iterator.ensures.into_iter_gives, c.enumerate-number-items.ensures.source, c.enumerate-number-items.ensures.count)
-      (ap (marks_left ts c.args.cells.now 0) (ap (map nation_told) c.of.ensures ∙ nations_told c.args.nations.now)),
+      (ap (marks_left ts c.args.cells.now 0) (ap (map nation_told) c.of.ensures ∙ nation_rows_told c.args.nations.now)),
 )
 
 pub loop-number-preserved : goal.loop-number-preserved

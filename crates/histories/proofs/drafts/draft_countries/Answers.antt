@@ -11,16 +11,16 @@ use Rattle.format.specs.Campaign.{Country}
 use Rattle.record.specs.Cursors.{countries_left}
 use Rattle.search.specs.Places.{tag_keys_from}
 use Rattle.search.proofs.PlaceLaws.{length-tag-keys}
-use Rattle.histories.specs.Tables.{tags_left}
+use Rattle.histories.specs.Tables.{country_tags_left}
 use Rattle.histories.proofs.DraftLaws.{keys-indexed, keys-again, scratch-blank, drafts-told}
 use Rattle.histories.proofs.drafts.draft_countries.Goals.{After-sort_keys}
 use Rattle.histories.proofs.drafts.draft_countries.Goals as goal
 
 -- The keys are as many as the countries, sorted, and few.
-counted : (g : _) (c : After-sort_keys g) → c.len-n.result ≡ length (tag_keys_from 0 (tags_left c.args.countries))
-counted g c = c.len-n.ensures ∙ sym (length-map (countries_left c.args.countries) (λ k. k.tag)) ∙ sym (length-tag-keys 0 (tags_left c.args.countries))
+counted : (g : _) (c : After-sort_keys g) → c.len-n.result ≡ length (tag_keys_from 0 (country_tags_left c.args.countries))
+counted g c = c.len-n.ensures ∙ sym (length-map (countries_left c.args.countries) (λ k. k.tag)) ∙ sym (length-tag-keys 0 (country_tags_left c.args.countries))
 
-indexed : (g : _) (c : After-sort_keys g) → take c.len-n.result (c.sort_keys.new.keys ++ drop c.len-n.result c.fill_countries.new.keys) ≡ sort_by leb (tag_keys_from 0 (tags_left c.args.countries))
+indexed : (g : _) (c : After-sort_keys g) → take c.len-n.result (c.sort_keys.new.keys ++ drop c.len-n.result c.fill_countries.new.keys) ≡ sort_by leb (tag_keys_from 0 (country_tags_left c.args.countries))
 indexed g c =
     keys-indexed _ _ _ _ _ _ c.fill_countries.ensures (counted g c) c.sort_keys.ensures.keys
 
@@ -28,7 +28,7 @@ pub invariant_of-tags : goal.invariant_of-tags
 invariant_of-tags g c =
     record { sorted = keys-again _ _ _ _ _ _ c.fill_countries.ensures (counted g (goal.at.invariant_of-tags g c).After-sort_keys) c.sort_keys.ensures.keys }
 
-many : (g : _) (c : After-sort_keys g) → length (tags_left c.args.countries) ≤ g.row.COUNTRIES
+many : (g : _) (c : After-sort_keys g) → length (country_tags_left c.args.countries) ≤ g.row.COUNTRIES
 many g c = omega (arith, length-map (countries_left c.args.countries) (λ k. k.tag), c.requires.few)
 
 pub fill_drafts-requires : goal.fill_drafts-requires
@@ -49,5 +49,5 @@ returns g c =
     let keys = take c.len-n.result c.fill_countries.new.keys in
     drafts-told g.row.COUNTRIES c.args.countries c.args.nations.now c.sort_keys.new.scratch _ _ _ _ _ c.fill_drafts.ensures (omega (arith, few, c.sort_keys.auto.scratch))
     (λ q. rw c.sort_keys.ensures.scratch (scratch-blank (length keys) g.row.COUNTRIES (omega (arith, length-take c.len-n.result c.fill_countries.new.keys, c.fill_countries.auto.keys)) q))
-    (c.mark_nations.ensures (tags_left c.args.countries) (omega (arith, few, c.requires.possible)) (indexed g at.After-sort_keys))
+    (c.mark_nations.ensures (country_tags_left c.args.countries) (omega (arith, few, c.requires.possible)) (indexed g at.After-sort_keys))
     c.requires.few (c.fill_drafts.auto.out ∙ c.requires.room)

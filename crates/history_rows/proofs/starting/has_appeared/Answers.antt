@@ -13,6 +13,6 @@ returns-in_default c = bare-history _ _ c.args.nation (search rules)
 
 pub returns : goal.returns
 returns c =
-    nation-walk _ _ _ c.in-Some.nation _ _ _ (search rules) c.nation_at-row.ensures c.entries.ensures
+    nation-walk _ _ _ c.in-Some.nation _ _ _ (search rules) c.nation_row_at-row.ensures c.entries.ensures
     (any_from_yields_List (λ e. is_appeared e.kind) c.any.new.self _ c.any.result c.any.ensures.ran
     (YieldsList-from_first entry_told counted_left _ refl) (λ x b q k. search (rules, tests)))

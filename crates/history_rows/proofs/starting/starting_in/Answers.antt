@@ -17,7 +17,7 @@ returns-in_default c =
     sole-told _ _ (none-left _
     (rows-kept _ (lacks c.args.chronicle) c.of.result _ (ap (map history_told) c.of.ensures ∙ histories_told _) c.filter-lacking.ensures.source c.filter-lacking.ensures.closure (λ x b q k. search (rules, tests)))
     c.next.new.self _ c.in_default.is c.next.ensures.steps)
-    _ c.history_count-sole.ensures _ c.history_at.ensures _ c.then_some.ensures
+    _ c.history_count-sole.ensures _ c.history_row_at.ensures _ c.then_some.ensures
 
 pub returns-in-None : goal.returns-in-None
 returns-in-None c =

@@ -1,10 +1,10 @@
-use mathlib.Core.Path.{◌≡◌, ap, ◌∙◌}
+use mathlib.Core.Path.{◌≡◌, refl, ap, ◌∙◌}
 use mathlib.Core.List.{◌∷◌}
 use Prim.Native.Nat.{◌<◌}
 use lib.ListN.{length-map, length}
 use Rattle.lists.proofs.FillLaws.{filling-new, filling-room, filling-put, filling-written}
 use Rattle.record.specs.Cursors.{country_of, countries_left}
-use Rattle.nation_tables.specs.Countries.{words_of_tags, initial_words}
+use Rattle.nation_tables.specs.Countries.{country_tags, initial_words}
 use Rattle.nation_tables.proofs.countries.country_words.Goals.{In-Some}
 use Rattle.nation_tables.proofs.countries.country_words.Goals as goal
 
@@ -13,7 +13,7 @@ told : (c : In-Some) → countries_left c.loop-row.row-iterator.iter ≡ country
 told c = c.in-Some.ensures.steps.0
 
 tags-room : (c : In-Some) → c.in-Some.row < length c.loop-row.tags
-tags-room c = rw c.in-Some.ensures.steps.1 (filling-room _ _ _ _ _ c.loop-row.invariant.0 _ _ (ap words_of_tags (told c)))
+tags-room c = rw c.in-Some.ensures.steps.1 (filling-room _ _ _ _ _ c.loop-row.invariant.0 _ _ (ap country_tags (told c)))
 
 initials-room : (c : In-Some) → c.in-Some.row < length c.loop-row.initials
 initials-room c = rw c.in-Some.ensures.steps.1 (filling-room _ _ _ _ _ c.loop-row.invariant.1 _ _ (ap initial_words (told c)))
@@ -34,14 +34,14 @@ loop-row-preserved c =
     let steps = c.in-Some.ensures.steps in
     let more = told (goal.at.loop-row-preserved c).In-Some in
     rw (steps.2, steps.1) (
-      filling-put _ _ _ _ _ c.loop-row.invariant.0 _ _ (ap words_of_tags more) _ c.from.ensures,
-      filling-put _ _ _ _ _ c.loop-row.invariant.1 _ _ (ap initial_words more) _ (c.from-in-loop-row.ensures ∙ ap (λ x. x.0) c.first_tag.ensures),
+      filling-put _ _ _ _ _ c.loop-row.invariant.0 _ _ (ap country_tags more) _ refl,
+      filling-put _ _ _ _ _ c.loop-row.invariant.1 _ _ (ap initial_words more) _ (c.from.ensures ∙ ap (λ x. x.0) c.first_tag.ensures),
     )
 
 pub returns : goal.returns
 returns c =
     let none = c.in-None.ensures.steps.0.0 in
     record {
-      tags = filling-written _ _ _ _ _ c.loop-row.invariant.0 (ap words_of_tags none);
+      tags = filling-written _ _ _ _ _ c.loop-row.invariant.0 (ap country_tags none);
       initials = filling-written _ _ _ _ _ c.loop-row.invariant.1 (ap initial_words none);
     }

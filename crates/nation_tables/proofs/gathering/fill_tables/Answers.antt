@@ -1,16 +1,15 @@
 -- Each table by the promise of the function that fills it.
-use mathlib.Core.Path.{◌≡◌, sym, ◌∙◌}
-use Prim.Native.Nat.{ℕ, ◌≤◌}
+use mathlib.Core.Path.{◌∙◌}
+use Prim.Native.Nat.{◌≤◌}
 use native.Mathlib.Omega.{arith}
-use lib.ListN.{length, replicate, length-replicate}
+use lib.ListN.{length}
 use lib.Seq.{length-take-le}
-use Rattle.nation_tables.specs.Layout.{most_countries}
 use Rattle.nation_tables.proofs.slots.TableStepLaws.{tables-filled}
 use Rattle.nation_tables.proofs.gathering.fill_tables.Goals.{After-country_words}
 use Rattle.nation_tables.proofs.gathering.fill_tables.Goals as goal
 
 pub country_words-requires : goal.country_words-requires
-country_words-requires c = (c.requires.words, c.requires.scratch)
+country_words-requires c = (c.requires.tags, c.requires.scratch)
 
 -- There are no more countries than initial words.
 inside : (c : After-country_words) → c.len-c.result ≤ length c.country_words.new.initials
@@ -29,8 +28,8 @@ row_keys-requires c =
 pub settling_keys-m-requires : goal.settling_keys-m-requires
 settling_keys-m-requires c = c.requires.switches
 
-pub shape_of-tag_words : goal.shape_of-tag_words
-shape_of-tag_words c = c.country_words.auto.tags
+pub shape_of-tags : goal.shape_of-tags
+shape_of-tags c = c.country_words.auto.tags
 
 pub shape_of-initial_words : goal.shape_of-initial_words
 shape_of-initial_words c = c.country_words.auto.initials

@@ -23,9 +23,9 @@ loop-n-init c =
       omega (arith, c.requires.changes_len),
     )
 
-pub holder_row-row-requires : goal.holder_row-row-requires
-holder_row-row-requires c =
-    (small-next (more (goal.at.holder_row-row-requires c).In-Some) c.loop-n.invariant.1).0.to
+pub settling_row-row-requires : goal.settling_row-row-requires
+settling_row-row-requires c =
+    (small-next (more (goal.at.settling_row-row-requires c).In-Some) c.loop-n.invariant.1).0.to
 
 pub bounds-cells-n : goal.bounds-cells-n
 bounds-cells-n c =
@@ -38,7 +38,7 @@ loop-n-preserved c =
     let steps = c.in-Some.ensures.steps in
     rw (steps.2, steps.1) (
       (λ ks q. filling-put _ _ _ _ _ (c.loop-n.invariant.0 ks q) _ _ (ap (map (holder_cell ks)) told) _
-          (c.cell_of.ensures ∙ cell-made _ _ _ q (change_of c.in-Some.x) small.0 c.unwrap_or.result (c.unwrap_or.ensures ∙ numbered c.holder_row-row.result ∙ ap row_number c.holder_row-row.ensures) _ refl)),
+          (c.cell_of.ensures ∙ cell-made _ _ _ q (change_of c.in-Some.x) small.0 c.unwrap_or.result (c.unwrap_or.ensures ∙ numbered c.settling_row-row.result ∙ ap row_number c.settling_row-row.ensures) _ refl)),
       small.1,
       omega (arith, ap length told, c.loop-n.invariant.2),
     )

@@ -13,7 +13,7 @@ use Rattle.nation_tables.proofs.holders.fill_holders.Given as goal
 
 abbrev pub invariant-loop-n : goal.invariant-loop-n
 invariant-loop-n l =
-    ((ks : List Country) → Settler ks l.tag_words l.settling.keys.now
+    ((ks : List Country) → Settler ks l.tags l.settling.keys.now
     → Filling (map (holder_cell ks) (changes_left l.fn.changes)) (map (holder_cell ks) (changes_left l.n-iterator.iter)) l.initial.cells l.n-iterator.count l.cells)
     × All Small (changes_left l.n-iterator.iter)
     × (l.n-iterator.count + length (changes_left l.n-iterator.iter) ≡ length l.initial.cells)

@@ -6,22 +6,23 @@ use Prim.Native.Nat.{ℕ, ◌+◌, ◌≤◌}
 use native.Mathlib.Omega.{arith}
 use lib.ListN.{length, drop, length-take, length-map}
 use lib.Seq.{length-take-le, take_at}
+use Rattle.format.specs.declared.tag.CountryTag.{CountryTag}
 use Rattle.record.specs.Cursors.{provinces_left}
 use Rattle.record.specs.declared.provinces.Provinces.{Provinces}
 use Rattle.change_keys.specs.ChangeSteps.{entered}
-use Rattle.nation_tables.specs.declared.layout.Turn.{Turn}
+use Rattle.nation_tables.specs.declared.layout.LossGain.{LossGain}
 use Rattle.nation_tables.specs.Holders.{StartAsked, StepsAsked, HoldingAsked}
 use Rattle.nation_tables.proofs.slots.HoldersLaws.{held}
 use Rattle.nation_tables.proofs.holders.hold_slots.Goals.{After-sort_steps-n}
 use Rattle.nation_tables.proofs.holders.hold_slots.Goals as goal
 
-module _ {xs : List ℕ} {provinces : Provinces} {ws is ss keys cells slots started : List ℕ} {turns : List Turn}
-    (asked : HoldingAsked xs provinces ws is ss keys cells slots started turns) where
+module _ {xs : List ℕ} {provinces : Provinces} {ts : List CountryTag} {is ss keys cells slots started : List ℕ} {turns : List LossGain}
+    (asked : HoldingAsked xs provinces ts is ss keys cells slots started turns) where
   -- What the start and the changes ask.
-  start-asked : StartAsked xs provinces ws is slots started
-  start-asked = record { ready = asked.ready; words = asked.tables.settler.words; initials = asked.tables.initials; slots = asked.room.slots; started = asked.room.started }
+  start-asked : StartAsked xs provinces ts is slots started
+  start-asked = record { ready = asked.ready; tags = asked.tables.settler.tags; initials = asked.tables.initials; slots = asked.room.slots; started = asked.room.started }
 
-  steps-asked : StepsAsked xs provinces ws ss keys cells
+  steps-asked : StepsAsked xs provinces ts ss keys cells
   steps-asked = record { ready = asked.ready; settler = asked.tables.settler; keys = asked.room.keys; cells = asked.room.cells }
 
 -- So many changes there are.
@@ -79,11 +80,11 @@ returns c = λ xs asked.
     let n : c.len-p.result ≡ q = c.len-p.ensures in
     let s : length c.start_slots.new.slots ≡ q + 1 =
     omega (arith, n, c.start_slots.auto.slots, asked.room.slots, ap length asked.ready.rows, length-take (q + 1) c.args.slots.now, length-take (c.len-p.result + 1) c.args.slots.now) in
-    let t : length c.start_slots.new.started ≡ length c.args.tag_words.now =
-    c.start_slots.auto.started ∙ asked.room.started ∙ sym (ap length asked.tables.settler.words ∙ length-map _ _) in
+    let t : length c.start_slots.new.started ≡ length c.args.tags.now =
+    c.start_slots.auto.started ∙ asked.room.started ∙ sym (ap length asked.tables.settler.tags ∙ length-map _ _) in
     let first = take_at c.start_slots.new.slots (drop (c.len-p.result + 1) c.args.slots.now) (c.len-p.result + 1) (omega (arith, s, n)) in
     let behind : List ℕ = drop (c.len-p.result + 1) (c.start_slots.new.slots ++ drop (c.len-p.result + 1) c.args.slots.now) in
     let a = take_at c.pass.new.slots behind (q + 1) (c.pass.auto.slots ∙ ap length first ∙ s) in
-    let b = take_at c.start_slots.new.started (drop (length c.args.tag_words.now) c.args.started.now) (length c.args.tag_words.now) t in
+    let b = take_at c.start_slots.new.started (drop (length c.args.tags.now) c.args.started.now) (length c.args.tags.now) t in
     rw (a, b)
     (held xs asked.ready.accepted _ _ _ _ _ (c.start_slots.ensures xs (rw n (start-asked asked))) (c.sort_steps-n.ensures xs (steps-asked asked)) _ _ _ (rw first at c.pass.ensures))

@@ -18,11 +18,11 @@ use Rattle.nation_tables.proofs.holders.sort_steps.Goals.{After-fill_keys-n}
 use Rattle.nation_tables.proofs.holders.sort_steps.Goals as goal
 
 -- The changes ahead are all changes of the record.
-all : (c : After-fill_keys-n) (xs : List ℕ) → StepsAsked xs c.args.provinces c.args.tag_words.now c.args.settling.keys.now c.args.keys.now c.args.cells.now → changes_left c.of-changes.result ≡ entered xs
+all : (c : After-fill_keys-n) (xs : List ℕ) → StepsAsked xs c.args.provinces c.args.tags.now c.args.settling.keys.now c.args.keys.now c.args.cells.now → changes_left c.of-changes.result ≡ entered xs
 all c xs asked = all-entered xs c.args.provinces c.of-changes.result asked.ready c.of-changes.ensures
 
 -- The keys of all changes are filled in.
-filled-all : (c : After-fill_keys-n) (xs : List ℕ) → StepsAsked xs c.args.provinces c.args.tag_words.now c.args.settling.keys.now c.args.keys.now c.args.cells.now → KeysFilled xs c.fill_keys-n.result c.fill_keys-n.new.keys
+filled-all : (c : After-fill_keys-n) (xs : List ℕ) → StepsAsked xs c.args.provinces c.args.tags.now c.args.settling.keys.now c.args.keys.now c.args.cells.now → KeysFilled xs c.fill_keys-n.result c.fill_keys-n.new.keys
 filled-all c xs asked = keys_filled xs _ (all c xs asked) _ _ _ asked.keys c.fill_keys-n.ensures
 
 pub slice_bounds-spread_sort-end : goal.slice_bounds-spread_sort-end

@@ -3,12 +3,13 @@ use mathlib.Core.List.{List, map}
 use Prim.Native.Nat.{ℕ, ◌%◌}
 use lib.ListN.{drop}
 use Rattle.lists.proofs.FillLaws.{Filling}
+use Rattle.format.specs.declared.tag.CountryTag.{CountryTag}
 use Rattle.nation_tables.specs.Layout.{cell_rows}
 use Rattle.nation_tables.specs.Holders.{row_cell}
 use Rattle.nation_tables.proofs.holders.start_cells.Given as goal
 
 -- What a row becomes.
-abbrev pub made : List ℕ → ℕ → ℕ
+abbrev pub made : List CountryTag → ℕ → ℕ
 made tags r = row_cell tags (r % cell_rows)
 
 abbrev pub invariant-loop-slot : goal.invariant-loop-slot

@@ -15,5 +15,5 @@ count_slots-requires c =
 
 pub returns : goal.returns
 returns c = λ xs asked.
-    began xs asked.ready.accepted _ _ _ asked.ready.rows asked.words asked.initials _ _ _ _ _ asked.slots asked.started
+    began xs asked.ready.accepted _ _ _ asked.ready.rows asked.tags asked.initials _ _ _ _ _ asked.slots asked.started
     c.start_rows.ensures c.start_cells.ensures c.count_slots.ensures

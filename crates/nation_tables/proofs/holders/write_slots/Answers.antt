@@ -1,6 +1,6 @@
 -- Where there is room, each by the promise of the function that writes it. Else the premise fails.
 use native.Mathlib.Omega.{arith}
-use Rattle.nation_tables.specs.Holders.{rows_in, SlotsRoom}
+use Rattle.nation_tables.specs.Holders.{rows_in_cells, SlotsRoom}
 use Rattle.nation_tables.proofs.slots.CellLaws.{counts-written, room-tested, room-missed}
 use Rattle.nation_tables.proofs.holders.write_slots.Goals.{Else-holders-slots}
 use Rattle.nation_tables.proofs.holders.write_slots.Goals as goal
@@ -24,4 +24,4 @@ count_slots-requires c =
     let few = (room (goal.at.count_slots-requires c).Else-holders-slots).few in omega arith
 
 pub returns : goal.returns
-returns c = λ asked. record { holders = c.put_holders.ensures; held = counts-written (rows_in c.args.slots.now) c.args.held.now _ _ asked.held c.count_slots.ensures }
+returns c = λ asked. record { holders = c.put_holders.ensures; held = counts-written (rows_in_cells c.args.slots.now) c.args.held.now _ _ asked.held c.count_slots.ensures }

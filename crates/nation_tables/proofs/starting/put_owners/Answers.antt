@@ -26,7 +26,7 @@ loop-province-preserved c =
     let more = told (goal.at.loop-province-preserved c).In-Some in (
       length-set c.loop-province.rows _ _ ∙ c.loop-province.invariant.0,
       (ids_next _ _ _ _ more c.loop-province.invariant.1).1,
-      put_next f _ _ _ c.loop-province.rows _ _ more c.from-at.ensures (c.row_cell.ensures ∙ ap row_number c.mapped_row.ensures) ∙ c.loop-province.invariant.2,
+      put_next f _ _ _ c.loop-province.rows _ _ more c.from-at.ensures (c.row_number.ensures ∙ ap row_number c.mapped_row.ensures) ∙ c.loop-province.invariant.2,
     )
 
 pub shape_of-rows : goal.shape_of-rows

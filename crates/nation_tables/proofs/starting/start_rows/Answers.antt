@@ -8,4 +8,4 @@ pub put_owners-requires : goal.put_owners-requires
 put_owners-requires c = let long : length c.fill.new.self ≡ length c.args.rows.now = c.fill.ensures.len in rw long c.requires.ids
 
 pub returns : goal.returns
-returns c = started _ _ _ c.requires _ _ _ (c.row_cell.ensures ∙ ap row_number c.mapped_row.ensures) (c.fill.ensures.after (λ y e. e)) c.put_owners.ensures
+returns c = started _ _ _ c.requires _ _ _ (c.row_number.ensures ∙ ap row_number c.mapped_row.ensures) (c.fill.ensures.after (λ y e. e)) c.put_owners.ensures

@@ -23,7 +23,7 @@ pub returns : goal.returns
 returns g c =
     let told = placed g (goal.at.returns g c).In_ok-told in
     let asked = rest-asked _ _ _ c.args.holders.now c.args.held.now c.args.changes.now _ _ _ _ _ _ _ _ _ told in
-    all-placed _ _ _ _ _ _ _ _ _ _ _ _ _ _ _ told _ _ _ (c.write_rest.ensures c.args.s.now asked.0) _ c.counts_of-counts.ensures
+    all-placed _ _ _ _ _ _ _ _ _ _ _ _ _ _ _ told _ _ _ (c.write_rest.ensures c.args.s.now asked.0) _ c.counts_from-counts.ensures
 
 pub returns-in_err-told : goal.returns-in_err-told
 returns-in_err-told g c =

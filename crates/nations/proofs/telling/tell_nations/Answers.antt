@@ -7,7 +7,7 @@ use Rattle.nations.proofs.answer.AnswerLaws.{fronts-inside, rest-refused, none-p
 use Rattle.nations.proofs.telling.tell_nations.Goals.{In_ok-gathered}
 use Rattle.nations.proofs.telling.tell_nations.Goals as goal
 
-gathered : (g : _) (c : In_ok-gathered g) → Gathered c.args.s.now c.in_ok-gathered.gathered.sizes c.in_ok-gathered.gathered.provinces c.gather_tables.new.tables.tag_words c.gather_tables.new.tables.initial_keys c.gather_tables.new.tables.runs c.gather_tables.new.tables.keys c.gather_tables.new.tables.cells c.gather_tables.new.tables.slots c.gather_tables.new.tables.started c.gather_tables.new.tables.turns c.gather_tables.new.tables.firsts
+gathered : (g : _) (c : In_ok-gathered g) → Gathered c.args.s.now c.in_ok-gathered.gathered.sizes c.in_ok-gathered.gathered.provinces c.gather_tables.new.tables.tags c.gather_tables.new.tables.initial_keys c.gather_tables.new.tables.runs c.gather_tables.new.tables.keys c.gather_tables.new.tables.cells c.gather_tables.new.tables.slots c.gather_tables.new.tables.started c.gather_tables.new.tables.turns c.gather_tables.new.tables.firsts
 gathered g c = tables-told (c.gather_tables.ensures c.requires) c.in_ok-gathered.was
 
 pub returns-then-not-rest_fits : goal.returns-then-not-rest_fits

@@ -6,4 +6,4 @@ use Rattle.nations.proofs.answer.FrontLaws.{changes-by}
 use Rattle.nations.proofs.writing.rest_fits.Goals as goal
 
 pub returns : goal.returns
-returns c = ap (λ b. (leb c.args.sizes.slots c.args.holders && leb c.args.sizes.countries c.args.held) && b) (changes-by c.args.sizes.changes c.args.changes)
+returns c = ap (λ b. (leb c.args.sizes.slots c.args.room.holders && leb c.args.sizes.countries c.args.room.held) && b) (changes-by c.args.sizes.changes c.args.room.changes)

@@ -6,14 +6,14 @@ use Rattle.std.proofs.lemmas.Iterator.Search.{all_from_yields_List}
 use Rattle.std.proofs.lemmas.List.Folds.{list_all-map}
 use Rattle.std.specs.List.{list_all}
 use Rattle.rules.specs.NationRows.{NationRow}
-use Rattle.chronicle_rows.specs.declared.rows.Nation.{Nation}
+use Rattle.chronicle_rows.specs.declared.rows.NationRow as NationRow
 use Rattle.chronicle_rows.specs.Cases.{nation_told, nation_in}
 use Rattle.page_text.proofs.StoredLaws.{rows-left}
 use Rattle.page_text.proofs.stored.are_short.Goals as goal
 
 pub returns : goal.returns
 returns c =
-    all_from_yields_List (λ (n : Nation). ltb n.count 10000) c.all.new.self _ c.all.result c.all.ensures.ran
+    all_from_yields_List (λ (n : NationRow.NationRow). ltb n.count 10000) c.all.new.self _ c.all.result c.all.ensures.ran
     (YieldsList-from_first (λ n. n) (λ rows. map nation_in rows.rows.now) {s = c.of.result} (map nation_in c.of.result.rows.now) refl) (λ x b q k. search (rules, tests))
     ∙ sym (list_all-map (λ (r : NationRow). ltb r.count 10000) nation_told (map nation_in c.of.result.rows.now))
     ∙ ap (list_all (λ (r : NationRow). ltb r.count 10000)) (rows-left c.args.nations.now _ c.of.ensures)

@@ -8,7 +8,7 @@ use lib.Dec.{ltb}
 use lib.ListN.{length, get_or, set, drop, replicate, length-set}
 use Rattle.std.proofs.lemmas.List.{at_drop_all}
 use Rattle.lists.specs.Lists.{any_of}
-use Rattle.lists.proofs.TableLaws.{blank}
+use Rattle.lists.proofs.TableLaws.{blank-entry}
 use Rattle.format.specs.Rows.{province_at}
 use Rattle.record_check.proofs.RepeatLaws.{repeats-start, id_seen, ids_bad, ids-nil, id-hit, id-marked, row-ahead}
 use Rattle.record_check.proofs.repeats.id_twice_or_above.Goals as goal
@@ -19,7 +19,7 @@ word row = (province_at row 0).id.0
 pub loop-row-init : goal.loop-row-init
 loop-row-init c =
     let ids = map word c.args.rows.now in
-    record { size = refl; same = ap (λ b. b || any_of (ltb (length c.args.rows.now)) ids) (repeats-start (id_seen (replicate 8001 false)) (λ y. blank false 8001 y) ids) }
+    record { size = refl; same = ap (λ b. b || any_of (ltb (length c.args.rows.now)) ids) (repeats-start (id_seen (replicate 8001 false)) (λ y. blank-entry false 8001 y) ids) }
 
 pub returns-then-seen-id : goal.returns-then-seen-id
 returns-then-seen-id c =

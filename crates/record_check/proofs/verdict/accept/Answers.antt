@@ -12,7 +12,7 @@ use Rattle.format.proofs.SizeLaws.{laid}
 use Rattle.record_head.specs.Sections.{SectionsOf}
 use Rattle.record_check.proofs.RepeatLaws.{countries-good}
 use Rattle.record_check.proofs.TotalLaws.{few-rows}
-use Rattle.record_check.proofs.VerdictLaws.{zero-if, number-if, zero-unless, number-unless, refused, refused-on}
+use Rattle.record_check.proofs.VerdictLaws.{zero-if, number-if, zero-unless, number-unless, refused, refused-by}
 use Rattle.record_check.proofs.verdict.accept.Goals.{After-read_head, After-version_known, After-sizes_checked, In_ok-parsed, In_ok-check_fields, After-ends_early}
 use Rattle.record_check.proofs.verdict.accept.Goals as goal
 
@@ -62,7 +62,7 @@ pub returns-in_err-parsed : goal.returns-in_err-parsed
 unfolding refusal
 returns-in_err-parsed c =
     let at = goal.at.returns-in_err-parsed c in
-    refused-on c.args.s.now c.from_residual.result c.in_err-parsed.field-0.0 c.from_residual.ensures
+    refused-by c.args.s.now c.from_residual.result c.in_err-parsed.field-0.0 c.from_residual.ensures
     (pass _ (opened at.After-read_head) (pass _ (known at.After-sizes_checked) (stop _ c.in_err-parsed.field-0.0 c.in_err-parsed.ensures.number)))
 
 pub returns-in_err-check_fields : goal.returns-in_err-check_fields
@@ -70,7 +70,7 @@ unfolding refusal
 returns-in_err-check_fields c =
     let at = goal.at.returns-in_err-check_fields c in
     let bad = c.in_err-check_fields.ensures ∙ ap fields_number c.in_ok-parsed.ensures.bytes in
-    refused-on c.args.s.now c.from_residual-in_err-check_fields.result c.in_err-check_fields.field-0.0 c.from_residual-in_err-check_fields.ensures
+    refused-by c.args.s.now c.from_residual-in_err-check_fields.result c.in_err-check_fields.field-0.0 c.from_residual-in_err-check_fields.ensures
     (pass _ (opened at.After-read_head) (pass _ (known at.After-sizes_checked) (pass _ (fit at.In_ok-parsed)
     (stop _ c.in_err-check_fields.field-0.0 bad))))
 

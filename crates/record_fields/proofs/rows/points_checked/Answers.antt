@@ -18,8 +18,12 @@ found : (good b : Bool) (rows : List (List ℕ)) (i : ℕ) → length rows ≤ i
 found good b rows i h e q =
     ap (λ x. cond x 0 9) (sym q ∙ e ∙ ap (all_of (λ row. leb (point_at row 0).year 9999)) (take_all i rows h)) ∙ points-told rows
 
-pub returns-then-good : goal.returns-then-good
-returns-then-good c = found c.loop-row.good true c.args.rows.now c.loop-row.row-index (omega arith) c.loop-row.invariant c.if-good.true
+pub returns-then-year_allowed : goal.returns-then-year_allowed
+returns-then-year_allowed c =
+    found (leb c.loop-row.latest 9999) true c.args.rows.now c.loop-row.row-index (omega arith) c.loop-row.invariant
+    (sym c.year_allowed.ensures ∙ c.if-year_allowed.true)
 
-pub returns-else-good : goal.returns-else-good
-returns-else-good c = found c.loop-row.good false c.args.rows.now c.loop-row.row-index (omega arith) c.loop-row.invariant c.if-good.false
+pub returns-else-year_allowed : goal.returns-else-year_allowed
+returns-else-year_allowed c =
+    found (leb c.loop-row.latest 9999) false c.args.rows.now c.loop-row.row-index (omega arith) c.loop-row.invariant
+    (sym c.year_allowed.ensures ∙ c.if-year_allowed.false)

@@ -3,12 +3,12 @@ use Rattle.lists.specs.Lists.{join_of}
 use Rattle.record.specs.Cursors.{ledgers_left}
 use Rattle.rules.specs.Ledger.{span_points}
 use Rattle.spans.specs.SpanSteps.{spans_left}
-use Rattle.ledger.proofs.LedgerLaws.{count-start, count-end}
+use Rattle.ledger.proofs.LedgerLaws.{points-start, count-end}
 use Rattle.ledger.proofs.index.LedgerIndex.count.Goals as goal
 
 pub loop-span-init : goal.loop-span-init
 loop-span-init c =
-    count-start _ _ _
+    points-start _ _ _
     (ap (λ w. join_of (span_points (ledgers_left c.args.self.now.frame.ledgers)) (spans_left w)) c.into_iter-span-iterator.ensures.into_iter_gives
     ∙ ap (join_of (span_points (ledgers_left c.args.self.now.frame.ledgers))) c.of-span-items.ensures)
 

@@ -1,7 +1,7 @@
 use Rattle.std.proofs.Common.{ap, sym, subst, ◌∙◌}
 use mathlib.Core.List.{map}
 use Rattle.chronicle_rows.specs.Cases.{nation_told}
-use Rattle.chronicle_rows.proofs.RowAtLaws.{nations_told}
+use Rattle.chronicle_rows.proofs.RowAtLaws.{nation_rows_told}
 use Rattle.std.proofs.lemmas.List.{set-get_or}
 use Rattle.ledger.specs.Ledgers.{WritesLedgers}
 use Rattle.ledger.proofs.NationLaws.{ledgers-start, ledgers-more, ledgers-done, ledgers-full}
@@ -9,7 +9,7 @@ use Rattle.ledger.proofs.index.LedgerIndex.write_all.Goals as goal
 
 pub loop-count-init : goal.loop-count-init
 loop-count-init c =
-    ledgers-start _ _ _ _ _ _ (ap (map nation_told) c.of-left.ensures ∙ nations_told c.args.chronicle.nations.now) c.requires.rows_in_bounds c.requires.counts_in_bounds
+    ledgers-start _ _ _ _ _ _ (ap (map nation_told) c.of-left.ensures ∙ nation_rows_told c.args.chronicle.nations.now) c.requires.rows_in_bounds c.requires.counts_in_bounds
 
 pub returns-in_default : goal.returns-in_default
 returns-in_default c =

@@ -1,8 +1,10 @@
 -- What the key's row and its walk tell is its nation.
-use mathlib.Core.Path.{◌≡◌, sym, ◌∙◌}
+use mathlib.Core.Path.{◌≡◌, sym, ap, ◌∙◌}
 use borrow.Author.Tests.{not-true, not-false}
+use Prim.Native.Nat.{ℕ}
 use lib.ListN.{get_or}
 use Rattle.nation_tables.specs.Lookup.{row_in}
+use Rattle.nation_tables.specs.Holders.{no_tag}
 use Rattle.nation_listing.proofs.ListingLaws.{unlisted, found}
 use Rattle.nation_listing.proofs.tables.ReadableTables.listed.Goals as goal
 
@@ -14,6 +16,5 @@ returns-then-not-is_listed c =
 pub returns : goal.returns
 returns c =
     let row : c.from-row.result ≡ row_in c.args.key = c.from-row.ensures ∙ c.row_in.ensures in
-    let stored : c.kept.result.0 ≡ get_or c.args.self.now.tag_words.now c.from-row.result 0 = c.kept.ensures in
     found _ _ _ (rw row at c.of-lives.ensures.walk) (sym c.is_listed.ensures ∙ not-false _ c.if-not-is_listed.false-raw) _ (rw row at c.run-run.ensures)
-    _ _ (rw row at c.of-lives.ensures.lives) c.of.ensures _ _ _ c.initial_in-initial.ensures c.latest.ensures (rw row at stored)
+    _ _ (rw row at c.of-lives.ensures.lives) c.of.ensures _ _ _ c.initial_in-initial.ensures c.latest.ensures (ap (λ (i : ℕ). get_or c.args.self.now.tags.now i no_tag) row)

@@ -8,7 +8,7 @@ bounds-self-i c = place-within c.args.self.now.tables c.args.tag _ c.first_place
 
 pub returns-in-Some : goal.returns-in-Some
 returns-in-Some c =
-    c.row_line.ensures ∙ sym (line-there c.args.self.now.tables c.args.tag _ c.first_place.ensures c.in-Some.is _ c.nation_at.ensures)
+    c.row_line.ensures ∙ sym (line-there c.args.self.now.tables c.args.tag _ c.first_place.ensures c.in-Some.is _ c.nation_row_at.ensures)
 
 pub returns-in-None : goal.returns-in-None
 returns-in-None c = c.absent_line.ensures ∙ sym (line-nowhere c.args.self.now.tables c.args.tag _ c.first_place.ensures c.in-None.is)

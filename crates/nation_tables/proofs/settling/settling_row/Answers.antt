@@ -4,7 +4,7 @@ use Prim.Native.Nat.{◌+◌, ◌*◌, ◌/◌}
 use native.Mathlib.Omega.{arith}
 use Rattle.nation_tables.specs.Keys.{settling_key}
 use Rattle.nation_tables.specs.Layout.{tag_span}
-use Rattle.nation_tables.proofs.settling.holder_row.Goals as goal
+use Rattle.nation_tables.proofs.settling.settling_row.Goals as goal
 
 pub returns : goal.returns
 returns c =

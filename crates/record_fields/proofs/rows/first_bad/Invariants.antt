@@ -3,7 +3,7 @@ use mathlib.Core.Path.{◌≡◌}
 use mathlib.Core.List.{map}
 use lib.ListN.{drop}
 use Rattle.format.specs.Refusal.{first_in}
-use Rattle.record_fields.proofs.rows.rows_checked.Given as goal
+use Rattle.record_fields.proofs.rows.first_bad.Given as goal
 
 abbrev pub invariant-loop-row : goal.invariant-loop-row
 invariant-loop-row g l =
