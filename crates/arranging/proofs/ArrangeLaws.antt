@@ -20,7 +20,7 @@ use Rattle.lists.proofs.FillLaws.{Filling, filling-new, filling-more, filling-be
 use Rattle.lists.proofs.WriteLaws.{behind}
 use Rattle.rules.specs.Lent.{refused, gives, written}
 use Rattle.rules.specs.PlayerOutcomes.{HistoryCells, both_fit, both_written}
-use Rattle.rules.specs.HistoryRows.{HistoryRow, history_row_words}
+use Rattle.rules.specs.HistoryRows.{HistoryRow, history_row_words, history_width}
 use Rattle.rules.proofs.LentLaws.{outcome-refused, outcome-gives}
 use Rattle.format.specs.declared.tag.CountryTag.{CountryTag}
 use Rattle.lists.proofs.CodeLaws.{some_same}
@@ -70,7 +70,7 @@ sum-taken (suc n) (d ∷ ds) = omega (arith, sum-taken n ds)
 -- ## The words of all histories
 
 length-kept : (ds : List Draft) (kept : ℕ) → kept ≤ length (keep is_leftover ds)
-    → length (kept_words ds kept) ≡ 7 * (length (keep is_played ds) + kept)
+    → length (kept_words ds kept) ≡ history_width * (length (keep is_played ds) + kept)
 length-kept ds kept h =
     let ps : List HistoryRow = histories_from 0 (keep is_played ds) in
     let ls : List Draft = take kept (keep is_leftover ds) in
@@ -85,13 +85,13 @@ length-kept ds kept h =
       length-take kept (keep is_leftover ds),
     )
 
-pub length-drafted : (popped : Bool) (ds : List Draft) → length (draft_words popped ds) ≡ 7 * (length (keep is_played ds) + kept_of popped ds)
+pub length-drafted : (popped : Bool) (ds : List Draft) → length (draft_words popped ds) ≡ history_width * (length (keep is_played ds) + kept_of popped ds)
 length-drafted true ds = length-set (kept_words ds (kept_of true ds)) 0 _ ∙ length-kept ds (kept_of true ds) (omega arith)
 length-drafted false ds = length-kept ds (kept_of false ds) (omega arith)
 
 -- The first pass has written so many words.
 abbrev pub Fronted : List Draft → List ℕ → ℕ → List ℕ → Type 0
-Fronted ds before at now = (at ≡ 7 * length (keep is_played ds)) × (now ≡ written (join_of history_row_words (histories_from 0 (keep is_played ds))) before)
+Fronted ds before at now = (at ≡ history_width * length (keep is_played ds)) × (now ≡ written (join_of history_row_words (histories_from 0 (keep is_played ds))) before)
 
 module _ (ds : List Draft) (popped : Bool) (kept : ℕ) (k : kept ≡ kept_of popped ds) where
   abbrev front : List ℕ
@@ -100,16 +100,16 @@ module _ (ds : List Draft) (popped : Bool) (kept : ℕ) (k : kept ≡ kept_of po
   abbrev back : List ℕ
   back = join_of history_row_words (histories_from (sum_of (λ d. d.count) ds) (take kept (keep is_leftover ds)))
 
-  front-wide : length front ≡ 7 * length (keep is_played ds)
+  front-wide : length front ≡ history_width * length (keep is_played ds)
   front-wide = omega (arith, length-rows (histories_from 0 (keep is_played ds)), length-finished 0 (keep is_played ds))
 
-  back-wide : length back ≤ 7 * kept
+  back-wide : length back ≤ history_width * kept
   back-wide =
       let ls : List Draft = take kept (keep is_leftover ds) in
       omega (arith, length-rows (histories_from (sum_of (λ d. d.count) ds) ls), length-finished (sum_of (λ d. d.count) ds) ls, length-take kept (keep is_leftover ds))
 
   -- Both passes have written.
-  pub kept-written : (names at : ℕ) (before first ys : List ℕ) → names ≡ sum_of (λ d. d.count) ds → 7 * (length (keep is_played ds) + kept) ≤ length before
+  pub kept-written : (names at : ℕ) (before first ys : List ℕ) → names ≡ sum_of (λ d. d.count) ds → history_width * (length (keep is_played ds) + kept) ≤ length before
       → Fronted ds before at first
       → ys ≡ written (join_of history_row_words (histories_from names (take kept (keep is_leftover ds)))) (take (length first - at) (drop at first))
       → take at first ++ (ys ++ drop (length first - at) (drop at first)) ≡ written (kept_words ds kept) before
@@ -210,16 +210,16 @@ module _ (ironman : Bool) (ds : List Draft) (keys : List ℕ) (ready : ArrangeRe
   cells : HistoryCells
   cells = drafted_cells popped ds keys
 
-  rows-wide : length (draft_words popped ds) ≡ 7 * n
-  rows-wide = length-drafted popped ds ∙ ap (λ (x : ℕ). 7 * x) (sym counted-told)
+  rows-wide : length (draft_words popped ds) ≡ history_width * n
+  rows-wide = length-drafted popped ds ∙ ap (λ (x : ℕ). history_width * x) (sym counted-told)
 
   names-wide : length (join_of (names_at keys) ds) ≡ total
   names-wide = length-all-names keys ds ready.inside ∙ sym c.names
 
   -- The test of the room, as the code makes it.
-  room-told : (ltb (length before.rows) (7 * n) || ltb (length before.names) total) ≡ not (both_fit cells before)
+  room-told : (ltb (length before.rows) (history_width * n) || ltb (length before.names) total) ≡ not (both_fit cells before)
   unfolding cells
-  room-told = rw (rows-wide, names-wide) (go (7 * n) (length before.rows) total (length before.names))
+  room-told = rw (rows-wide, names-wide) (go (history_width * n) (length before.rows) total (length before.names))
     where
       go : (a b c d : ℕ) → (ltb b a || ltb d c) ≡ not (leb a b && leb c d)
       go a b c d =
@@ -229,9 +229,9 @@ module _ (ironman : Bool) (ds : List Draft) (keys : List ℕ) (ready : ArrangeRe
           (λ g. simp (h, g, le-ltb b a (leb-true a b h), lt-ltb d c (leb-false c d g))))
           (λ h. simp (h, lt-ltb b a (leb-false a b h)))
 
-  pub histories-ready : (ltb (length before.rows) (7 * n) || ltb (length before.names) total) ≡ false → HistoriesReady ds v kept total before.rows
+  pub histories-ready : (ltb (length before.rows) (history_width * n) || ltb (length before.names) total) ≡ false → HistoriesReady ds v kept total before.rows
   histories-ready h =
-      let room = ltb-false (length before.rows) (7 * n) (neither (ltb (length before.rows) (7 * n)) (ltb (length before.names) total) h).0 in
+      let room = ltb-false (length before.rows) (history_width * n) (neither (ltb (length before.rows) (history_width * n)) (ltb (length before.names) total) h).0 in
       record {
         left = c.left;
         last = c.vanishes.last;
@@ -242,14 +242,14 @@ module _ (ironman : Bool) (ds : List Draft) (keys : List ℕ) (ready : ArrangeRe
         room = omega (arith, room, c.named);
       }
 
-  pub arranged-short : (ltb (length before.rows) (7 * n) || ltb (length before.names) total) ≡ true
+  pub arranged-short : (ltb (length before.rows) (history_width * n) || ltb (length before.names) total) ≡ true
       → record { answer = refused 10; memory = before } ≡ drafted_outcome ironman ds keys before
   unfolding cells
   arranged-short h =
       let short : both_fit cells before ≡ false = not-true (both_fit cells before) (sym room-told ∙ h) in
       sym (rw (← c.vanishes.popped, short) (outcome-refused 10 (drafted_counts popped ds) (both_written cells before) before (omega arith)))
 
-  pub arranged-rows : (ltb (length before.rows) (7 * n) || ltb (length before.names) total) ≡ false → (rows names : List ℕ)
+  pub arranged-rows : (ltb (length before.rows) (history_width * n) || ltb (length before.names) total) ≡ false → (rows names : List ℕ)
       → rows ≡ written (draft_words popped ds) before.rows → names ≡ written (join_of (names_at keys) ds) before.names
       → record { answer = gives (record { histories = n; names = total }); memory = record { rows = rows; names = names } } ≡ drafted_outcome ironman ds keys before
   unfolding cells

@@ -10,7 +10,7 @@ use Rattle.lists.specs.Lists.{All, sum_of, join_of}
 use Rattle.lists.proofs.FillLaws.{Filling, filling-new, filling-behind, filling-written}
 use Rattle.lists.proofs.WriteLaws.{behind}
 use Rattle.rules.specs.Lent.{written}
-use Rattle.rules.specs.HistoryRows.{HistoryRow, history_row_words}
+use Rattle.rules.specs.HistoryRows.{HistoryRow, history_row_words, history_width}
 use Rattle.chronicle_rows.specs.RowAt.{row_put}
 use Rattle.arranging.specs.declared.drafts.Draft.{Draft}
 use Rattle.arranging.proofs.PutLaws.{row_more}
@@ -32,9 +32,9 @@ sum-front (x ∷ xs) (suc n) d h e = omega (arith, sum-front xs n d (omega arith
 
 -- The histories of these drafts stand at the front: so many words, and so many names are before the next.
 pub record Wrote (ds : List Draft) (names : ℕ) (before : List ℕ) (first at : ℕ) (now : List ℕ) : Type 0 where
-  pub passed : at ≡ 7 * length ds
+  pub passed : at ≡ history_width * length ds
   pub named : first ≡ names + sum_of (λ d. d.count) ds
-  pub cells : Filling (join_of history_row_words (histories_from names ds)) [] before (7 * length ds) now
+  pub cells : Filling (join_of history_row_words (histories_from names ds)) [] before (history_width * length ds) now
 
 pub wrote-none : (names : ℕ) (before : List ℕ) → Wrote [] names before names 0 before
 unfolding histories_from
@@ -63,12 +63,12 @@ module _ (all ds : List Draft) (names : ℕ) (before now : List ℕ) (first at :
   next_named = omega (arith, w.named, ready.few, ap (sum_of (λ (x : Draft). x.count)) p.front, sum-front all (length ds) d p.inside p.here)
 
   -- One draft further.
-  pub next-wrote : (x : HistoryRow) (words ys : List ℕ) → x ≡ history_from d first → words ≡ history_row_words x → ys ≡ row_put 7 words (take (length now - at) (drop at now))
-      → Wrote (ds ++ (d ∷ [])) names before (first + d.count) (at + 7) (take at now ++ (ys ++ drop (length now - at) (drop at now)))
+  pub next-wrote : (x : HistoryRow) (words ys : List ℕ) → x ≡ history_from d first → words ≡ history_row_words x → ys ≡ row_put history_width words (take (length now - at) (drop at now))
+      → Wrote (ds ++ (d ∷ [])) names before (first + d.count) (at + history_width) (take at now ++ (ys ++ drop (length now - at) (drop at now)))
   next-wrote x words ys q told put =
       let passed : List ℕ = join_of history_row_words (histories_from names ds) in
       let row : HistoryRow = history_from d (names + sum_of (λ y. y.count) ds) in
-      let grown = filling-grown passed (history_row_words row) before now (7 * length ds) w.cells (omega (arith, ready.room, p.inside)) in
+      let grown = filling-grown passed (history_row_words row) before now (history_width * length ds) w.cells (omega (arith, ready.room, p.inside)) in
       let more = row_more _ _ [] before now ys (length ds) row grown (sym (append-nil (history_row_words row))) words (told ∙ ap history_row_words (q ∙ ap (history_from d) w.named)) (rw w.passed at put) in
       let size : length (ds ++ (d ∷ [])) ≡ length ds + 1 = length-append ds (d ∷ []) in
       record {
@@ -79,7 +79,7 @@ module _ (all ds : List Draft) (names : ℕ) (before now : List ℕ) (first at :
 
 -- All drafts were passed.
 pub wrote-all : (ds all : List Draft) (names : ℕ) (before now : List ℕ) (first at : ℕ) → Wrote ds names before first at now → ds ≡ all
-    → (at ≡ 7 * length all) × (now ≡ written (join_of history_row_words (histories_from names all)) before)
+    → (at ≡ history_width * length all) × (now ≡ written (join_of history_row_words (histories_from names all)) before)
 wrote-all ds all names before now first at w e = rw (← e) (w.passed, filling-written _ _ _ _ _ w.cells refl)
 
 -- ## Names

@@ -2,17 +2,13 @@
 use Rattle.std.specs.Prelude as code
 use Rattle.std.specs.Prelude.{List, ℕ}
 use Rattle.format.specs.declared.refused.Refusal.{Refusal}
-use Rattle.rules.specs.Lent.{Answer, Outcome, answer_of, outcome_of}
+use Rattle.rules.specs.Lent.{Outcome, outcome_of}
 use Rattle.rules.specs.PlayerOutcomes as R
 use Rattle.arranging.specs.declared.answers.HistoryCounts.{HistoryCounts}
 
 -- Both numbers.
 abbrev pub counts_told : HistoryCounts → R.HistoryCounts
 counts_told n = record { histories = n.histories; names = n.names }
-
--- Both numbers, or the number of the refusal.
-abbrev pub histories_answer : code.Result HistoryCounts Refusal → Answer R.HistoryCounts
-histories_answer r = answer_of counts_told r
 
 -- Two lent slices.
 abbrev pub history_cells : List ℕ → List ℕ → R.HistoryCells

@@ -16,7 +16,7 @@ use Rattle.lists.specs.Lists.{All, keep}
 use Rattle.lists.proofs.ListLaws.{all_map, all_keep}
 use Rattle.lists.proofs.EachLaws.{all-each}
 use Rattle.rules.specs.NationRows.{nation_rows_in, well_shaped}
-use Rattle.rules.specs.Bookings.{Joining}
+use Rattle.rules.specs.Bookings.{Joining, booking_width}
 use Rattle.claims.specs.declared.claims.Claim.{Claim}
 use Rattle.claims.specs.Claims.{claims_in, best_of, is_asked, claim_day}
 use Rattle.questions.specs.Layout.{row_owners}
@@ -35,11 +35,11 @@ abbrev pub best_bookings : List Joining → List ℕ → List Claim → List ℕ
 best_bookings js before cs = rows_by (λ j _. best_booking_row cs j) js before
 
 -- Words that are all 0 are rows without a claim.
-cleared-rows : (js : List Joining) (n : ℕ) (before out : List ℕ) → n ≡ length js → out ≡ replicate (3 * n) 0 ++ drop (3 * n) before → out ≡ best_bookings js before []
+cleared-rows : (js : List Joining) (n : ℕ) (before out : List ℕ) → n ≡ length js → out ≡ replicate (booking_width * n) 0 ++ drop (booking_width * n) before → out ≡ best_bookings js before []
 cleared-rows js n before out m e =
     sym (rows_join (best_booking_row []) js before
-    ∙ (ap (λ (l : List ℕ). l ++ drop (3 * length js) before) (rows-blank js)
-    ∙ (ap (λ (k : ℕ). replicate (3 * k) 0 ++ drop (3 * k) before) (sym m) ∙ sym e)))
+    ∙ (ap (λ (l : List ℕ). l ++ drop (booking_width * length js) before) (rows-blank js)
+    ∙ (ap (λ (k : ℕ). replicate (booking_width * k) 0 ++ drop (booking_width * k) before) (sym m) ∙ sym e)))
 
 -- A block behind the claims passed moves every row on.
 joinings-hold : (ws es : List ℕ) (js : List Joining) (before : List ℕ) → well_shaped ws es ≡ true → All GoodJoining js
@@ -73,13 +73,13 @@ module _ (ws es : List ℕ) (shaped : well_shaped ws es ≡ true) (few : length 
       (all_keep (SoundClaim (length (nation_rows_in ws))) (is_asked j.tag j.date) all (claims-sound ws es shaped))))) js)))
 
   -- The words of all rows, cleared, held against the blocks and turned.
-  pub booked-rows : (js : List Joining) (n : ℕ) (before first second third : List ℕ) → n ≡ length js → All GoodJoining js → 3 * n ≤ length before → first ≡ replicate (length (take (3 * n) before)) 0
-      → HoldsAll (3 * length js) (λ keys owners out. rows_by (held_row keys owners) js out) (claims_in ws es) (first ++ drop (3 * n) before) second
+  pub booked-rows : (js : List Joining) (n : ℕ) (before first second third : List ℕ) → n ≡ length js → All GoodJoining js → booking_width * n ≤ length before → first ≡ replicate (length (take (booking_width * n) before)) 0
+      → HoldsAll (booking_width * length js) (λ keys owners out. rows_by (held_row keys owners) js out) (claims_in ws es) (first ++ drop (booking_width * n) before) second
       → third ≡ rows_by (final_row ws) js second → third ≡ rows_by (λ j _. claimed_row ws es j) js before
   booked-rows js n before first second third e good room z h f =
-      let whole : List ℕ = first ++ drop (3 * n) before in
-      let zeros : first ≡ replicate (3 * n) 0 = z ∙ ap (λ (m : ℕ). replicate m 0) (length-take-le (3 * n) before room) in
-      let blank : whole ≡ best_bookings js before [] = cleared-rows js n before whole e (ap (λ (l : List ℕ). l ++ drop (3 * n) before) zeros) in
+      let whole : List ℕ = first ++ drop (booking_width * n) before in
+      let zeros : first ≡ replicate (booking_width * n) 0 = z ∙ ap (λ (m : ℕ). replicate m 0) (length-take-le (booking_width * n) before room) in
+      let blank : whole ≡ best_bookings js before [] = cleared-rows js n before whole e (ap (λ (l : List ℕ). l ++ drop (booking_width * n) before) zeros) in
       let long : length whole ≡ length before =
-      length-append first (drop (3 * n) before) ∙ (ap₂ ◌+◌ (ap length zeros ∙ length-replicate (3 * n) 0) (length-drop (3 * n) before) ∙ omega arith) in
+      length-append first (drop (booking_width * n) before) ∙ (ap₂ ◌+◌ (ap length zeros ∙ length-replicate (booking_width * n) 0) (length-drop (booking_width * n) before) ∙ omega arith) in
       final-rows js before second third (h (best_bookings js before) blank (omega arith) (joinings-hold ws es js before shaped good)) f

@@ -16,7 +16,7 @@ use Rattle.format.proofs.FirstLaws.{first-stop, first-pass, first_one, first-zer
 use Rattle.rules.specs.Lent.{refused, gives, written, fits, room_number}
 use Rattle.rules.specs.NationRows.{nations_in, well_shaped}
 use Rattle.rules.specs.Resolver.{plain_data, resolve}
-use Rattle.rules.specs.Bookings.{Joining, joinings_of, Booking, booking_of, bookings_of, booking_rows}
+use Rattle.rules.specs.Bookings.{Joining, joinings_of, Booking, booking_of, bookings_of, booking_rows, booking_width}
 use Rattle.rules.specs.Refusals.{chronicle_number}
 use Rattle.rules.specs.Outcomes.{call_war_participants}
 use Rattle.rules.proofs.LentLaws.{answered-given, outcome-refused, outcome-gives}
@@ -97,25 +97,25 @@ module _ (xs ws es before : List ℕ) where
           first-pass (refusal xs) _ z
           ∙ (first-pass (chronicle_number ws es) _ (ap (λ (b : Bool). cond b 0 11) bookings-shaped) ∙ first_one (room_number (fits rows before)))
 
-      wide : length rows ≡ 3 * n
+      wide : length rows ≡ booking_width * n
       unfolding rows bookings
-      wide = length-booking_rows bookings ∙ ap (λ (k : ℕ). 3 * k) (joinings-counted ∙ sym m)
+      wide = length-booking_rows bookings ∙ ap (λ (k : ℕ). booking_width * k) (joinings-counted ∙ sym m)
 
-      pub bookings-short : length before / 3 < n → record { answer = refused 10; memory = before } ≡ call_war_participants xs ws es before
+      pub bookings-short : length before / booking_width < n → record { answer = refused 10; memory = before } ≡ call_war_participants xs ws es before
       unfolding call_war_participants number rows bookings
       bookings-short h =
           let short : fits rows before ≡ false = lt-leb (length rows) (length before) (omega (arith, wide)) in
           let first : number ≡ 10 = last-number ∙ ap room_number short in
           sym (rw first (outcome-refused 10 (length bookings) (written rows before) before (omega arith)))
 
-      pub bookings-rows : n ≤ length before / 3 → (after : List ℕ) → after ≡ rows_by (λ j _. claimed_row ws es j) (joinings_of (campaign_of xs)) before
+      pub bookings-rows : n ≤ length before / booking_width → (after : List ℕ) → after ≡ rows_by (λ j _. claimed_row ws es j) (joinings_of (campaign_of xs)) before
           → record { answer = gives n; memory = after } ≡ call_war_participants xs ws es before
       unfolding call_war_participants number rows bookings bookings_of
       bookings-rows h after w =
           let js : List Joining = joinings_of (campaign_of xs) in
           let room : fits rows before ≡ true = le-leb (length rows) (length before) (omega (arith, wide)) in
           let first : number ≡ 0 = last-number ∙ ap room_number room in
-          let behind : 3 * length js ≡ length rows = ap (λ (k : ℕ). 3 * k) (sym m) ∙ sym wide in
+          let behind : booking_width * length js ≡ length rows = ap (λ (k : ℕ). booking_width * k) (sym m) ∙ sym wide in
           let all : after ≡ written rows before =
           w ∙ (rows_join (claimed_row ws es) js before ∙ ap₂ ◌++◌ (claimed-rows ws es bookings-shaped js) (ap (λ (k : ℕ). drop k before) behind)) in
           sym (rw (m ∙ sym joinings-counted, all) (outcome-gives number (length bookings) (written rows before) before first))

@@ -3,6 +3,7 @@
 ghost use Rattle.std.specs.Prelude.{◌≡◌, List, ℕ};
 ghost use Rattle.lists.specs.Options.{option_of};
 ghost use Rattle.rules.specs.Bookings.{Joining as RulesJoining};
+ghost use Rattle.questions.specs.Holding.{block_keys, block_owners};
 ghost use Rattle.bookings.specs.Walking.{joining_of};
 ghost use Rattle.bookings.specs.Passes.{held_row, stored_tag, row_with, final_row, claimed_row};
 
@@ -29,7 +30,7 @@ pub(crate) struct HoldBlock<'a> {
 }
 
 impl Pass for HoldBlock<'_> {
-    ghost pass_row = { λ pass. held_row pass.block.sorted.keys.now pass.block.owners.now };
+    ghost pass_row = { λ pass. held_row (block_keys pass.block) (block_owners pass.block) };
 
     fn row(&self, joining: Joining, before: [u32; BOOKING_WIDTH]) -> [u32; BOOKING_WIDTH] {
         let [_, best, owner] = before;

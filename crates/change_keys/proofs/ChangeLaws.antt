@@ -1,11 +1,8 @@
 -- The walk over owner changes in entry order, event by event, and how many they can be.
-use Rattle.std.specs.Prelude as code
-use Rattle.std.specs.Prelude.{Some, None}
-use Rattle.std.specs.Iterator.{YieldsFirstBy}
-use mathlib.Core.Path.{◌≡◌, sym}
+use mathlib.Core.Path.{◌≡◌}
 use mathlib.Core.Bool.{true, false}
 use mathlib.Core.List.{List, [], ◌∷◌}
-use Prim.Native.Nat.{ℕ, ◌+◌, ◌*◌, ◌≤◌}
+use Prim.Native.Nat.{ℕ, ◌*◌, ◌≤◌}
 use native.Mathlib.Omega.{arith}
 use lib.ListN.{length, length-append}
 use Rattle.lists.specs.Lists.{join_of, sum_of}
@@ -16,54 +13,37 @@ use Rattle.sorting.proofs.SortLaws.{length-sort}
 use Rattle.format.specs.declared.tag.CountryTag.{CountryTag}
 use Rattle.format.specs.declared.rows.ProvinceId.{ProvinceId}
 use Rattle.format.specs.declared.rows.OwnerEvent.{OwnerEvent}
-use Rattle.record.specs.declared.provinces.ProvinceRow.{ProvinceRow}
 use Rattle.record.specs.declared.provinces.Provinces.{Provinces}
 use Rattle.format.specs.Tags.{same_tag}
 use Rattle.format.specs.Campaign.{Province, campaign_of}
-use Rattle.record.specs.Cursors.{province_of, provinces_left}
+use Rattle.record.specs.Cursors.{provinces_left}
 use Rattle.format.specs.Refusal.{refusal}
 use Rattle.format.proofs.BoundLaws.{small-provinces, few-events}
 use Rattle.record.specs.Width.{row_bytes}
 use Rattle.record.proofs.WidthLaws.{events-within}
 use Rattle.rules.specs.Changes.{changes_from, province_changes, by_date_and_id, changes_of}
-use Rattle.change_keys.specs.ChangeSteps.{slots_left, changes_ahead, entered, most_changes}
+use Rattle.change_keys.specs.ChangeSteps.{changes_ahead, entered, most_changes}
 pub use Rattle.change_keys.specs.ChangeSteps.{Narrow}
 use Rattle.rules.proofs.CampaignLaws.{all-changes}
 
 -- ## One step of the walk
 
--- A walk at a province takes a step for each event that it has left, and one more; so it does for each province behind it.
-abbrev pub steps : List Province → ℕ
-steps ps = sum_of (λ p. length p.events + 1) ps
-
--- What `next` gives for a slot is the first of the provinces left.
-pub slots-next : (s : Provinces) (r : code.Option ProvinceRow) (t : Provinces) → YieldsFirstBy province_of provinces_left s r t → slots_left r t ≡ provinces_left s
-slots-next s (Some p) t told = sym told
-slots-next s None t told = sym told.0
-
--- A province at hand whose events left are `es`, with those behind it.
-module _ (id : ProvinceId) (owner : CountryTag) (ps : List Province) where
-  abbrev pub at_hand : List OwnerEvent → List Province
-  at_hand es = record { id = id; owner = owner; events = es } ∷ ps
-
-  -- The province has no event left.
-  pub walk-on : (es : List OwnerEvent) → es ≡ [] → join_of province_changes (at_hand es) ≡ join_of province_changes ps
+-- A slot whose events left are `es`.
+module _ (id : ProvinceId) (owner : CountryTag) {es rest : List OwnerEvent} {e : OwnerEvent} (more : es ≡ e ∷ rest) where
+  -- The next one gives it to the tag that it has.
+  pub walk_same : same_tag owner e.tag ≡ true → changes_from id owner es ≡ changes_from id e.tag rest
   unfolding changes_from
-  walk-on es e = rw e
+  walk_same t = rw more (simp t)
 
-  -- It has one: its slot then has the event's tag.
-  module _ {es rest : List OwnerEvent} {e : OwnerEvent} (more : es ≡ e ∷ rest) where
-    abbrev pub passed : List Province
-    passed = record { id = id; owner = e.tag; events = rest } ∷ ps
+  -- The next one gives it to another: it then has the event's tag.
+  pub walk-change : same_tag owner e.tag ≡ false → changes_from id owner es ≡ record { date = e.date; id = id; from = owner; to = e.tag } ∷ changes_from id e.tag rest
+  unfolding changes_from
+  walk-change t = rw more (simp t)
 
-    pub walk_same : same_tag owner e.tag ≡ true → join_of province_changes (at_hand es) ≡ join_of province_changes passed
-    unfolding changes_from
-    walk_same t = rw more (simp t)
-
-    pub walk-change : same_tag owner e.tag ≡ false
-        → join_of province_changes (at_hand es) ≡ record { date = e.date; id = id; from = owner; to = e.tag } ∷ join_of province_changes passed
-    unfolding changes_from
-    walk-change t = rw more (simp t)
+-- A slot has no event left.
+pub walk-end : (id : ProvinceId) (owner : CountryTag) (es : List OwnerEvent) → es ≡ [] → changes_from id owner es ≡ []
+unfolding changes_from
+walk-end id owner es e = rw e
 
 -- ## How many changes
 

@@ -4,6 +4,7 @@ use Rattle.std.specs.Iterator.{AlwaysYields, YieldsFirst, YieldsFirstBy}
 use Rattle.std.proofs.Common.{ap}
 use Rattle.std.proofs.lemmas.Iterator.Consumers.{YieldsList-from_first}
 use Rattle.chronicle_rows.specs.declared.rows.LentRows.{LentRows}
+use Rattle.chronicle_rows.specs.RowAt.{told_left}
 use Rattle.rules.specs.Changes.{change_width}
 use Rattle.change_keys.specs.declared.changes.OwnerChange.{OwnerChange}
 use Rattle.change_keys.specs.declared.changes.Changes.{Changes}
@@ -17,8 +18,5 @@ viewed : {S A B : Type 0} (steps : S → Option A → S → Type 0) (f : A → B
 viewed steps f s [] y = y
 viewed steps f s (x ∷ xs) y = (y.0, λ z j k. let r = y.1 z j k in (ap f r.0, viewed steps f j xs r.1))
 
-abbrev rows_told : LentRows OwnerChange change_width → List OwnerChange
-rows_told rows = map change_told rows.rows.now
-
-pub rows_give : (rows : LentRows OwnerChange change_width) → AlwaysYields (YieldsFirst rows_told) change_of rows (rows_left rows)
-rows_give rows = viewed (YieldsFirst rows_told) change_of rows (rows_told rows) (YieldsList-from_first (λ x. x) rows_told (rows_told rows) refl).runs
+pub rows_give : (rows : LentRows OwnerChange change_width) → AlwaysYields (YieldsFirst (told_left change_told)) change_of rows (rows_left rows)
+rows_give rows = viewed (YieldsFirst (told_left change_told)) change_of rows (told_left change_told rows) (YieldsList-from_first (λ x. x) (told_left change_told) (told_left change_told rows) refl).runs

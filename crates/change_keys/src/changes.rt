@@ -1,8 +1,10 @@
 // Owner changes: an event that gives a province to another tag than it has is a change.
 ghost use Rattle.std.specs.Prelude.{◌≡◌, List};
 ghost use Rattle.std.specs.Iterator.{AlwaysYields, IsFinite, YieldsFirstBy, item_count};
+ghost use Rattle.record.specs.Cursors.{province_of};
 ghost use Rattle.rules.specs.Chronicle.{Change};
-ghost use Rattle.change_keys.specs.ChangeSteps.{change_of, changes_ahead, changes_left};
+ghost use Rattle.rules.specs.Changes.{province_changes};
+ghost use Rattle.change_keys.specs.ChangeSteps.{change_of, slot_changes, changes_ahead, changes_left};
 ghost use Rattle.change_keys.specs.Giving.{changes_give};
 
 use record::{CountryTag, Eu4Date, ProvinceId, ProvinceRow, Provinces};
@@ -28,11 +30,51 @@ pub trait Changing: Iterator<Item = OwnerChange> + Drop {
     ghost ends: { (changes : Self) → IsFinite (Self.Iterator.remaining changes) };
 }
 
-// An iterator over changes in entry order. The row of the province at hand is kept as its slot stands: its owner is the tag of the last event
-// passed, and its events are those left.
+// An iterator over the changes of one province in entry order. Its row is kept as its slot stands: the owner is the tag of the last event passed, and the
+// events are those left.
+#[derive(Clone, Copy)]
+pub struct ProvinceChanges<'a> {
+    row: ProvinceRow<'a>,
+}
+
+impl<'a> ProvinceChanges<'a> {
+    // The changes of the events that the row has.
+    pub fn of(row: ProvinceRow<'a>) -> ProvinceChanges<'a>
+        ensures { slot_changes result ≡ province_changes (province_of row.entry) }
+    {
+        ProvinceChanges { row }
+    }
+}
+
+impl Iterator for ProvinceChanges<'_> {
+    type Item = OwnerChange;
+
+    ghost next_gives = { YieldsFirstBy change_of slot_changes };
+
+    ghost remaining = { item_count slot_changes };
+
+    // A `while let`, here and below: what is left of the events, or of the provinces, is the iterator's own.
+    fn next(&mut self) -> Option<OwnerChange> {
+        while let Some(event) = self.row.events.next() {
+            let from = self.row.owner;
+            self.row.owner = event.tag;
+            if from != event.tag {
+                return Some(OwnerChange {
+                    date: event.date,
+                    id: self.row.id,
+                    from,
+                    to: event.tag,
+                });
+            }
+        }
+        None
+    }
+}
+
+// An iterator over changes in entry order: those left of the province at hand, and of all behind it.
 #[derive(Clone, Copy)]
 pub struct Changes<'a> {
-    slot: Option<ProvinceRow<'a>>,
+    slot: Option<ProvinceChanges<'a>>,
     provinces: Provinces<'a>,
 }
 
@@ -41,36 +83,25 @@ impl<'a> Changes<'a> {
     pub fn of(mut provinces: Provinces<'a>) -> Changes<'a>
         ensures { changes_left result ≡ changes_ahead provinces.entry }
     {
-        let slot = provinces.next();
+        let slot = provinces.next().map(ProvinceChanges::of);
         Changes { slot, provinces }
     }
 }
 
-impl<'a> Iterator for Changes<'a> {
+impl Iterator for Changes<'_> {
     type Item = OwnerChange;
 
     ghost next_gives = { YieldsFirstBy change_of changes_left };
 
     ghost remaining = { item_count changes_left };
 
-    // A `while let`: of events and provinces either may come to its end, and what is left of both is the iterator's own.
     fn next(&mut self) -> Option<OwnerChange> {
-        while let Some(mut province) = self.slot {
-            let Some(event) = province.events.next() else {
-                self.slot = self.provinces.next();
-                continue;
-            };
-            let from = province.owner;
-            province.owner = event.tag;
-            self.slot = Some(province);
-            if from != event.tag {
-                return Some(OwnerChange {
-                    date: event.date,
-                    id: province.id,
-                    from,
-                    to: event.tag,
-                });
+        while let Some(mut slot) = self.slot {
+            if let Some(change) = slot.next() {
+                self.slot = Some(slot);
+                return Some(change);
             }
+            self.slot = self.provinces.next().map(ProvinceChanges::of);
         }
         None
     }

@@ -4,5 +4,5 @@
 mod changes;
 mod keys;
 
-pub use changes::{Changes, Changing, OwnerChange};
+pub use changes::{Changes, Changing, OwnerChange, ProvinceChanges};
 pub use keys::{CHANGE_WIDTH, MOST_CHANGES, PER_DATE, PER_ID, fill_keys, fill_tags};

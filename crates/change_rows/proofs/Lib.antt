@@ -4,3 +4,6 @@ pub mod RowTurnLaws
 pub mod EnterRowLaws
 pub mod AheadLaws
 pub mod RowOrderLaws
+pub mod RowPartLaws
+pub mod MergeRowLaws
+pub mod RunLaws

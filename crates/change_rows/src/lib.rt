@@ -4,6 +4,7 @@
 mod entering;
 mod ordering;
 mod rows;
+mod runs;
 mod writing;
 
 pub use ordering::write_ordered;

@@ -1,4 +1,4 @@
--- The rows of lent words by their number, from 0. Past the last one stands the row of no words, all zeros.
+-- The rows of lent words: those that an iterator has left, and each by its number, from 0. Past the last one stands the row of no words, all zeros.
 use Rattle.std.specs.Prelude.{cond, List, [], ◌++◌, map, ℕ, ◌-◌, leb, length, get_or, drop}
 use Rattle.lists.specs.Lists.{numbers_from}
 use Rattle.format.specs.declared.tag.CountryTag.{CountryTag}
@@ -9,13 +9,17 @@ use Rattle.chronicle_rows.specs.declared.rows.NationRow as NationRow
 use Rattle.chronicle_rows.specs.Cases.{nation_told, nation_in}
 use Rattle.rules.specs.NationRows.{nation_width, NationRow, nation_row_of, EntryRow, entry_row_of, entry_of, nation_rows_in, entry_rows_in}
 
+-- What the rows tell that an iterator over lent words has left, by what the words of one tell.
+abbrev pub told_left : {R : Type 0} {width : ℕ} → (List ℕ → R) → LentRows R width → List R
+told_left told rows = map told rows.rows.now
+
 -- Nation row number i.
 unfoldable pub nation_row_at : List ℕ → ℕ → NationRow
 nation_row_at ws i = get_or (nation_rows_in ws) i (nation_row_of [])
 
 -- The nation rows that an iterator has left.
 abbrev pub nations_left : LentRows NationRow.NationRow nation_width → List NationRow
-nations_left rows = map nation_told (map nation_in rows.rows.now)
+nations_left rows = map nation_told (told_left nation_in rows)
 
 -- Entry row number i.
 unfoldable pub entry_row_at : List ℕ → ℕ → EntryRow

@@ -6,7 +6,7 @@ ghost use Rattle.std.specs.Simd.{first_chunks};
 ghost use Rattle.std.proofs.Common.{lit<};
 ghost use Rattle.rules.specs.NationRows.{nation_rows_in, nation_row_words, entry_row, entry_row_words};
 ghost use Rattle.chronicle_rows.specs.Cases.{nation_told, nation_in, entry_told, entry_in, kind_in};
-ghost use Rattle.chronicle_rows.specs.RowAt.{nation_row_at, entry_at, row_put};
+ghost use Rattle.chronicle_rows.specs.RowAt.{told_left, nation_row_at, entry_at, row_put};
 
 use format::{CountryTag, Eu4Date};
 use std::marker::PhantomData;
@@ -40,7 +40,7 @@ pub struct LentRows<'a, R, const WIDTH: usize> {
 impl<'a, R: Row<WIDTH>, const WIDTH: usize> LentRows<'a, R, WIDTH> {
     // The rows of the words.
     pub fn of(words: &'a [u32]) -> Self
-        ensures { map R.told result.rows.now ≡ map R.told (first_chunks WIDTH (length words.now / WIDTH) words.now) }
+        ensures { told_left R.told result ≡ map R.told (first_chunks WIDTH (length words.now / WIDTH) words.now) }
     {
         LentRows {
             rows: words.as_chunks().0,
@@ -50,7 +50,7 @@ impl<'a, R: Row<WIDTH>, const WIDTH: usize> LentRows<'a, R, WIDTH> {
 
     // How many rows are left.
     pub fn len(&self) -> usize
-        ensures { result ≡ length (map R.told self.now.rows.now) }
+        ensures { result ≡ length (told_left R.told self.now) }
     {
         self.rows.len()
     }
@@ -59,9 +59,9 @@ impl<'a, R: Row<WIDTH>, const WIDTH: usize> LentRows<'a, R, WIDTH> {
 impl<R: Row<WIDTH>, const WIDTH: usize> Iterator for LentRows<'_, R, WIDTH> {
     type Item = R;
 
-    ghost next_gives = { YieldsFirst (λ rows. map R.told rows.rows.now) };
+    ghost next_gives = { YieldsFirst (told_left R.told) };
 
-    ghost remaining = { item_count (λ rows. map R.told rows.rows.now) };
+    ghost remaining = { item_count (told_left R.told) };
 
     fn next(&mut self) -> Option<R> {
         let (row, rest) = self.rows.split_first()?;

@@ -10,13 +10,13 @@ use lib.ListN.{length}
 use Rattle.std.specs.Simd.{first_chunks}
 use Rattle.lists.specs.Lists.{keep, join_of, last, numbers_from, last_or, greatest}
 use Rattle.lists.proofs.BoolLaws.{cases}
-use Rattle.lists.proofs.ScanLaws.{better, scan, scan-greatest}
+use Rattle.lists.proofs.ScanLaws.{scan, scan-greatest}
 use Rattle.format.specs.declared.tag.CountryTag.{CountryTag}
 use Rattle.format.specs.declared.date.Eu4Date.{Eu4Date}
 use Rattle.format.specs.Tags.{same_tag}
 use Rattle.rules.specs.Chronicle.{Entry}
 use Rattle.rules.specs.NationRows.{NationRow, nation_width, nation_rows_in}
-use Rattle.chronicle_rows.specs.RowAt.{counted_left, nation_row_at, entries_at, nations_left}
+use Rattle.chronicle_rows.specs.RowAt.{told_left, nation_row_at, entries_at, nations_left}
 use Rattle.chronicle_rows.specs.declared.rows.NationRow as Row
 use Rattle.chronicle_rows.specs.declared.rows.Kind as Code
 use Rattle.chronicle_rows.specs.Cases.{nation_told, nation_in, kind_told}
@@ -50,11 +50,6 @@ pub claims_all : (ws es : List ℕ) (owner : ℕ) (own : List Entry) (rows : Lis
     → left_of es owner own 0 (map nation_told rows) ≡ claims_in ws es
 unfolding left_of claims_in
 claims_all ws es owner own rows n e = rw (n, e, nation_rows_told) refl
-
--- What is left of a walk that begins is all claims.
-pub walk-start : (ws : List ℕ) (c : Claims) → counted_left c.own ≡ [] → c.coming ≡ 0 → nations_left c.nations ≡ nation_rows_in ws → claims_left c ≡ claims_in ws c.entries.now
-unfolding left_of claims_in
-walk-start ws c a b d = rw (a, b, d) refl
 
 module _ (es : List ℕ) (owner i : ℕ) (own : List Entry) where
   -- Where no entry is left and no nation, no claim is.
@@ -118,7 +113,7 @@ module _ (ws : List ℕ) where
 -- ## The last initial
 
 abbrev pub nation_steps : LentRows Row.NationRow nation_width → code.Option Row.NationRow → LentRows Row.NationRow nation_width → Type 0
-nation_steps = YieldsFirst (λ rows. map nation_in rows.rows.now)
+nation_steps = YieldsFirst (told_left nation_in)
 
 -- The claim of a nation's number and its row.
 abbrev pub numbered-claim : ℕ × Row.NationRow → Claim
@@ -156,22 +151,16 @@ pub initial-last : {F : Type 0} {it : LentRows Row.NationRow nation_width} {en :
     → (xs : List (ℕ × Row.NationRow)) → Drains (filter_steps (enumerate_steps nation_steps) g) s xs → (r : code.Option (ℕ × Row.NationRow)) → r ≡ code-last None xs
     → (m : code.Option Claim) → m ≡ option_map numbered-claim r → option_of m ≡ last_to tag (initial_claims ws)
 initial-last {it = it} g tag ws rows source count from callee called xs d r e m k =
-    let all : List (ℕ × Row.NationRow) = enumerate_from 0 (map nation_in it.rows.now) in
+    let all : List (ℕ × Row.NationRow) = enumerate_from 0 (told_left nation_in it) in
     let road =
     YieldsList-from_filter g (λ p. same_tag p.1.initial tag)
-    (YieldsList-at from (YieldsList-from_enumerate (YieldsList-at source (YieldsList-from_first (λ n. n) (λ rs. map nation_in rs.rows.now) {s = it} (map nation_in it.rows.now) refl)) count))
+    (YieldsList-at from (YieldsList-from_enumerate (YieldsList-at source (YieldsList-from_first (λ n. n) (told_left nation_in) {s = it} (told_left nation_in it) refl)) count))
     callee called in
     let came : map (λ p. p) xs ≡ filter (λ p. same_tag p.1.initial tag) all = (YieldsList-end road xs d.1.0 d.1.1 None d.0 refl d.1.2).0 in
     ap option_of (k ∙ ap (option_map numbered-claim) e) ∙ last-mapped numbered-claim xs
-    ∙ ap last (ap (map numbered-claim) (sym (map-id xs) ∙ came) ∙ numbered-kept tag 0 (map nation_in it.rows.now) ∙ ap (λ rs. keep (λ c. same_tag c.tag tag) (initials_from 0 rs)) rows)
+    ∙ ap last (ap (map numbered-claim) (sym (map-id xs) ∙ came) ∙ numbered-kept tag 0 (told_left nation_in it) ∙ ap (λ rs. keep (λ c. same_tag c.tag tag) (initials_from 0 rs)) rows)
 
 -- ## The best claim
-
--- A scan of two lists, one behind the other.
-pub scan-append : (p : Claim → Bool) (best : Option Claim) (xs ys : List Claim)
-    → scan claim_day best (keep p (xs ++ ys)) ≡ scan claim_day (scan claim_day best (keep p xs)) (keep p ys)
-scan-append p best [] ys = refl
-scan-append p best (x ∷ xs) ys = cases (p x) (λ h. simp h (scan-append p (better claim_day best x) xs ys)) (λ h. simp h (scan-append p best xs ys))
 
 -- The closure gives the later of two claims, and of equals the second, and stays as it was.
 module _ {F : Type 0} (g : Mut F (Claim × (Claim × Unit {0})) Claim) (f : F)

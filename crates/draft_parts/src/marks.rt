@@ -12,8 +12,8 @@ use chronicle_rows::Nations;
 use record::CountryTag;
 use search::{SortedKeys, first_place};
 
-// How many numbers a word can hold.
-const WORDS: u64 = 1 << 32;
+// Numbers of nations are words: each is below this.
+const MARK_SPAN: u64 = 1 << 32;
 
 // Writes the word into the cell at a place, unless a word stands there. By its index: a proof knows no cell of a slice behind `get_mut`.
 fn mark_cell(cells: &mut [u64], place: Option<usize>, word: u64)
@@ -44,5 +44,5 @@ pub fn stored_nation(countries: SortedKeys<'_>, cells: &[u64], tag: CountryTag) 
 {
     let place = first_place(countries, tag)?;
     let number = cells.get(place)?.checked_sub(1)?;
-    Some((number % WORDS) as u32)
+    Some((number % MARK_SPAN) as u32)
 }

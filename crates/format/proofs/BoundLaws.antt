@@ -17,7 +17,7 @@ use Rattle.format.specs.declared.tag.CountryTag.{CountryTag}
 use Rattle.format.specs.declared.date.Eu4Date.{Eu4Date}
 use Rattle.format.specs.declared.rows.OwnerEvent.{OwnerEvent}
 use Rattle.format.specs.Dates.{good_date, year, month, day, month_table, month_days}
-use Rattle.format.specs.Head.{head_of, countries_at, switches_at, events_at}
+use Rattle.format.specs.Head.{head_of, countries_at, switches_at, events_at, country_bytes, switch_bytes, owner_event_bytes}
 use Rattle.format.specs.Rows.{country_at, switch_at, owner_event_at}
 use Rattle.format.specs.Campaign.{Province, country_rows, previous_tags, switch_rows, province_rows, owner_events, campaign_of}
 use Rattle.format.specs.Refusal.{refusal}
@@ -92,22 +92,22 @@ few-events xs h = omega (arith, length-joined (λ (p : Province). p.events) (cam
 
 -- ## How many bytes rows take
 
--- An owner event takes 7 bytes of the record.
-pub events-bytes : (xs : List ℕ) → refusal xs ≡ 0 → 7 * sum_of (λ p. length p.events) (campaign_of xs).provinces ≤ length xs
+-- An owner event takes its bytes of the record.
+pub events-bytes : (xs : List ℕ) → refusal xs ≡ 0 → owner_event_bytes * sum_of (λ p. length p.events) (campaign_of xs).provinces ≤ length xs
 unfolding campaign_of
 events-bytes xs h =
     let joined = length-joined (λ (p : Province). p.events) (campaign_of xs).provinces in
     let owned = events-owned (province_rows xs) (owner_events xs) in
-    let counted = rows-counted (owner_event_at xs) 7 xs (events_at (head_of xs)) (head_of xs).events in
+    let counted = rows-counted (owner_event_at xs) owner_event_bytes xs (events_at (head_of xs)) (head_of xs).events in
     omega (arith, (accepted-laid xs (accepted xs h)).inside)
 
--- A switch takes 7 of them, and a country more.
+-- A switch takes its bytes, and a country more.
 pub switches-bytes : (xs : List ℕ) → refusal xs ≡ 0
-    → 7 * (length (campaign_of xs).countries + length (join_of (λ k. k.switches) (campaign_of xs).countries)) ≤ length xs
+    → switch_bytes * (length (campaign_of xs).countries + length (join_of (λ k. k.switches) (campaign_of xs).countries)) ≤ length xs
 unfolding campaign_of
 switches-bytes xs h =
     let owned = switches-owned (country_rows xs) (previous_tags xs) (switch_rows xs) in
-    let switches = rows-counted (switch_at xs) 7 xs (switches_at (head_of xs)) (head_of xs).switches in
+    let switches = rows-counted (switch_at xs) switch_bytes xs (switches_at (head_of xs)) (head_of xs).switches in
     let grouped = countries-length (country_rows xs) (previous_tags xs) (switch_rows xs) in
-    let countries = rows-counted (country_at xs) 12 xs (countries_at (head_of xs)) (head_of xs).countries in
+    let countries = rows-counted (country_at xs) country_bytes xs (countries_at (head_of xs)) (head_of xs).countries in
     omega (arith, (accepted-laid xs (accepted xs h)).inside)

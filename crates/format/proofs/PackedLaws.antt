@@ -9,7 +9,7 @@ use lib.ListN.{length, take, drop}
 use Rattle.std.proofs.lemmas.List.{get_or-take, get_or-drop, drop-drop}
 use Rattle.std.specs.Simd.{first_chunks}
 use Rattle.format.specs.Bytes.{byte_at, le16, le32, tag_at, date_at, id_at}
-use Rattle.format.specs.Head.{head_of}
+use Rattle.format.specs.Head.{head_of, country_bytes, switch_bytes, province_bytes, owner_event_bytes, war_event_bytes, ledger_bytes, point_bytes, head_bytes}
 use Rattle.format.specs.Rows.{rows_at, country_at, switch_at, province_at, owner_event_at, war_event_at, ledger_at, point_at}
 
 -- The same w bytes at two places.
@@ -49,7 +49,7 @@ reads-date : Reads 4 date_at
 unfolding date_at
 reads-date xs a ys b s = rw (reads-le32 xs a ys b s)
 
-pub reads-country : Reads 12 country_at
+pub reads-country : Reads country_bytes country_at
 unfolding country_at
 reads-country xs a ys b s =
     rw (
@@ -60,11 +60,11 @@ reads-country xs a ys b s =
       reads-le16 xs (a + 10) ys (b + 10) (part s 10 2 (omega arith)),
     )
 
-pub reads-switch : Reads 7 switch_at
+pub reads-switch : Reads switch_bytes switch_at
 unfolding switch_at
 reads-switch xs a ys b s = rw (reads-date xs a ys b (front s 4 (omega arith)), reads-tag xs (a + 4) ys (b + 4) (part s 4 3 (omega arith)))
 
-pub reads-province : Reads 7 province_at
+pub reads-province : Reads province_bytes province_at
 unfolding province_at id_at
 reads-province xs a ys b s =
     rw (
@@ -73,11 +73,11 @@ reads-province xs a ys b s =
       reads-le16 xs (a + 5) ys (b + 5) (part s 5 2 (omega arith)),
     )
 
-pub reads-owner-event : Reads 7 owner_event_at
+pub reads-owner-event : Reads owner_event_bytes owner_event_at
 unfolding owner_event_at
 reads-owner-event xs a ys b s = rw (reads-date xs a ys b (front s 4 (omega arith)), reads-tag xs (a + 4) ys (b + 4) (part s 4 3 (omega arith)))
 
-pub reads-war-event : Reads 8 war_event_at
+pub reads-war-event : Reads war_event_bytes war_event_at
 unfolding war_event_at
 reads-war-event xs a ys b s =
     rw (
@@ -86,16 +86,16 @@ reads-war-event xs a ys b s =
       reads-tag xs (a + 5) ys (b + 5) (part s 5 3 (omega arith)),
     )
 
-pub reads-ledger : Reads 5 ledger_at
+pub reads-ledger : Reads ledger_bytes ledger_at
 unfolding ledger_at
 reads-ledger xs a ys b s = rw (reads-tag xs a ys b (front s 3 (omega arith)), reads-le16 xs (a + 3) ys (b + 3) (part s 3 2 (omega arith)))
 
-pub reads-point : Reads 6 point_at
+pub reads-point : Reads point_bytes point_at
 unfolding point_at
 reads-point xs a ys b s = rw (reads-le16 xs a ys b (front s 2 (omega arith)), reads-le32 xs (a + 2) ys (b + 2) (part s 2 4 (omega arith)))
 
 -- A head is read from its first 44 bytes, zeros for those that are not there.
-pub head-same : (xs ys : List ℕ) → Same 44 xs 0 ys 0 → head_of xs ≡ head_of ys
+pub head-same : (xs ys : List ℕ) → Same head_bytes xs 0 ys 0 → head_of xs ≡ head_of ys
 unfolding head_of
 head-same xs ys s =
     rw (

@@ -1,7 +1,7 @@
--- Rows at an offset, one at a time, and how many a section has.
+-- Rows at an offset: how many a section has.
 use mathlib.Core.Path.{◌≡◌, refl, ap}
-use mathlib.Core.List.{List, [], ◌∷◌}
-use Prim.Native.Nat.{ℕ, zero, suc, ◌+◌, ◌-◌, ◌*◌, ◌<◌, ◌≤◌}
+use mathlib.Core.List.{List, []}
+use Prim.Native.Nat.{ℕ, zero, suc, ◌+◌, ◌*◌, ◌<◌, ◌≤◌}
 use native.Mathlib.Nat.{mul-suc}
 use native.Mathlib.Omega.{arith}
 use native.Mathlib.Decide.{dec_le}
@@ -13,11 +13,6 @@ module _ {A : Type 0} (row : ℕ → A) (width : ℕ) (xs : List ℕ) where
   pub rows_none : (at : ℕ) → rows_at row width xs at 0 ≡ []
   unfolding rows_at
   rows_none at = refl
-
-  pub rows_more : (at n : ℕ) → 0 < n → at + width ≤ length xs → rows_at row width xs at n ≡ row at ∷ rows_at row width xs (at + width) (n - 1)
-  unfolding rows_at
-  rows_more at zero p h = absurd (omega arith)
-  rows_more at (suc n) p h = let f : suc n - 1 ≡ n = omega arith in simp (le-leb _ _ h, f)
 
   -- at most as many as are counted
   pub rows-counted : (at n : ℕ) → length (rows_at row width xs at n) ≤ n

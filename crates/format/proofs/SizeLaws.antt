@@ -1,4 +1,4 @@
--- Where the strings end, the totals of the counts in a section's rows, and that sizes which agree lay the sections inside the bytes.
+-- Where the strings end, and that sizes which agree lay the sections inside the bytes.
 use mathlib.Core.Path.{◌≡◌, refl, ap, ◌∙◌}
 use mathlib.Core.List.{List}
 use Prim.Native.Nat.{ℕ, zero, suc, ◌+◌, ◌≤◌}
@@ -8,12 +8,10 @@ use Rattle.std.proofs.lemmas.List.{get_or-drop}
 use borrow.Author.Tests.{eqb-true}
 use mathlib.Core.Bool.{true, ◌&&◌}
 use lib.Dec.{eqb}
-use Rattle.lists.specs.Lists.{sum_of}
 use Rattle.lists.proofs.BoolLaws.{and_left, and_right}
 use Rattle.format.specs.declared.head.Head.{Head}
 use Rattle.format.specs.Head.{head_of, within_limits, strings_at}
 use Rattle.format.specs.Laid.{Laid}
-use Rattle.format.specs.Campaign.{country_rows, province_rows, war_rows, ledger_rows}
 use Rattle.format.specs.Refusal.{totals_agree, length_agrees, sizes_agree}
 use Rattle.format.specs.Bytes.{byte_at}
 use Rattle.format.specs.Rows.{strings_end}
@@ -32,17 +30,6 @@ strings-end-behind xs at k (suc n) =
     let byte : byte_at (drop at xs) k ≡ byte_at xs (at + k) = get_or-drop at xs k 0 in
     let next : at + k + 1 + byte_at xs (at + k) ≡ at + (k + 1 + byte_at (drop at xs) k) = rw byte (omega arith) in
     ap (λ (p : ℕ). strings_end xs p n) next ∙ strings-end-behind xs at (k + 1 + byte_at (drop at xs) k) n
-
--- the sums of the counts against the head's totals
-pub totals-told : (xs : List ℕ) (h : Head) (a b e v y : ℕ) → h ≡ head_of xs
-    → a ≡ sum_of (λ r. r.previous) (country_rows xs)
-    → b ≡ sum_of (λ r. r.switches) (country_rows xs)
-    → e ≡ sum_of (λ r. r.events) (province_rows xs)
-    → v ≡ sum_of (λ (n : ℕ). n) (war_rows xs)
-    → y ≡ sum_of (λ r. r.points) (ledger_rows xs)
-    → eqb a h.previous && eqb b h.switches && eqb e h.events && eqb v h.war_events && eqb y h.points ≡ totals_agree xs
-unfolding totals_agree
-totals-told xs h a b e v y eh ea eb ee ev ey = rw (eh, ea, eb, ee, ev, ey)
 
 -- sizes that agree lay the sections inside the bytes
 pub laid : (xs : List ℕ) (k : Head) → k ≡ head_of xs → sizes_agree xs ≡ true → Laid xs k

@@ -19,7 +19,7 @@ use Rattle.format.specs.declared.rows.WarEvent.{WarEvent}
 use Rattle.format.specs.declared.rows.Point.{Point}
 use Rattle.format.specs.Tags.{is_tag}
 use Rattle.format.specs.Dates.{good_date}
-use Rattle.format.specs.Head.{head_of, provinces_at}
+use Rattle.format.specs.Head.{head_of, provinces_at, province_bytes}
 use Rattle.format.specs.Rows.{PackedCountry, PackedProvince, province_at, PackedLedger}
 use Rattle.format.specs.Campaign.{country_rows, previous_tags, switch_rows, province_rows, owner_events, war_rows, war_events, ledger_rows, points, group_countries, group_provinces, group_wars, group_ledgers, campaign_of}
 use Rattle.format.specs.Laid.{Laid}
@@ -172,7 +172,7 @@ province-ids (r ∷ rs) es = ap (λ (l : List ℕ). r.id.0 ∷ l) (province-ids 
 province-count : (xs : List ℕ) → Laid xs (head_of xs) → length (group_provinces (province_rows xs) (owner_events xs)) ≡ (head_of xs).provinces
 province-count xs l =
     provinces-length (province_rows xs) (owner_events xs)
-    ∙ rows_all (province_at xs) 7 xs (provinces_at (head_of xs)) (head_of xs).provinces (omega (arith, l.inside))
+    ∙ rows_all (province_at xs) province_bytes xs (provinces_at (head_of xs)) (head_of xs).provinces (omega (arith, l.inside))
 
 pub sound : (xs : List ℕ) → refusal xs ≡ 0 → Sound (campaign_of xs)
 unfolding campaign_of tag_twice id_twice_or_above

@@ -8,46 +8,46 @@ use Rattle.format.specs.declared.rows.OwnerEvent.{OwnerEvent}
 use Rattle.format.specs.declared.rows.WarEvent.{WarEvent}
 use Rattle.format.specs.declared.rows.Point.{Point}
 use Rattle.format.specs.Bytes.{bit, le16, tag_at}
-use Rattle.format.specs.Head.{head_of, countries_at, previous_at, switches_at, provinces_at, events_at, wars_at, war_events_at, ledgers_at, points_at, strings_at}
+use Rattle.format.specs.Head.{head_of, countries_at, previous_at, switches_at, provinces_at, events_at, wars_at, war_events_at, ledgers_at, points_at, strings_at, country_bytes, previous_bytes, switch_bytes, province_bytes, owner_event_bytes, war_bytes, war_event_bytes, ledger_bytes, point_bytes}
 use Rattle.format.specs.Rows.{rows_at, PackedCountry, country_at, switch_at, PackedProvince, province_at, owner_event_at, war_event_at, PackedLedger, ledger_at, point_at, strings_from}
 
 -- ## The sections, flat: each section's rows in file order, so many as the head says
 
 -- Countries.
 abbrev pub country_rows : List ℕ → List PackedCountry
-country_rows xs = rows_at (country_at xs) 12 xs (countries_at (head_of xs)) (head_of xs).countries
+country_rows xs = rows_at (country_at xs) country_bytes xs (countries_at (head_of xs)) (head_of xs).countries
 
 -- Previous tags of all countries.
 abbrev pub previous_tags : List ℕ → List CountryTag
-previous_tags xs = rows_at (tag_at xs) 3 xs (previous_at (head_of xs)) (head_of xs).previous
+previous_tags xs = rows_at (tag_at xs) previous_bytes xs (previous_at (head_of xs)) (head_of xs).previous
 
 -- Switches of all countries.
 abbrev pub switch_rows : List ℕ → List Switch
-switch_rows xs = rows_at (switch_at xs) 7 xs (switches_at (head_of xs)) (head_of xs).switches
+switch_rows xs = rows_at (switch_at xs) switch_bytes xs (switches_at (head_of xs)) (head_of xs).switches
 
 -- Provinces.
 abbrev pub province_rows : List ℕ → List PackedProvince
-province_rows xs = rows_at (province_at xs) 7 xs (provinces_at (head_of xs)) (head_of xs).provinces
+province_rows xs = rows_at (province_at xs) province_bytes xs (provinces_at (head_of xs)) (head_of xs).provinces
 
 -- Owner events of all provinces.
 abbrev pub owner_events : List ℕ → List OwnerEvent
-owner_events xs = rows_at (owner_event_at xs) 7 xs (events_at (head_of xs)) (head_of xs).events
+owner_events xs = rows_at (owner_event_at xs) owner_event_bytes xs (events_at (head_of xs)) (head_of xs).events
 
 -- Wars: a war's row is the count of its events.
 abbrev pub war_rows : List ℕ → List ℕ
-war_rows xs = rows_at (le16 xs) 2 xs (wars_at (head_of xs)) (head_of xs).wars
+war_rows xs = rows_at (le16 xs) war_bytes xs (wars_at (head_of xs)) (head_of xs).wars
 
 -- War events of all wars.
 abbrev pub war_events : List ℕ → List WarEvent
-war_events xs = rows_at (war_event_at xs) 8 xs (war_events_at (head_of xs)) (head_of xs).war_events
+war_events xs = rows_at (war_event_at xs) war_event_bytes xs (war_events_at (head_of xs)) (head_of xs).war_events
 
 -- Ledger names.
 abbrev pub ledger_rows : List ℕ → List PackedLedger
-ledger_rows xs = rows_at (ledger_at xs) 5 xs (ledgers_at (head_of xs)) (head_of xs).ledgers
+ledger_rows xs = rows_at (ledger_at xs) ledger_bytes xs (ledgers_at (head_of xs)) (head_of xs).ledgers
 
 -- Points of all ledger names.
 abbrev pub points : List ℕ → List Point
-points xs = rows_at (point_at xs) 6 xs (points_at (head_of xs)) (head_of xs).points
+points xs = rows_at (point_at xs) point_bytes xs (points_at (head_of xs)) (head_of xs).points
 
 -- Strings.
 abbrev pub strings : List ℕ → List (List ℕ)

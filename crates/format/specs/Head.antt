@@ -38,34 +38,68 @@ within_limits h =
     && leb h.ledgers 2000
     && leb h.points 1000000
 
--- Widths of the rows: country 12, previous tag 3, switch 7, province 7, owner event 7, war 2, war event 8, ledger name 5, point 6.
--- Sections follow the 44 bytes of the head in this order, so each begins where the one before it ends.
+-- ## Widths
+
+-- How many bytes the head takes, and a row of each section.
+abbrev pub head_bytes : ℕ
+head_bytes = 44
+
+abbrev pub country_bytes : ℕ
+country_bytes = 12
+
+abbrev pub previous_bytes : ℕ
+previous_bytes = 3
+
+abbrev pub switch_bytes : ℕ
+switch_bytes = 7
+
+abbrev pub province_bytes : ℕ
+province_bytes = 7
+
+abbrev pub owner_event_bytes : ℕ
+owner_event_bytes = 7
+
+abbrev pub war_bytes : ℕ
+war_bytes = 2
+
+abbrev pub war_event_bytes : ℕ
+war_event_bytes = 8
+
+abbrev pub ledger_bytes : ℕ
+ledger_bytes = 5
+
+abbrev pub point_bytes : ℕ
+point_bytes = 6
+
+-- ## Sections
+
+-- They follow the head in this order, so each begins where the one before it ends.
 abbrev pub countries_at : Head → ℕ
-countries_at h = 44
+countries_at h = head_bytes
 
 abbrev pub previous_at : Head → ℕ
-previous_at h = countries_at h + 12 * h.countries
+previous_at h = countries_at h + country_bytes * h.countries
 
 abbrev pub switches_at : Head → ℕ
-switches_at h = previous_at h + 3 * h.previous
+switches_at h = previous_at h + previous_bytes * h.previous
 
 abbrev pub provinces_at : Head → ℕ
-provinces_at h = switches_at h + 7 * h.switches
+provinces_at h = switches_at h + switch_bytes * h.switches
 
 abbrev pub events_at : Head → ℕ
-events_at h = provinces_at h + 7 * h.provinces
+events_at h = provinces_at h + province_bytes * h.provinces
 
 abbrev pub wars_at : Head → ℕ
-wars_at h = events_at h + 7 * h.events
+wars_at h = events_at h + owner_event_bytes * h.events
 
 abbrev pub war_events_at : Head → ℕ
-war_events_at h = wars_at h + 2 * h.wars
+war_events_at h = wars_at h + war_bytes * h.wars
 
 abbrev pub ledgers_at : Head → ℕ
-ledgers_at h = war_events_at h + 8 * h.war_events
+ledgers_at h = war_events_at h + war_event_bytes * h.war_events
 
 abbrev pub points_at : Head → ℕ
-points_at h = ledgers_at h + 5 * h.ledgers
+points_at h = ledgers_at h + ledger_bytes * h.ledgers
 
 abbrev pub strings_at : Head → ℕ
-strings_at h = points_at h + 6 * h.points
+strings_at h = points_at h + point_bytes * h.points

@@ -11,7 +11,7 @@ use Rattle.format.specs.declared.rows.WarEvent.{WarEvent}
 use Rattle.format.specs.Tags.{is_tag}
 use Rattle.format.specs.Dates.{good_date, earlier}
 use Rattle.format.specs.Bytes.{byte_at}
-use Rattle.format.specs.Head.{head_of, within_limits, strings_at}
+use Rattle.format.specs.Head.{head_of, within_limits, strings_at, head_bytes}
 use Rattle.format.specs.Rows.{PackedCountry, strings_end}
 use Rattle.format.specs.Campaign.{country_rows, previous_tags, switch_rows, province_rows, owner_events, war_rows, war_events, ledger_rows, points}
 
@@ -27,7 +27,7 @@ first_in number rows = first_of (map number rows)
 
 -- A head's 44 bytes, opening with `ATL`.
 unfoldable pub opens : List ℕ → Bool
-opens xs = leb 44 (length xs) && (eqb (byte_at xs 0) 65 && eqb (byte_at xs 1) 84 && eqb (byte_at xs 2) 76)
+opens xs = leb head_bytes (length xs) && (eqb (byte_at xs 0) 65 && eqb (byte_at xs 1) 84 && eqb (byte_at xs 2) 76)
 
 -- 1: there is no such head.
 abbrev pub opening_number : List ℕ → ℕ

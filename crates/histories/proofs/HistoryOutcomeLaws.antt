@@ -45,12 +45,13 @@ use Rattle.histories.proofs.NameLaws.{players-rising, names-told}
 use Rattle.histories.proofs.HistoryDraftLaws.{history-parts, draft-history}
 use Rattle.arranging.proofs.ArrangeStepLaws.{length-all-names}
 use Rattle.histories.proofs.ArrangedLaws.{words_same, names_same, count_same}
+use Rattle.search.specs.Places.{keys_per_tag}
 
 -- ## The drafts of a campaign
 
 -- The run of a tag lies inside the keys.
 run_inside : (keys : List ℕ) (tag : CountryTag) → keys_before keys tag + run_length keys tag ≤ length keys
-run_inside keys tag = omega (arith, count-le (λ n. ltb n (tag.0 * 65536)) keys, count-le (λ n. ltb n (tag.0 * 65536 + 65536)) keys)
+run_inside keys tag = omega (arith, count-le (λ n. ltb n (tag.0 * keys_per_tag)) keys, count-le (λ n. ltb n (tag.0 * keys_per_tag + keys_per_tag)) keys)
 
 module _ (c : Campaign) (ws es : List ℕ) (shaped : well_shaped ws es ≡ true) (numbered : length (nation_rows_in ws) ≤ 4294967295) (few : length c.strings ≤ 1000) where
   abbrev keys : List ℕ

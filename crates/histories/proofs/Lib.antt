@@ -1,5 +1,4 @@
 pub mod PlayerKeyLaws
-pub mod DraftStepLaws
 pub mod DraftLaws
 pub mod NameLaws
 pub mod HistoryDraftLaws

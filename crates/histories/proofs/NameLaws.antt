@@ -24,6 +24,7 @@ use Rattle.rules.specs.Histories.{names_of}
 use Rattle.histories.specs.Tables.{player_key}
 use Rattle.arranging.specs.Arranging.{name_in}
 use Rattle.histories.specs.Drafts.{keys_before, run_length}
+use Rattle.search.specs.Places.{keys_per_tag}
 
 -- ## Names rise
 
@@ -54,7 +55,7 @@ pairs-rising multiplayer n (a ∷ b ∷ ss) =
       order-append (λ q. q.name) n left right (all_map (λ q h. omega (arith, h.1)) left one.0) (all_map (λ q h. omega (arith, h.0)) right rest.0) one.1 rest.1,
     )
 
-pub players-rising : (c : Campaign) → length c.strings ≤ 1000 → Rising 0 65536 (players_of c)
+pub players-rising : (c : Campaign) → length c.strings ≤ 1000 → Rising 0 keys_per_tag (players_of c)
 unfolding players_of
 players-rising c few =
     let r = pairs-rising c.multiplayer 0 c.strings in
@@ -62,41 +63,41 @@ players-rising c few =
 
 -- ## The keys of one tag
 
-own_key : (a b m : ℕ) → m < 65536 → (leb (b * 65536) (a * 65536 + m) && ltb (a * 65536 + m) (b * 65536 + 65536)) ≡ eqb a b
+own_key : (a b m : ℕ) → m < keys_per_tag → (leb (b * keys_per_tag) (a * keys_per_tag + m) && ltb (a * keys_per_tag + m) (b * keys_per_tag + keys_per_tag)) ≡ eqb a b
 own_key a b m h =
     cases (eqb a b)
-    (λ e. let q = eqb-true a b e in simp (e, le-leb (b * 65536) (a * 65536 + m) (omega arith), lt-ltb (a * 65536 + m) (b * 65536 + 65536) (omega arith)))
-    (λ e. cases (leb (b * 65536) (a * 65536 + m))
-    (λ l. let up = leb-true (b * 65536) (a * 65536 + m) l in
+    (λ e. let q = eqb-true a b e in simp (e, le-leb (b * keys_per_tag) (a * keys_per_tag + m) (omega arith), lt-ltb (a * keys_per_tag + m) (b * keys_per_tag + keys_per_tag) (omega arith)))
+    (λ e. cases (leb (b * keys_per_tag) (a * keys_per_tag + m))
+    (λ l. let up = leb-true (b * keys_per_tag) (a * keys_per_tag + m) l in
     let apart = eqb-false a b e in
-    let past : b * 65536 + 65536 ≤ a * 65536 + m = omega arith in
-    simp (e, l, le-ltb (a * 65536 + m) (b * 65536 + 65536) past))
+    let past : b * keys_per_tag + keys_per_tag ≤ a * keys_per_tag + m = omega arith in
+    simp (e, l, le-ltb (a * keys_per_tag + m) (b * keys_per_tag + keys_per_tag) past))
     (λ l. simp (e, l)))
 
-module _ (ps : List Player) (tag : CountryTag) (rising : Rising 0 65536 ps) where
+module _ (ps : List Player) (tag : CountryTag) (rising : Rising 0 keys_per_tag ps) where
   abbrev own : List Player
   own = keep (λ p. same_tag p.tag tag) ps
 
   abbrev is_own : ℕ → Bool
-  is_own k = leb (tag.0 * 65536) k && ltb k (tag.0 * 65536 + 65536)
+  is_own k = leb (tag.0 * keys_per_tag) k && ltb k (tag.0 * keys_per_tag + keys_per_tag)
 
   keys-own : keep is_own (map player_key ps) ≡ map player_key own
   keys-own =
       keep-map is_own player_key ps
-      ∙ ap (map player_key) (keep_same (λ p. is_own (player_key p)) (λ p. same_tag p.tag tag) ps (all-each (λ p. own_key p.tag.0 tag.0 (p.name % 65536) (omega arith)) ps))
+      ∙ ap (map player_key) (keep_same (λ p. is_own (player_key p)) (λ p. same_tag p.tag tag) ps (all-each (λ p. own_key p.tag.0 tag.0 (p.name % keys_per_tag) (omega arith)) ps))
 
-  ordered : (qs : List Player) → All (λ q. (same_tag q.tag tag ≡ true) × (q.name < 65536)) qs → InOrder (λ (q : Player). q.name) qs → Ordered leb (map player_key qs)
+  ordered : (qs : List Player) → All (λ q. (same_tag q.tag tag ≡ true) × (q.name < keys_per_tag)) qs → InOrder (λ (q : Player). q.name) qs → Ordered leb (map player_key qs)
   ordered [] a o = tt
   ordered (q ∷ qs) a o =
       (go qs a.1 o.0, ordered qs a.1 o.1)
     where
-      go : (rs : List Player) → All (λ r. (same_tag r.tag tag ≡ true) × (r.name < 65536)) rs → All (λ r. q.name ≤ r.name) rs → All (λ k. leb (player_key q) k ≡ true) (map player_key rs)
+      go : (rs : List Player) → All (λ r. (same_tag r.tag tag ≡ true) × (r.name < keys_per_tag)) rs → All (λ r. q.name ≤ r.name) rs → All (λ k. leb (player_key q) k ≡ true) (map player_key rs)
       go [] b l = tt
       go (r ∷ rs) b l =
           let x = eqb-true q.tag.0 tag.0 a.0.0 in
           let y = eqb-true r.tag.0 tag.0 b.0.0 in
-          let m : q.name % 65536 ≡ q.name = omega (arith, a.0.1) in
-          let n : r.name % 65536 ≡ r.name = omega (arith, b.0.1) in
+          let m : q.name % keys_per_tag ≡ q.name = omega (arith, a.0.1) in
+          let n : r.name % keys_per_tag ≡ r.name = omega (arith, b.0.1) in
           (le-leb (player_key q) (player_key r) (rw (m, n, x, y) (omega (arith, l.0))), go rs b.1 l.1)
 
   pub names-told : map name_in (take (run_length (sort_by leb (map player_key ps)) tag) (drop (keys_before (sort_by leb (map player_key ps)) tag) (sort_by leb (map player_key ps)))) ≡ names_of ps tag
@@ -104,10 +105,10 @@ module _ (ps : List Player) (tag : CountryTag) (rising : Rising 0 65536 ps) wher
   names-told =
       let keys : List ℕ = sort_by leb (map player_key ps) in
       let small = all_map (λ q h. h.1) ps rising.0 in
-      let each = all_both (λ q. same_tag q.tag tag ≡ true) (λ q. q.name < 65536) own (all-kept (λ p. same_tag p.tag tag) ps) (all_keep (λ q. q.name < 65536) (λ p. same_tag p.tag tag) ps small) in
+      let each = all_both (λ q. same_tag q.tag tag ≡ true) (λ q. q.name < keys_per_tag) own (all-kept (λ p. same_tag p.tag tag) ps) (all_keep (λ q. q.name < keys_per_tag) (λ p. same_tag p.tag tag) ps small) in
       let sorted : sort_by leb (map player_key own) ≡ map player_key own = sort-ordered leb (map player_key own) (ordered own each (order-keep (λ q. q.name) (λ p. same_tag p.tag tag) ps rising.1)) in
       ap (map name_in)
-      (part-within (tag.0 * 65536) (tag.0 * 65536 + 65536) (omega arith) keys (keys-in-order (map player_key ps))
+      (part-within (tag.0 * keys_per_tag) (tag.0 * keys_per_tag + keys_per_tag) (omega arith) keys (keys-in-order (map player_key ps))
       ∙ keep-sort leb leb-total leb-trans is_own (map player_key ps)
       ∙ ap (sort_by leb) keys-own
       ∙ sorted)

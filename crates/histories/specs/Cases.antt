@@ -1,2 +1,2 @@
 -- What the cases of the answer stand for is said by arranging.
-pub use Rattle.arranging.specs.Cases.{counts_told, histories_answer, history_cells, histories_outcome}
+pub use Rattle.arranging.specs.Cases.{counts_told, history_cells, histories_outcome}

@@ -23,7 +23,6 @@ fn player_run(players: SortedKeys<'_>, tag: CountryTag) -> Range<usize>
 }
 
 // The draft of a country by the tables.
-#[tactic(auto, using(crate::proofs::DraftStepLaws::draft_by_tables))]
 fn draft_for(
     row: CountryRow<'_>,
     nations: &[u32],

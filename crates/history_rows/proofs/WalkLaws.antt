@@ -16,6 +16,7 @@ use Rattle.std.proofs.lemmas.Iterator.Consumers.{YieldsList-at, YieldsList-from_
 use Rattle.lists.specs.Lists.{keep}
 use Rattle.lists.proofs.CodeLaws.{filter_keep}
 use Rattle.chronicle_rows.specs.declared.rows.LentRows.{LentRows}
+use Rattle.chronicle_rows.specs.RowAt.{told_left}
 use Rattle.rules.specs.HistoryRows.{history_width, HistoryRow}
 use Rattle.history_rows.specs.declared.rows.HistoryRow as HistoryRow
 use Rattle.history_rows.specs.Cases.{history_told, history_in}
@@ -23,7 +24,7 @@ use Rattle.history_rows.specs.HistoryAt.{histories_left}
 
 -- The rows of a walk.
 abbrev pub walk_steps : LentRows HistoryRow.HistoryRow history_width → code.Option HistoryRow.HistoryRow → LentRows HistoryRow.HistoryRow history_width → Type 0
-walk_steps = YieldsFirst (λ rows. map history_in rows.rows.now)
+walk_steps = YieldsFirst (told_left history_in)
 
 pub rows-walked : {s : LentRows HistoryRow.HistoryRow history_width} (ds : List HistoryRow) → histories_left s ≡ ds → YieldsList walk_steps history_told s ds
 rows-walked {s} ds e =

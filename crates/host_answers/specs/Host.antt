@@ -52,8 +52,8 @@ call_events_on_cells xs date before = in_cells (call_events_on xs date) before
 -- ## `nation_events`, with the counts in a lent slice of their own
 
 -- How many counts there are.
-abbrev pub count_width : ℕ
-count_width = 5
+abbrev pub number_of_counts : ℕ
+number_of_counts = 5
 
 -- A word each: how many nations, entries, slots, countries and changes there are.
 abbrev pub count_words : NationCounts → List ℕ

@@ -1,6 +1,6 @@
 // The counts of nations, in a lent slice of their own.
 ghost use Rattle.std.specs.Prelude.{◌≡◌, leb, length};
-ghost use Rattle.host_answers.specs.Host.{count_width, Returns, word_cells};
+ghost use Rattle.host_answers.specs.Host.{number_of_counts, Returns, word_cells};
 ghost use Rattle.host_answers.specs.Inner.{low_word, low_counts};
 
 use crate::found::put_words;
@@ -9,12 +9,12 @@ use chronicle_rows::NationCounts;
 // How many counts there are.
 const COUNTS: usize = 5;
 
-// How many numbers a word can hold.
-const WORDS: usize = 1 << 32;
+// How many counts a word can tell apart: each is below it.
+const COUNT_SPAN: usize = 1 << 32;
 
 // Whether a slice has room for the counts.
 pub fn has_counts(out: &[u32]) -> bool
-    ensures { result ≡ leb count_width (length out.now) }
+    ensures { result ≡ leb number_of_counts (length out.now) }
 {
     COUNTS <= out.len()
 }
@@ -23,7 +23,7 @@ pub fn has_counts(out: &[u32]) -> bool
 fn low_word(count: usize) -> u32
     ensures { result ≡ low_word count }
 {
-    (count % WORDS) as u32
+    (count % COUNT_SPAN) as u32
 }
 
 // Writes the five counts, and gives 5: their lowest 32 bits, which of every record are all. Without room for them it gives minus 10, and

@@ -28,7 +28,7 @@ use Rattle.format.specs.Campaign.{Ledger}
 use Rattle.record.specs.declared.ledger.LedgerRow.{LedgerRow}
 use Rattle.record.specs.declared.ledger.Ledgers.{Ledgers}
 use Rattle.record.specs.Cursors.{points_left, ledger_of, ledgers_left}
-use Rattle.search.specs.Places.{tag_key, tag_keys_from, place_from}
+use Rattle.search.specs.Places.{tag_key, tag_keys_from, place_from, keys_per_tag}
 use Rattle.search.proofs.PlaceLaws.{tag-keys-nil, tag-keys-cons, length-tag-keys, first-placed, place_inside}
 use Rattle.ledger.specs.Index.{name_keys, all_points, points_in_range, IsIndex}
 
@@ -95,11 +95,11 @@ module _ {c : Ledgers} {left : List Ledger} {cells count first : ℕ} {keys₀ k
   standing-here : Standing (all_points (ledgers_left c)) first (ledger_of row ∷ rest)
   standing-here = subst (Standing (all_points (ledgers_left c)) first) e n.standing-left
 
-  naming-more : (key : ℕ) → key ≡ tag_key row.tag (count % 65536) → (m : ℕ) → m ≡ length (points_left row.points) → (place : Range ℕ)
+  naming-more : (key : ℕ) → key ≡ tag_key row.tag (count % keys_per_tag) → (m : ℕ) → m ≡ length (points_left row.points) → (place : Range ℕ)
       → place.start ≡ first → place.end ≡ first + m → Naming c rest cells (count + 1) (first + m) keys₀ (set keys count key) (set places count place)
   naming-more key k m q place f g =
       let long = ap length e in
-      let number : count % 65536 ≡ count = mod-eq_of_lt (omega (arith, n.few)) in
+      let number : count % keys_per_tag ≡ count = mod-eq_of_lt (omega (arith, n.few)) in
       let wide : (first + m) - first ≡ m = omega arith in
       let own : points_in_range (all_points (ledgers_left c)) place ≡ points_left row.points = rw (f, g, wide, q) (sym standing-here.0) in
       record {
@@ -118,10 +118,10 @@ module _ {c : Ledgers} {left : List Ledger} {cells count first : ℕ} {keys₀ k
       }
 
   -- By its number and the next, as the code counts.
-  pub naming-next : (at next : ℕ) → at ≡ count → next ≡ count + 1 → (key : ℕ) → key ≡ tag_key row.tag (at % 65536) → (m : ℕ)
+  pub naming-next : (at next : ℕ) → at ≡ count → next ≡ count + 1 → (key : ℕ) → key ≡ tag_key row.tag (at % keys_per_tag) → (m : ℕ)
       → m ≡ length (points_left row.points) → (place : Range ℕ) → place.start ≡ first → place.end ≡ first + m
       → Naming c rest cells next (first + m) keys₀ (set keys at key) (set places at place)
-  naming-next at next a b key k m q place f g = rw (a, b) (naming-more key (k ∙ ap (λ i. tag_key row.tag (i % 65536)) a) m q place f g)
+  naming-next at next a b key k m q place f g = rw (a, b) (naming-more key (k ∙ ap (λ i. tag_key row.tag (i % keys_per_tag)) a) m q place f g)
 
 -- ## The keys sorted
 
@@ -168,7 +168,7 @@ module _ {c : Ledgers} {left : List Ledger} {cells count first : ℕ} {keys₀ k
 -- ## A tag's points
 
 module _ {c : Ledgers} {keys : List ℕ} {places : List (Range ℕ)} (x : IsIndex c keys places) (tag : CountryTag) (r : code.Option ℕ)
-    (told : (ts : List CountryTag) → length ts ≤ 65536 → keys ≡ sort_by leb (tag_keys_from 0 ts) → option_of r ≡ place_from 0 tag ts) where
+    (told : (ts : List CountryTag) → length ts ≤ keys_per_tag → keys ≡ sort_by leb (tag_keys_from 0 ts) → option_of r ≡ place_from 0 tag ts) where
   abbrev names : List Ledger
   names = ledgers_left c
 

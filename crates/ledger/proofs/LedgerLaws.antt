@@ -14,7 +14,7 @@ use Rattle.format.specs.Tags.{same_tag}
 use Rattle.format.specs.Campaign.{Ledger}
 use Rattle.record.specs.Cursors.{Points, points_left}
 use Rattle.rules.specs.Lent.{written}
-use Rattle.rules.specs.Ledger.{LedgerPoint, row_points, span_points, point_rows}
+use Rattle.rules.specs.Ledger.{LedgerPoint, row_points, span_points, point_rows, ledger_width}
 use Rattle.spans.specs.declared.walk.Span.{Span}
 use Rattle.spans.specs.SpanSteps.{span_in}
 use Rattle.span_points.specs.PointSteps.{span_filled, FillsSpan}
@@ -63,12 +63,12 @@ module _ {all left : List LedgerPoint} {most n : ℕ} (k : PointsCounted all lef
 -- ## Rows
 
 -- Where there is room for all points, all are written.
-pub fills-whole : (ps : List LedgerPoint) (r : ℕ) (before after : List ℕ) → FillsSpan ps r before after → 3 * length ps ≤ length before
+pub fills-whole : (ps : List LedgerPoint) (r : ℕ) (before after : List ℕ) → FillsSpan ps r before after → ledger_width * length ps ≤ length before
     → (r ≡ length ps) × (after ≡ written (point_rows ps) before)
 fills-whole ps r before after f h =
-    let few : length ps ≤ length before / 3 = omega arith in (
+    let few : length ps ≤ length before / ledger_width = omega arith in (
       omega (arith, f.counted),
-      f.cells ∙ ap (λ (l : List LedgerPoint). written (point_rows l) before) (take_all (length before / 3) ps few),
+      f.cells ∙ ap (λ (l : List LedgerPoint). written (point_rows l) before) (take_all (length before / ledger_width) ps few),
     )
 
 -- Points that are the same.
@@ -78,8 +78,8 @@ fills_same ps qs r before after f e = subst (λ (l : List LedgerPoint). FillsSpa
 -- Nothing is written where there is no point.
 pub fills-none : (ps : List LedgerPoint) (before : List ℕ) → ps ≡ [] → FillsSpan ps 0 before before
 unfolding point_rows
-fills-none ps before e = rw e (record { counted = omega arith; cells = rw (take-nil (length before / 3)) })
+fills-none ps before e = rw e (record { counted = omega arith; cells = rw (take-nil (length before / ledger_width)) })
 
 module _ {all left : List LedgerPoint} {before : List ℕ} {n : ℕ} {now : List ℕ} (f : FillingRows all left before n now) where
   pub rows-filled : left ≡ [] → FillsSpan all n before now
-  rows-filled e = fills-done all left before n now f (ap (take (length before / 3 - n)) e ∙ take-nil (length before / 3 - n))
+  rows-filled e = fills-done all left before n now f (ap (take (length before / ledger_width - n)) e ∙ take-nil (length before / ledger_width - n))

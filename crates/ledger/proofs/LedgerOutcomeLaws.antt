@@ -21,7 +21,7 @@ use Rattle.format.proofs.RefusedLaws.{refuses, stop}
 use Rattle.format.proofs.FirstLaws.{first-stop, first-pass, first-zero, first_one, first-append}
 use Rattle.rules.specs.Lent.{Outcome, written, fits, room_number}
 use Rattle.rules.specs.NationRows.{NationRow, nation_rows_in, nations_in, well_shaped}
-use Rattle.rules.specs.Ledger.{LedgerPoint, point_rows}
+use Rattle.rules.specs.Ledger.{LedgerPoint, point_rows, ledger_width}
 use Rattle.rules.specs.Refusals.{chronicle_number, asked_nation_number}
 use Rattle.rules.specs.Outcomes.{LedgerCells, ledger_cells_of, asked_points, call_nation_ledger, call_nation_ledger_rows, call_nation_ledgers}
 use Rattle.rules.proofs.LentLaws.{answered-refused, answered-gives, outcome-refused, outcome-gives}
@@ -41,14 +41,14 @@ refused-on (Err x) e h = ap Err h.1
 -- ## The room for points
 
 -- Counted with one more than there is room for.
-module _ (ps : List LedgerPoint) (before : List ℕ) (n : ℕ) (counted : n ≡ min (length ps) (length before / 3 + 1)) where
-  pub room-few : n ≤ length before / 3 → (n ≡ length ps) × (3 * length ps ≤ length before)
+module _ (ps : List LedgerPoint) (before : List ℕ) (n : ℕ) (counted : n ≡ min (length ps) (length before / ledger_width + 1)) where
+  pub room-few : n ≤ length before / ledger_width → (n ≡ length ps) × (ledger_width * length ps ≤ length before)
   room-few h = (omega (arith, counted), omega (arith, counted))
 
-  no_room : length before / 3 < n → fits (point_rows ps) before ≡ false
+  no_room : length before / ledger_width < n → fits (point_rows ps) before ≡ false
   no_room h = lt-leb (length (point_rows ps)) (length before) (omega (arith, counted, rows-length ps))
 
-  has_room : n ≤ length before / 3 → fits (point_rows ps) before ≡ true
+  has_room : n ≤ length before / ledger_width → fits (point_rows ps) before ≡ true
   has_room h = le-leb (length (point_rows ps)) (length before) (omega (arith, (room-few h).1, rows-length ps))
 
 -- ## The numbers before that
@@ -147,16 +147,16 @@ module _ (xs ws es : List ℕ) (i : ℕ) (before : List ℕ) where
     ledger-unasked e h = by_number e (asked-first xs ws es i room z e h)
 
     module _ {f : Frame} (t : Framed xs f) (fine : asked_ledger_number ws es i ≡ 0) (row : NationRow) (told : row ≡ nation_row_at ws i)
-        (n : ℕ) (counted : n ≡ min (length (row_ledger f es row)) (length before / 3 + 1)) where
+        (n : ℕ) (counted : n ≡ min (length (row_ledger f es row)) (length before / ledger_width + 1)) where
       by_room : (b : Bool) → fits (point_rows (row_ledger f es row)) before ≡ b → number xs ws es i room ≡ room_number b
       by_room b e =
           room-last xs ws es i room z fine
           ∙ (first_one _ ∙ ap room_number (ap (λ (ps : List LedgerPoint). fits (point_rows ps) before) (own-points t ws es i fine row told) ∙ e))
 
-      pub ledger-short : length before / 3 < n → ledger_outcome (Err NoRoom) before ≡ call_nation_ledger xs ws es i before
+      pub ledger-short : length before / ledger_width < n → ledger_outcome (Err NoRoom) before ≡ call_nation_ledger xs ws es i before
       ledger-short h = by_number NoRoom (by_room false (no_room (row_ledger f es row) before n counted h))
 
-      pub ledger-given : n ≤ length before / 3 → (after : List ℕ) → after ≡ written (point_rows (row_ledger f es row)) before
+      pub ledger-given : n ≤ length before / ledger_width → (after : List ℕ) → after ≡ written (point_rows (row_ledger f es row)) before
           → ledger_outcome (Ok n) after ≡ call_nation_ledger xs ws es i before
       unfolding call_nation_ledger
       ledger-given h after w =
@@ -196,11 +196,11 @@ module _ (xs ws es before counts : List ℕ) where
   abbrev cells : LedgerCells
   cells = ledger_cells_of (campaign_of xs) (nations_in ws es)
 
-  abbrev both_fit : Bool
-  both_fit = fits cells.rows before && fits cells.counts counts
+  abbrev ledgers_fit : Bool
+  ledgers_fit = fits cells.rows before && fits cells.counts counts
 
   abbrev first : ℕ
-  first = first_of (refusal xs ∷ chronicle_number ws es ∷ room_number both_fit ∷ [])
+  first = first_of (refusal xs ∷ chronicle_number ws es ∷ room_number ledgers_fit ∷ [])
 
   by_any : (e : Refusal) → first ≡ refusal_number e → ledgers_outcome (Err e) before counts ≡ call_nation_ledgers xs ws es lent
   unfolding call_nation_ledgers
@@ -214,7 +214,7 @@ module _ (xs ws es before counts : List ℕ) where
     ledgers-torn e h = by_any e (first-pass (refusal xs) _ z ∙ sym (stop _ e h))
 
     module _ {f : Frame} (t : Framed xs f) (shaped : well_shaped ws es ≡ true) where
-      last : first ≡ room_number both_fit
+      last : first ≡ room_number ledgers_fit
       last = first-pass (refusal xs) _ z ∙ (first-pass (chronicle_number ws es) _ (ap (λ (b : Bool). cond b 0 11) shaped) ∙ first_one _)
 
       same-rows : cells.rows ≡ point_rows (row_ledgers f ws es)
@@ -229,7 +229,7 @@ module _ (xs ws es before counts : List ℕ) where
       size =
           length-map (nation_rows_in ws) (λ n. length (row_ledger f es n))
 
-      without : both_fit ≡ false → ledgers_outcome (Err NoRoom) before counts ≡ call_nation_ledgers xs ws es lent
+      without : ledgers_fit ≡ false → ledgers_outcome (Err NoRoom) before counts ≡ call_nation_ledgers xs ws es lent
       without e = by_any NoRoom (last ∙ ap room_number e)
 
       -- Too few cells for the counts.
@@ -239,13 +239,13 @@ module _ (xs ws es before counts : List ℕ) where
           without (ap (λ (b : Bool). fits cells.rows before && b) short ∙ and-false (fits cells.rows before))
 
       -- Counted with one more than there is room for.
-      module _ (n : ℕ) (counted : n ≡ min (length (row_ledgers f ws es)) (length before / 3 + 1)) where
-        pub rows_short : length before / 3 < n → ledgers_outcome (Err NoRoom) before counts ≡ call_nation_ledgers xs ws es lent
+      module _ (n : ℕ) (counted : n ≡ min (length (row_ledgers f ws es)) (length before / ledger_width + 1)) where
+        pub rows_short : length before / ledger_width < n → ledgers_outcome (Err NoRoom) before counts ≡ call_nation_ledgers xs ws es lent
         rows_short h =
             without (ap (λ (b : Bool). b && fits cells.counts counts)
             (ap (λ (l : List ℕ). fits l before) same-rows ∙ no_room (row_ledgers f ws es) before n counted h))
 
-        pub ledgers-given : n ≤ length before / 3 → length (nation_rows_in ws) ≤ length counts → (after counts_after : List ℕ)
+        pub ledgers-given : n ≤ length before / ledger_width → length (nation_rows_in ws) ≤ length counts → (after counts_after : List ℕ)
             → WritesLedgers f ws es before counts after counts_after → ledgers_outcome (Ok n) after counts_after ≡ call_nation_ledgers xs ws es lent
         unfolding call_nation_ledgers
         ledgers-given h g after counts_after w =

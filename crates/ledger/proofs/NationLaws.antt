@@ -13,7 +13,7 @@ use Rattle.lists.proofs.ElementLaws.{at-get_or, at-end, at-inside}
 use Rattle.lists.proofs.FillLaws.{Filling, filling-new, filling-put, filling-written}
 use Rattle.format.specs.Campaign.{campaign_of}
 use Rattle.rules.specs.NationRows.{NationRow, nation_row_of, nation_rows_in, entry_rows_in, nation_at, nations_in, well_shaped}
-use Rattle.rules.specs.Ledger.{LedgerPoint, spans_of, nation_ledger}
+use Rattle.rules.specs.Ledger.{LedgerPoint, spans_of, nation_ledger, ledger_width}
 use Rattle.chronicle_rows.specs.RowAt.{nation_row_at, nation_numbered}
 use Rattle.chronicle_rows.proofs.RowAtLaws.{nations-next}
 use Rattle.chronicle_rows.proofs.NumberedLaws.{dropped-numbers, nation-entries, nations-numbered}
@@ -76,13 +76,13 @@ module _ {xs : List ℕ} {f : Frame} (t : Framed xs f) (ws es : List ℕ) where
 
 -- So many nations are passed, with k points, and the others are left.
 pub record LedgersWritten (f : Frame) (ws es before counts_before : List ℕ) (left : List NationRow) (k i : ℕ) (now counts : List ℕ) : Type 0 where
-  pub room : 3 * length (row_ledgers f ws es) ≤ length before
+  pub room : ledger_width * length (row_ledgers f ws es) ≤ length before
   pub passed : k + length (join_of (row_ledger f es) left) ≡ length (row_ledgers f ws es)
   pub rows : FillingRows (row_ledgers f ws es) (join_of (row_ledger f es) left) before k now
   pub counted : Filling (row_counts f ws es) (map (λ n. length (row_ledger f es n)) left) counts_before i counts
 
 module _ (f : Frame) (ws es before counts_before : List ℕ) where
-  pub ledgers-start : (left : List NationRow) → left ≡ nation_rows_in ws → 3 * length (row_ledgers f ws es) ≤ length before → length (nation_rows_in ws) ≤ length counts_before
+  pub ledgers-start : (left : List NationRow) → left ≡ nation_rows_in ws → ledger_width * length (row_ledgers f ws es) ≤ length before → length (nation_rows_in ws) ≤ length counts_before
       → LedgersWritten f ws es before counts_before left 0 0 before counts_before
   ledgers-start left e h g =
       rw e
@@ -95,13 +95,13 @@ module _ (f : Frame) (ws es before counts_before : List ℕ) where
 
   module _ {left : List NationRow} {k i : ℕ} {now counts : List ℕ} (w : LedgersWritten f ws es before counts_before left k i now counts) where
     module _ {row : NationRow} {rest : List NationRow} (e : left ≡ row ∷ rest) where
-      pub ledgers-more : (m : ℕ) (ys : List ℕ) → FillsSpan (row_ledger f es row) m (take (length now - 3 * k) (drop (3 * k) now)) ys
-          → LedgersWritten f ws es before counts_before rest (k + m) (i + 1) (take (3 * k) now ++ (ys ++ drop (length now - 3 * k) (drop (3 * k) now))) (set counts i m)
+      pub ledgers-more : (m : ℕ) (ys : List ℕ) → FillsSpan (row_ledger f es row) m (take (length now - ledger_width * k) (drop (ledger_width * k) now)) ys
+          → LedgersWritten f ws es before counts_before rest (k + m) (i + 1) (take (ledger_width * k) now ++ (ys ++ drop (length now - ledger_width * k) (drop (ledger_width * k) now))) (set counts i m)
       ledgers-more m ys g =
           let more = ap (join_of (row_ledger f es)) e in
           let others : List LedgerPoint = join_of (row_ledger f es) rest in
           let both : length (join_of (row_ledger f es) left) ≡ length (row_ledger f es row) + length others = ap length more ∙ length-append (row_ledger f es row) others in
-          let tail : length (take (length now - 3 * k) (drop (3 * k) now)) ≡ length now - 3 * k = simp (length-take, length-drop) (omega arith) in
+          let tail : length (take (length now - ledger_width * k) (drop (ledger_width * k) now)) ≡ length now - ledger_width * k = simp (length-take, length-drop) (omega arith) in
           let size : m ≡ length (row_ledger f es row) = (fills-whole (row_ledger f es row) m _ ys g (omega (arith, tail, both, w.room, w.passed, w.rows.filling.long))).0 in
           record {
             room = w.room;

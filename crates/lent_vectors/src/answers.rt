@@ -1,6 +1,6 @@
 // The answers to a vector, held against the stored ones.
 use crate::asked::{Asked, Besides};
-use crate::single::is_answered;
+use crate::single::is_answered_singly;
 use crate::vector::Vector;
 use bookings::BOOKING_WIDTH;
 use chronicle::{CountryTag, HistoryCounts, Refusal};
@@ -128,7 +128,7 @@ impl<'a> Vector<'a> {
     // How many questions the vector asks, and how many answers are other ones than stored.
     pub(crate) fn replayed(&self) -> Counts {
         let singly = self.questions.iter().filter(|question| {
-            !is_answered(self.nations, self.entries, question)
+            !is_answered_singly(self.nations, self.entries, question)
         });
         let other = singly.count()
             + usize::from(!self.is_answered())

@@ -30,7 +30,7 @@ impl TryFrom<u32> for Form {
 
 // Whether a question is answered as it is stored: its form, a day, a tag and a date; then a refusal's number or 0, and the two tags of an
 // answer, of which nothing has zeros. Tag and dates are not tested here: some are bad, and the call is to refuse them.
-pub(crate) fn is_answered(
+pub(crate) fn is_answered_singly(
     nations: &[u32],
     entries: &[u32],
     question: &[u32; SINGLE_WIDTH],

@@ -1,5 +1,5 @@
 -- First and last elements, elements at a place, and what tests keep.
-use mathlib.Core.Path.{◌≡◌, refl, sym, ap, ◌∙◌}
+use mathlib.Core.Path.{◌≡◌, refl, ap, ◌∙◌}
 use mathlib.Core.Bool.{Bool, true, cond, ◌&&◌}
 use mathlib.Core.List.{List, [], ◌∷◌, ◌++◌, map}
 use mathlib.Core.Option
@@ -7,8 +7,8 @@ use mathlib.Core.Option.{none, some, none-ne-some, some-injective}
 use Prim.Native.Nat.{ℕ, zero, suc, ◌≤◌, ◌<◌}
 use native.Mathlib.Omega.{arith}
 use lib.ListN.{length, get_or, get_elem?, drop}
-use Rattle.lists.specs.Lists.{All, keep, all_of, join_of, first_or, last_or, last}
-use Rattle.lists.proofs.BoolLaws.{cases, and-false, both}
+use Rattle.lists.specs.Lists.{All, keep, join_of, first_or, last_or, last}
+use Rattle.lists.proofs.BoolLaws.{cases, and-false}
 use Rattle.lists.proofs.ListLaws.{InOrder, all_keep, map_at}
 
 -- ## First and last
@@ -74,12 +74,6 @@ module _ {A : Type 0} where
   at-within [] i x e = absurd (none-ne-some x e)
   at-within (y ∷ xs) zero x e = omega arith
   at-within (y ∷ xs) (suc i) x e = omega (arith, at-within xs i x e)
-
-  -- A test that each element passes is passed by the one at a place.
-  pub all_of-at : (p : A → Bool) (xs : List A) (i : ℕ) (x : A) → get_elem? xs i ≡ some x → all_of p xs ≡ true → p x ≡ true
-  all_of-at p [] i x e h = absurd (none-ne-some x e)
-  all_of-at p (y ∷ xs) zero x e h = ap p (sym (some-injective y x e)) ∙ (both (p y) (all_of p xs) h).0
-  all_of-at p (y ∷ xs) (suc i) x e h = all_of-at p xs i x e (both (p y) (all_of p xs) h).1
 
 -- The cell of what stands at a place.
 pub cell-at : {A B : Type 0} (f : A → B) (xs : List A) (i : ℕ) (x : A) (d : B) → get_elem? xs i ≡ some x → get_or (map f xs) i d ≡ f x
@@ -148,11 +142,6 @@ module _ {A B : Type 0} where
       let first : f x ≡ g x = cc in
       let rest : map f xs ≡ map g xs = cc in
       (first, same-each f g xs rest)
-
--- A function that gives each element back gives the list back.
-pub map-still : {A : Type 0} (f : A → A) (xs : List A) → All (λ x. f x ≡ x) xs → map f xs ≡ xs
-map-still f [] q = refl
-map-still f (x ∷ xs) q = rw (q.0, map-still f xs q.1)
 
 pub keep_same : {A : Type 0} (p q : A → Bool) (xs : List A) → All (λ x. p x ≡ q x) xs → keep p xs ≡ keep q xs
 keep_same p q [] a = refl

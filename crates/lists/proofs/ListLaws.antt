@@ -129,11 +129,6 @@ module _ {A B : Type 0} where
   map-take f (suc n) [] = refl
   map-take f (suc n) (x ∷ xs) = ap (λ (l : List B). f x ∷ l) (map-take f n xs)
 
-  pub map-drop : (f : A → B) (n : ℕ) (xs : List A) → map f (drop n xs) ≡ drop n (map f xs)
-  map-drop f zero xs = refl
-  map-drop f (suc n) [] = refl
-  map-drop f (suc n) (x ∷ xs) = map-drop f n xs
-
   pub map_at : (f : A → B) (xs : List A) (i : ℕ) → get_elem? (map f xs) i ≡ Option.map f (get_elem? xs i)
   map_at f [] i = refl
   map_at f (x ∷ xs) zero = refl
@@ -212,11 +207,6 @@ count-more p q h (x ∷ xs) =
     (λ a. simp (a, h x a) (omega (arith, count-more p q h xs)))
     (λ a. cases (q x) (λ b. simp (a, b) (omega (arith, count-more p q h xs))) (λ b. simp (a, b) (count-more p q h xs)))
 
--- Of a map as many fit as there are elements whose image fits.
-pub count_map : {A B : Type 0} (p : B → Bool) (f : A → B) (xs : List A) → count_of p (map f xs) ≡ count_of (λ x. p (f x)) xs
-count_map p f [] = refl
-count_map p f (x ∷ xs) = cases (p (f x)) (λ h. simp (h, count_map p f xs)) (λ h. simp (h, count_map p f xs))
-
 -- 1 for a number above 0.
 abbrev pub sgn : ℕ → ℕ
 sgn zero = 0
@@ -235,16 +225,6 @@ InOrder key (x ∷ xs) = All (λ y. key x ≤ key y) xs × InOrder key xs
 pub order-map : {A B : Type 0} (f : A → B) (key : B → ℕ) (xs : List A) → InOrder (λ a. key (f a)) xs → InOrder key (map f xs)
 order-map f key [] q = tt
 order-map f key (x ∷ xs) q = (all_of_map (λ y. key (f x) ≤ key y) f (λ a g. g) xs q.0, order-map f key xs q.1)
-
--- In order by a number, each is bounded by what bounds the last.
-pub order-bound : {A : Type 0} (key : A → ℕ) (bound : ℕ) (x : A) (xs : List A) → InOrder key (x ∷ xs) → key (last_or x xs) ≤ bound
-    → All (λ y. key y ≤ bound) (x ∷ xs)
-order-bound key bound x [] o h = (h, tt)
-order-bound key bound x (y ∷ ys) o h =
-    let rest = order-bound key bound y ys o.1 h in
-    let first : key x ≤ key y = o.0.0 in
-    let next : key y ≤ bound = rest.0 in
-    (omega arith, rest)
 
 -- In order, those up to the first above a bound are all that are not above it.
 pub leading-keep : {A : Type 0} (key : A → ℕ) (bound : ℕ) (xs : List A) → InOrder key xs

@@ -1,23 +1,13 @@
--- Cells and rows written one behind the other, and a row that is written into a lent tail.
+-- Rows written one behind the other, and a row that is written into a lent tail.
 use mathlib.Core.Path.{◌≡◌, refl}
-use mathlib.Core.List.{List, [], ◌∷◌, ◌++◌, append_assoc, append-nil}
-use Prim.Native.Nat.{ℕ, ◌+◌, ◌-◌, ◌≤◌, ◌<◌}
-use native.Mathlib.Nat.{sub-zero}
-use lib.ListN.{length, take, drop, set, length-drop}
+use mathlib.Core.List.{List, [], ◌++◌, append-nil}
+use Prim.Native.Nat.{ℕ, ◌+◌, ◌-◌, ◌≤◌}
+use lib.ListN.{length, take, drop, length-drop}
 use lib.Seq.{take-length, drop-length, drop-drop}
 pub use Rattle.lists.proofs.FillLaws.{Behind}
 use Rattle.lists.proofs.FillLaws.{row-behind, Filling, filling-new, filling-behind, filling-written}
-use Rattle.lists.proofs.StepLaws.{take-set-more}
 
 module _ {A : Type 0} where
-  -- One cell more, where only the cells written so far matter.
-  pub cell-more : (now : List A) (k : ℕ) (v : A) (rest all : List A) → k < length now → take k now ++ v ∷ rest ≡ all → take (k + 1) (set now k v) ++ rest ≡ all
-  cell-more now k v rest all h e = rw (take-set-more now k v h, append_assoc) e
-
-  -- The part from the first element on, as the code takes it.
-  pub from_first : (n : ℕ) (l part : List A) → take n l ≡ part → take (n - 0) l ≡ part
-  from_first n l part e = rw (sub-zero n) e
-
   -- The part from a place on, as long as the list allows, is all that stands there, and nothing is behind it.
   pub part-all : (l : List A) (i : ℕ) → take (length l - i) (drop i l) ≡ drop i l
   part-all l i = rw (← length-drop i l) (take-length (drop i l))

@@ -29,12 +29,7 @@ use Rattle.nation_listing.specs.Entries.{merged_entries, lives_told, entries_wor
 -- ## The last target
 
 module _ (words : List ℕ) where
-  -- Where there is no switch, the latest tag is the one given.
-  pub latest-none : (run : List ℕ) (initial : CountryTag) → length run ≡ 0 → initial ≡ latest_tag words run initial
-  latest-none [] initial h = refl
-  latest-none (key ∷ run) initial h = absurd (omega arith)
-
-  -- Where there is one, it is the target of the last.
+  -- Where there is a switch, the latest tag is the target of the last one.
   pub latest-some : (run : List ℕ) (initial last : CountryTag) → 0 < length run → last.0 ≡ target_in words (get_or run (length run - 1) 0)
       → last ≡ latest_tag words run initial
   latest-some run initial last h e = ap (λ (w : ℕ). record { 0 = w }) e ∙ go run initial h

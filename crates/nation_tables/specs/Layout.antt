@@ -21,7 +21,8 @@ most_slots = 8001
 abbrev pub most_settling : ℕ
 most_settling = 22000
 
--- A record of so many bytes has at most so many slots, owner events, or countries with switches, and never more than the most that any record has.
+-- How many rows a record of so many bytes may have, where each takes `row_bytes` at least and no record has more than `most`: so it bounds the countries,
+-- the slots, the owner events, and the switches and countries together.
 abbrev pub rows_within : ℕ → ℕ → ℕ
 rows_within most bytes = min most (bytes / row_bytes)
 

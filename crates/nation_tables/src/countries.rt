@@ -24,7 +24,11 @@ pub(crate) struct KeyedCountries<'a> {
 
 // Writes each country's tag, and the word of its initial, in row order. The initials as numbers: keys are made of them at once, and their cells hold
 // counts later.
-pub(crate) fn country_words(countries: Countries, tags: &mut [CountryTag], initials: &mut [u32])
+pub(crate) fn fill_tags_and_initials(
+    countries: Countries,
+    tags: &mut [CountryTag],
+    initials: &mut [u32],
+)
     requires { (length (countries_left countries) ≤ length tags.old) × (length (countries_left countries) ≤ length initials.old) }
     ensures { Tabled (countries_left countries.entry) tags.old tags.new initials.old initials.new }
 {

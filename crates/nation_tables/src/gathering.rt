@@ -20,7 +20,8 @@ pub(crate) struct Sizes {
     pub settling: usize,
 }
 
-// Writes the tags, and the keys of initials and those that changes settle by, each in order. The words of initials are left in a scratch.
+// Fills the tables of the countries: their tags by row, the keys of their initials, and the keys that changes settle by, both in order. The words of
+// initials are needed for their keys alone: of the cells that they are left in, nothing is promised.
 fn fill_tables(
     all: KeyedCountries<'_>,
     tags: &mut [CountryTag],
@@ -33,7 +34,7 @@ fn fill_tables(
     ensures { TablesFilled (countries_left all.entry.countries) result tags.new initial_keys.new settling_keys.new }
 {
     let c = all.countries.len();
-    countries::country_words(all.countries, tags, initial_words);
+    countries::fill_tags_and_initials(all.countries, tags, initial_words);
     countries::row_keys(&initial_words[..c], initial_keys, scratch);
     let m = switches::settling_keys(all, settling_keys, scratch);
     Sizes {
@@ -145,8 +146,8 @@ fn fill_changes<
     )
 }
 
-// Fills all tables of an accepted record, each step lent those that it reads or writes: those of countries and switches, then those of slots and changes,
-// then the chains, and the switches by country.
+// Fills all tables of an accepted record: first the tags and keys of its countries, and the keys that changes settle by; then slots and changes, by those;
+// then the chains of changes, and in place of the keys that changes settle by the switches by country. `fill_changes` takes most tables and is lent all.
 fn fill_all<const COUNTRIES: usize, const SLOTS: usize, const KEYS: usize, const CHANGES: usize>(
     opened: Record,
     tables: &mut TableCells<COUNTRIES, SLOTS, KEYS, CHANGES>,

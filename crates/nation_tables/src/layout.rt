@@ -4,6 +4,7 @@ ghost use Rattle.std.specs.Prelude.{◌≡◌};
 ghost use Rattle.nation_tables.specs.Layout.{rows_within};
 
 use format::{MOST_COUNTRIES, MOST_PROVINCES, MOST_SWITCHES};
+use record::ROW_BYTES;
 
 // How many slots: one more than provinces.
 pub const MOST_SLOTS: usize = MOST_PROVINCES + 1;
@@ -11,11 +12,8 @@ pub const MOST_SLOTS: usize = MOST_PROVINCES + 1;
 // Changes settle by a key of each switch and one of each country.
 pub const MOST_SETTLING: usize = MOST_SWITCHES + MOST_COUNTRIES;
 
-// A row of a province, of an owner event or of a switch takes so many bytes of a record, one of a country more, and the head more than the slot
-// that there is beside the provinces.
-pub const ROW_BYTES: usize = 7;
-
-// So many of them a record of so many bytes has at most, where no record has more than `most`.
+// How many rows of provinces, of owner events, or of switches and countries a record of so many bytes has at most, where no record has more than `most`.
+// The head takes more than a row, for the slot that there is beside the provinces.
 pub(crate) fn rows_within(most: usize, bytes: usize) -> usize
     ensures { result ≡ rows_within most bytes }
 {
@@ -34,11 +32,13 @@ pub const KEY_NUMBERS: u64 = 1 << 15;
 // Behind every date: no date that is good is as large, and it has room in a key. A number, for a part of a key is one.
 pub(crate) const LAST_DATE: u32 = KEY_DATES as u32 - 1;
 
-// Numbers of a byte are below this, and those of 16 bits and of a word of 32 below these.
+// How many numbers a byte holds: each is below this.
 pub(crate) const BYTE_SPAN: u64 = 1 << 8;
 
+// How many numbers 16 bits hold.
 pub const SHORT_SPAN: u64 = 1 << 16;
 
+// How many numbers a word of 32 bits holds.
 pub const WORD_SPAN: u64 = 1 << 32;
 
 // The key of any word with a row is below this.

@@ -19,7 +19,7 @@ pub use gathering::{TableCells, TableSizes, TablesGathered, gather_tables};
 pub use holders::write_slots;
 pub use keys::row_in;
 pub use layout::{
-    KEY_DATES, KEY_NUMBERS, KEY_ROWS, LossGain, MOST_SETTLING, MOST_SLOTS, NO_CHANGE, ROW_BYTES,
-    ROW_KEY_SPAN, ROW_SPAN, SHORT_SPAN, WORD_SPAN,
+    KEY_DATES, KEY_NUMBERS, KEY_ROWS, LossGain, MOST_SETTLING, MOST_SLOTS, NO_CHANGE, ROW_KEY_SPAN,
+    ROW_SPAN, SHORT_SPAN, WORD_SPAN,
 };
 pub use lookup::{cell_at, last_within};

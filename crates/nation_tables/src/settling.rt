@@ -9,11 +9,12 @@ use crate::{keys, lookup};
 use record::{CountryTag, Eu4Date};
 use search::SortedKeys;
 
-// Tags of one cell of the table begin with the same two bytes; the first byte tells one of so many cells. The least byte of a tag is `-`, and the others
-// lie within so many of it.
+// The table of hints has a cell for each two bytes that a tag may begin with: for each first byte so many cells, one for each second byte. So many numbers
+// there are from `-`, the least byte of a tag, to `z`, the greatest.
 const SECOND_BYTES: u64 = 78;
 
-const FIRST_BYTE: u64 = 45;
+// The least byte of a tag, `-`.
+const LEAST_BYTE: u64 = 45;
 
 // How many cells of 16 bits such a table has: one for each cell of tags, and two behind the last.
 pub(crate) const STARTS: usize = (SECOND_BYTES * SECOND_BYTES) as usize + 2;
@@ -21,10 +22,11 @@ pub(crate) const STARTS: usize = (SECOND_BYTES * SECOND_BYTES) as usize + 2;
 // From so many changes on it takes less time to make the hints than to search without them.
 pub(crate) const HINTS_FROM: usize = 128;
 
-// The cell of `--`, the first tag, comes to 0 where this is added.
-const FIRST_CELL: u64 = SHORT_SPAN - (SECOND_BYTES + 1) * FIRST_BYTE;
+// Added to cells that are counted from byte 0, it has them counted from LEAST_BYTE, in 16 bits: tags that begin with `--` come to 0. It is added, for a
+// difference might fall below 0 where the word is no tag's.
+const FIRST_CELL: u64 = SHORT_SPAN - (SECOND_BYTES + 1) * LEAST_BYTE;
 
-// The cell of a tag. Tag bytes lie within SECOND_BYTES of each other, so a later cell has later tags.
+// The cell of a tag, by its first two bytes. There are fewer than SECOND_BYTES from one tag byte to another, so all tags of a later cell are later ones.
 fn start_cell(tag: CountryTag) -> usize
     ensures { result < short_span }
 {

@@ -13,8 +13,8 @@ use change_keys::MOST_CHANGES;
 use chronicle_rows::NationCounts;
 use format::MOST_COUNTRIES;
 use nation_listing::Listed;
-use nation_tables::{LossGain, MOST_SETTLING, MOST_SLOTS, ROW_BYTES, TableCells, TableSizes};
-use record::{CountryTag, Refusal};
+use nation_tables::{LossGain, MOST_SETTLING, MOST_SLOTS, TableCells, TableSizes};
+use record::{CountryTag, ROW_BYTES, Refusal};
 
 // Records of no more bytes are small, or of middle size: their tables take less time to clear.
 const SMALL_RECORD: usize = 2048;

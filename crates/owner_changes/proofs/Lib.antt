@@ -1,3 +1,2 @@
 pub mod CountLaws
 pub mod OutcomeLaws
-pub mod OwnerRowLaws

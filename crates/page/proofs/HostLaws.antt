@@ -21,7 +21,7 @@ use Rattle.rules.specs.Lent.{Answer, refused, gives, answer_of, written, fits, r
 use Rattle.rules.specs.Outcomes.{answers_of, NationCells, cells_of, all_fit, all_written, NationCounts, counts_of, call_nation_events}
 use Rattle.chronicle_rows.specs.Cases.{counts_in}
 use Rattle.nations.proofs.answer.NationOutcomeLaws.{SmallCounts, nations-given}
-use Rattle.host_answers.specs.Host.{returned, most_returned, Returns, word_cells, count_words, NationSlices, nation_slices, with_counts, call_nation_events_cells}
+use Rattle.host_answers.specs.Host.{returned, most_returned, Returns, word_cells, count_words, NationSlices, nation_slices, with_counts, call_nation_events_cells, number_of_counts}
 use Rattle.host_answers.specs.Inner.{low_counts}
 
 -- ## The number
@@ -73,29 +73,29 @@ low-same r small =
     rw (a, b, c, d, f)
 
 module _ (xs : List ℕ) (before : NationSlices) where
-  pub slices-short : (n : ℕ) → length before.counts < 5 → n ≡ first_of (refusal xs ∷ 10 ∷ [])
+  pub slices-short : (n : ℕ) → length before.counts < number_of_counts → n ≡ first_of (refusal xs ∷ 10 ∷ [])
       → record { answer = refused n; memory = before } ≡ call_nation_events_cells xs before
   unfolding call_nation_events_cells call_nation_events
   slices-short n h e =
       let answers = answers_of (campaign_of xs) in
-      short-counts (counts_of answers) (all_written (cells_of answers) before.cells) before (lt-leb 5 (length before.counts) h) (refusal xs)
+      short-counts (counts_of answers) (all_written (cells_of answers) before.cells) before (lt-leb number_of_counts (length before.counts) h) (refusal xs)
       (all_fit (cells_of answers) before.cells) n e
 
   -- What it gives is written, where the counts have room.
-  slices-given : 5 ≤ length before.counts → (r : NationCounts) (after : NationCells)
+  slices-given : number_of_counts ≤ length before.counts → (r : NationCounts) (after : NationCells)
       → record { answer = gives r; memory = after } ≡ call_nation_events xs before.cells
-      → record { answer = gives 5; memory = nation_slices after (written (count_words r) before.counts) } ≡ call_nation_events_cells xs before
+      → record { answer = gives number_of_counts; memory = nation_slices after (written (count_words r) before.counts) } ≡ call_nation_events_cells xs before
   unfolding call_nation_events_cells
   slices-given h r after e =
-      let room : fits (count_words r) before.counts ≡ true = le-leb 5 (length before.counts) h in
+      let room : fits (count_words r) before.counts ≡ true = le-leb number_of_counts (length before.counts) h in
       (simp room) ∙ ap (λ (o : Outcome NationCounts NationCells). with_counts o.answer o.memory before) e
 
   -- So the counts that were put are the call's.
-  pub slices-put : 5 ≤ length before.counts → (r : code_counts.NationCounts) (after : NationCells)
+  pub slices-put : number_of_counts ≤ length before.counts → (r : code_counts.NationCounts) (after : NationCells)
       → record { answer = gives (counts_in r); memory = after } ≡ call_nation_events xs before.cells
       → (i : ℤ) (counts : List ℕ) → Returns (word_cells (low_counts r) before.counts) i counts → Returns (call_nation_events_cells xs before) i (nation_slices after counts)
   slices-put h r after e i counts put =
       let same = low-same r (nations-given xs before.cells (counts_in r) (ap (λ (o : Outcome NationCounts NationCells). o.answer) e)) in
-      let room : fits (count_words (counts_in r)) before.counts ≡ true = le-leb 5 (length before.counts) h in
+      let room : fits (count_words (counts_in r)) before.counts ≡ true = le-leb number_of_counts (length before.counts) h in
       let told = rw room at (subst (λ (ws : List ℕ). Returns (word_cells ws before.counts) i counts) same put) in
       rw told.cells (returns_of (slices-given h (counts_in r) after e) told.answer)

@@ -1,4 +1,4 @@
--- Answers of the ledger as the host gets them. A slice that has room for rows of three words has more words than rows, so the number of
+-- Answers of the ledger as the host gets them. A slice that has room for rows of several words has more words than rows, so the number of
 -- rows has room in a signed word.
 use mathlib.Core.Path.{◌≡◌}
 use mathlib.Core.Bool.{◌&&◌}
@@ -14,7 +14,7 @@ use Rattle.format.specs.Refusal.{refusal, first_of}
 use Rattle.format.proofs.FirstLaws.{all-zero}
 use Rattle.rules.specs.Lent.{gives, fits, room_number}
 use Rattle.rules.specs.NationRows.{nations_in}
-use Rattle.rules.specs.Ledger.{nation_ledger, point_rows}
+use Rattle.rules.specs.Ledger.{nation_ledger, point_rows, ledger_width}
 use Rattle.rules.specs.Refusals.{chronicle_number, asked_nation_number}
 use Rattle.rules.specs.Outcomes.{asked_points, LedgerCells, ledger_cells_of, call_nation_ledger, call_nation_ledger_rows, call_nation_ledgers}
 use Rattle.rules.proofs.LentLaws.{answered-given}
@@ -23,7 +23,7 @@ use Rattle.host_answers.specs.Host.{most_returned}
 use Rattle.page.proofs.HostLaws.{room-true}
 
 pub ledger-given : (xs ws es : List ℕ) (number : ℕ) (before : List ℕ) (n : ℕ) → gives n ≡ (call_nation_ledger xs ws es number before).answer
-    → 3 * n ≤ length before
+    → ledger_width * n ≤ length before
 unfolding call_nation_ledger
 ledger-given xs ws es number before n e =
     let nation = get_elem? (nations_in ws es) number in
@@ -35,7 +35,7 @@ ledger-given xs ws es number before n e =
     omega (arith, g.1, rows-length points, leb-true (length (point_rows points)) (length before) (room-true room all.1.1.1.0))
 
 pub ledgers-given : (xs ws es : List ℕ) (before : LedgerCells) (n : ℕ) → gives n ≡ (call_nation_ledgers xs ws es before).answer
-    → 3 * n ≤ length before.rows
+    → ledger_width * n ≤ length before.rows
 unfolding call_nation_ledgers ledger_cells_of
 ledgers-given xs ws es before n e =
     let points = join_of (nation_ledger (campaign_of xs)) (nations_in ws es) in

@@ -5,13 +5,14 @@ use Rattle.rules.specs.NationRows.{NationRow}
 use Rattle.rules.specs.Page.{decimal}
 use Rattle.page_lines.specs.Lines.{status_field, row_line}
 use Rattle.page_lines.proofs.DecimalLaws.{decimal_same}
+use Rattle.page_lines.specs.declared.lines.TheConstants.{FEW_ENTRIES, SHORT_LINE}
 
-four-digits : (n : ℕ) → n < 10000 → length (decimal n) ≤ 4
+four-digits : (n : ℕ) → n < FEW_ENTRIES → length (decimal n) ≤ 4
 four-digits n h = rw (decimal_same n (omega (arith, h))) at (length-decimal-le 4 n (omega arith) (omega (arith, h)) (omega (arith, h)))
 
 status-short : (living : Bool) → length (status_field living) ≤ 9
 status-short true = omega arith
 status-short false = omega arith
 
-pub row-short : (r : NationRow) (living : Bool) → r.count < 10000 → length (row_line r living) ≤ 25
+pub row-short : (r : NationRow) (living : Bool) → r.count < FEW_ENTRIES → length (row_line r living) ≤ SHORT_LINE
 row-short r living h = omega (arith, length-append (decimal r.count) (status_field living), four-digits r.count h, status-short living)

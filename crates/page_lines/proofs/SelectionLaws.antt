@@ -11,6 +11,7 @@ use Rattle.format.specs.Bytes.{tag_at}
 use Rattle.rules.specs.Page.{one_more, selection_of}
 use Rattle.page_lines.specs.declared.selection.SelectedTags.{SelectedTags}
 use Rattle.page_lines.specs.Selecting.{is_line, tags_left, IsTags}
+use Rattle.page_lines.specs.declared.selection.TheConstants.{TAG_LINE}
 
 -- One line more, by what it is.
 one-line : (good feed : Bool) (t : CountryTag) (rest : Option (List CountryTag)) (all : Bool) (tags : List CountryTag)
@@ -23,8 +24,8 @@ one-line false true t rest all tags e = refl
 one-line false false t rest all tags e = refl
 
 -- Whole lines: the tags of all of them, if each is a tag's.
-lines_read : (n : ℕ) (xs : List ℕ) → length xs ≡ n * 4
-    → selection_of xs ≡ cond (list_all is_line (first_chunks 4 n xs)) (some (map (λ line. tag_at line 0) (first_chunks 4 n xs))) none
+lines_read : (n : ℕ) (xs : List ℕ) → length xs ≡ n * TAG_LINE
+    → selection_of xs ≡ cond (list_all is_line (first_chunks TAG_LINE n xs)) (some (map (λ line. tag_at line 0) (first_chunks TAG_LINE n xs))) none
 unfolding selection_of created tag_at is_line
 lines_read zero [] e = refl
 lines_read zero (a ∷ xs) e = absurd (omega (arith, e))
@@ -33,11 +34,11 @@ lines_read (suc n) (a ∷ []) e = absurd (omega (arith, e))
 lines_read (suc n) (a ∷ b ∷ []) e = absurd (omega (arith, e))
 lines_read (suc n) (a ∷ b ∷ c ∷ []) e = absurd (omega (arith, e))
 lines_read (suc n) (a ∷ b ∷ c ∷ d ∷ xs) e =
-    one-line (is_tag (tag_of a b c)) (eqb d 10) (tag_of a b c) (selection_of xs) (list_all is_line (first_chunks 4 n xs)) (map (λ line. tag_at line 0) (first_chunks 4 n xs))
+    one-line (is_tag (tag_of a b c)) (eqb d 10) (tag_of a b c) (selection_of xs) (list_all is_line (first_chunks TAG_LINE n xs)) (map (λ line. tag_at line 0) (first_chunks TAG_LINE n xs))
     (lines_read n xs (omega (arith, e)))
 
 -- With bytes behind the last whole line it is no tags.
-torn_read : (n : ℕ) (xs : List ℕ) → n * 4 < length xs → length xs < n * 4 + 4 → selection_of xs ≡ none
+torn_read : (n : ℕ) (xs : List ℕ) → n * TAG_LINE < length xs → length xs < n * TAG_LINE + TAG_LINE → selection_of xs ≡ none
 unfolding selection_of
 torn_read n [] p q = absurd (omega (arith, p))
 torn_read n (a ∷ []) p q = refl
@@ -54,18 +55,18 @@ torn_read (suc n) (a ∷ b ∷ c ∷ d ∷ xs) p q =
     unread (some t) true = refl
 
 -- All bytes: tags, if there is nothing behind the whole lines, and each of these is a tag's.
-tags-told : (xs : List ℕ) (whole : Bool) → whole ≡ eqb (length xs % 4) 0
+tags-told : (xs : List ℕ) (whole : Bool) → whole ≡ eqb (length xs % TAG_LINE) 0
     → selection_of xs
-    ≡ cond (whole && list_all is_line (first_chunks 4 (length xs / 4) xs)) (some (map (λ line. tag_at line 0) (first_chunks 4 (length xs / 4) xs))) none
-tags-told xs true e = let none-over = eqb-true (length xs % 4) 0 (sym e) in lines_read (length xs / 4) xs (omega (arith, none-over))
-tags-told xs false e = let over = eqb-false (length xs % 4) 0 (sym e) in torn_read (length xs / 4) xs (omega (arith, over)) (omega arith)
+    ≡ cond (whole && list_all is_line (first_chunks TAG_LINE (length xs / TAG_LINE) xs)) (some (map (λ line. tag_at line 0) (first_chunks TAG_LINE (length xs / TAG_LINE) xs))) none
+tags-told xs true e = let none-over = eqb-true (length xs % TAG_LINE) 0 (sym e) in lines_read (length xs / TAG_LINE) xs (omega (arith, none-over))
+tags-told xs false e = let over = eqb-false (length xs % TAG_LINE) 0 (sym e) in torn_read (length xs / TAG_LINE) xs (omega (arith, over)) (omega arith)
 
 -- The answer of a test, by what the bytes are.
 answered : (xs : List ℕ) (tested : Bool) (tags : SelectedTags) → selection_of xs ≡ cond tested (some (tags_left tags)) none → IsTags xs (then_some tested tags)
 answered xs true tags e = e
 answered xs false tags e = e
 
-pub is-read : (xs : List ℕ) (whole good : Bool) (tags : SelectedTags) → whole ≡ eqb (length xs % 4) 0 → tags.lines.now ≡ first_chunks 4 (length xs / 4) xs
+pub is-read : (xs : List ℕ) (whole good : Bool) (tags : SelectedTags) → whole ≡ eqb (length xs % TAG_LINE) 0 → tags.lines.now ≡ first_chunks TAG_LINE (length xs / TAG_LINE) xs
     → good ≡ list_all is_line tags.lines.now → IsTags xs (then_some (whole && good) tags)
 is-read xs whole good tags e lines each =
     answered xs (whole && good) tags (rw (each, lines) (tags-told xs whole e))

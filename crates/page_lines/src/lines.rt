@@ -26,7 +26,7 @@ pub type Line = ArrayVec<u8, LONGEST_LINE>;
 
 // Puts bytes behind a line that has room for them.
 fn put(line: &mut Line, bytes: &[u8])
-    requires { array_vec_len line.old + length bytes.now ≤ 31 }
+    requires { array_vec_len line.old + length bytes.now ≤ LONGEST_LINE }
     ensures { line.new.items ≡ line.old.items ++ bytes.now }
 {
     line.try_extend_from_slice(bytes).unwrap();
@@ -34,7 +34,7 @@ fn put(line: &mut Line, bytes: &[u8])
 
 // Puts a tag's three bytes, and a space.
 fn put_tag(line: &mut Line, tag: CountryTag)
-    requires { array_vec_len line.old + 4 ≤ 31 }
+    requires { array_vec_len line.old + 4 ≤ LONGEST_LINE }
     ensures { line.new.items ≡ line.old.items ++ tag_field tag }
 {
     let [_, a, b, c] = u32::from(tag).to_be_bytes();

@@ -26,10 +26,11 @@ use Rattle.chronicle_rows.specs.Cases.{nation_told, nation_in}
 use Rattle.chronicle_rows.specs.RowAt.{nation_row_at, tags_stored}
 use Rattle.chronicle_rows.proofs.RowAtLaws.{nations-next, nation_rows_told}
 use Rattle.chronicle_rows.proofs.NumberedLaws.{dropped-numbers}
-use Rattle.search.specs.Places.{tag_keys_from, place_from}
+use Rattle.search.specs.Places.{tag_keys_from, place_from, keys_per_tag}
 use Rattle.search.proofs.PlaceLaws.{length-tag-keys, place_inside}
 use Rattle.page_lines.specs.Lines.{row_line, absent_line}
 use Rattle.page_lines.proofs.LengthLaws.{row-short}
+use Rattle.page_lines.specs.declared.lines.TheConstants.{FEW_ENTRIES, SHORT_LINE}
 use Rattle.page_text.specs.Stored.{LineTables, line_at, line_of, lines_of}
 
 -- A sort is in order.
@@ -90,7 +91,7 @@ module _ (ws : List ℕ) where
 -- ## A tag's line
 
 module _ {ws keys : List ℕ} {cells : List Bool} (x : LineTables ws keys cells) (tag : CountryTag) (r : code.Option ℕ)
-    (told : (ts : List CountryTag) → length ts ≤ 65536 → keys ≡ sort_by leb (tag_keys_from 0 ts) → option_of r ≡ place_from 0 tag ts) where
+    (told : (ts : List CountryTag) → length ts ≤ keys_per_tag → keys ≡ sort_by leb (tag_keys_from 0 ts) → option_of r ≡ place_from 0 tag ts) where
   placed : option_of r ≡ place_from 0 tag (tags_stored ws)
   placed = told (tags_stored ws) (omega (arith, length-tags ws, x.few)) x.sorted
 
@@ -110,21 +111,21 @@ module _ {ws keys : List ℕ} {cells : List Bool} (x : LineTables ws keys cells)
 
 -- ## No line is longer than a short one, where each count is short
 
-row-at-short : (rs : List NationRow) (i : ℕ) (d : NationRow) → d.count < 10000 → list_all (λ r. ltb r.count 10000) rs ≡ true → (get_or rs i d).count < 10000
+row-at-short : (rs : List NationRow) (i : ℕ) (d : NationRow) → d.count < FEW_ENTRIES → list_all (λ r. ltb r.count FEW_ENTRIES) rs ≡ true → (get_or rs i d).count < FEW_ENTRIES
 row-at-short [] i d h e = h
-row-at-short (r ∷ rs) zero d h e = ltb-true r.count 10000 (and_left (ltb r.count 10000) _ e)
-row-at-short (r ∷ rs) (suc i) d h e = row-at-short rs i d h (and_right (ltb r.count 10000) _ e)
+row-at-short (r ∷ rs) zero d h e = ltb-true r.count FEW_ENTRIES (and_left (ltb r.count FEW_ENTRIES) _ e)
+row-at-short (r ∷ rs) (suc i) d h e = row-at-short rs i d h (and_right (ltb r.count FEW_ENTRIES) _ e)
 
-module _ (ws : List ℕ) (cells : List Bool) (few : list_all (λ r. ltb r.count 10000) (nation_rows_in ws) ≡ true) where
-  line-at-short : (t : CountryTag) (o : Option ℕ) → length (line_at ws cells t o) ≤ 25
+module _ (ws : List ℕ) (cells : List Bool) (few : list_all (λ r. ltb r.count FEW_ENTRIES) (nation_rows_in ws) ≡ true) where
+  line-at-short : (t : CountryTag) (o : Option ℕ) → length (line_at ws cells t o) ≤ SHORT_LINE
   unfolding nation_row_at
   line-at-short t none = omega arith
   line-at-short t (some i) = row-short (nation_row_at ws i) (get_or cells i false) (row-at-short (nation_rows_in ws) i _ (omega arith) few)
 
-  lines-short : (ts : List CountryTag) → length (lines_of ws cells ts) ≤ 25 * length ts
+  lines-short : (ts : List CountryTag) → length (lines_of ws cells ts) ≤ SHORT_LINE * length ts
   unfolding line_of
   lines-short [] = omega arith
   lines-short (t ∷ ts) = omega (arith, length-append (line_of ws cells t) (lines_of ws cells ts), line-at-short t (place_from 0 t (tags_stored ws)), lines-short ts)
 
-  pub lines-have-room : (ts : List CountryTag) (room : ℕ) → length ts ≤ room / 25 → leb (length (lines_of ws cells ts)) room ≡ true
+  pub lines-have-room : (ts : List CountryTag) (room : ℕ) → length ts ≤ room / SHORT_LINE → leb (length (lines_of ws cells ts)) room ≡ true
   lines-have-room ts room h = le-leb (length (lines_of ws cells ts)) room (omega (arith, lines-short ts, h))

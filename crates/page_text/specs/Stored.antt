@@ -8,13 +8,13 @@ use Rattle.rules.specs.NationRows.{nation_width, nation_rows_in}
 use Rattle.chronicle_rows.specs.declared.rows.LentRows.{LentRows}
 use Rattle.chronicle_rows.specs.declared.rows.NationRow.{NationRow}
 use Rattle.chronicle_rows.specs.Cases.{nation_in}
-use Rattle.chronicle_rows.specs.RowAt.{nation_row_at, tags_stored}
+use Rattle.chronicle_rows.specs.RowAt.{told_left, nation_row_at, tags_stored}
 use Rattle.search.specs.Places.{tag_keys_from, place_from}
 use Rattle.page_lines.specs.Lines.{row_line, absent_line}
 
 -- The tags that the nations which an iterator has left are stored under.
 abbrev pub stored_left : LentRows NationRow nation_width → List CountryTag
-stored_left rows = map (λ n. n.stored) (map nation_in rows.rows.now)
+stored_left rows = map (λ n. n.stored) (told_left nation_in rows)
 
 -- What the line of a tag is found by: the sorted keys of all nations, and a status cell for each.
 pub record LineTables (ws keys : List ℕ) (cells : List Bool) : Type 0 where

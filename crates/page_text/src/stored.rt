@@ -46,7 +46,7 @@ pub(crate) fn sort_stored<'a>(
 
 // Whether every nation's count has at most four digits.
 pub(crate) fn are_short(nations: &[u32]) -> bool
-    ensures { result ≡ list_all (λ r. ltb r.count 10000) (nation_rows_in nations.now) }
+    ensures { result ≡ list_all (λ r. ltb r.count FEW_ENTRIES) (nation_rows_in nations.now) }
 {
     Nations::of(nations).all(|nation| nation.count < FEW_ENTRIES)
 }

@@ -14,13 +14,16 @@ use Rattle.format.specs.Campaign.{Campaign, campaign_of}
 use Rattle.format.specs.Refusal.{refusal}
 use Rattle.rules.specs.Chronicle.{Nation}
 use Rattle.rules.specs.Lent.{refused, gives, written}
-use Rattle.rules.specs.Changes.{changes_of, change_rows}
+use Rattle.rules.specs.Changes.{changes_of, change_rows, change_width}
 use Rattle.rules.specs.Nations.{nations_of, holders_of, held_of}
 use Rattle.rules.specs.NationRows.{nation_width, entry_width, nation_words, entry_words, holder_word}
 use Rattle.rules.specs.Outcomes.{answers_of, NationCells, cells_of, all_fit, all_written, NationCounts, counts_of, call_nation_events}
 use Rattle.rules.specs.PageOutcomes.{limits_number}
 use Rattle.rules.proofs.RowLaws.{length-nation_words, length-entry_words, length-change_rows}
+use Rattle.nation_tables.specs.Layout.{most_countries, most_slots}
 use Rattle.nations.proofs.answer.NationOutcomeLaws.{SmallCounts, counts-small, nations-given, nations-short, nations-rows}
+use Rattle.nations.proofs.answer.NationSizeLaws.{most_entries}
+use Rattle.pages.specs.declared.listing.TheConstants.{MOST_PAGE_ENTRIES, MOST_PAGE_CHANGES}
 use Rattle.pages.proofs.AnswerLaws.{not-refused, same_gives}
 
 -- Two tests are the same if each makes the other true.
@@ -45,11 +48,11 @@ module _ (text before cells : List ℕ) (e : cells ≡ written text before) {n :
 
 -- The cells that nations are lent have these lengths.
 pub record LentFor (cells : NationCells) : Type 0 where
-  pub nations : length cells.nations ≡ 10000
-  pub entries : length cells.entries ≡ 15000
-  pub holders : length cells.holders ≡ 8001
-  pub held : length cells.held ≡ 2000
-  pub changes : length cells.changes ≡ 16000
+  pub nations : length cells.nations ≡ nation_width * most_countries
+  pub entries : length cells.entries ≡ entry_width * MOST_PAGE_ENTRIES
+  pub holders : length cells.holders ≡ most_slots
+  pub held : length cells.held ≡ most_countries
+  pub changes : length cells.changes ≡ change_width * MOST_PAGE_CHANGES
 
 module _ (lent : NationCells) (l : LentFor lent) (xs : List ℕ) (z : refusal xs ≡ 0) where
   abbrev c : Campaign
@@ -142,7 +145,7 @@ module _ (lent : NationCells) (l : LentFor lent) (xs : List ℕ) (z : refusal xs
       pub entry-front : take (entry_width * r.entries) m.entries ≡ entry_words (nations_of c)
       entry-front = front (entry_words ns) lent.entries m.entries entry-cells entry-count
 
-      pub counts-short : (nation_width * r.nations ≤ 10000) × (entry_width * r.entries ≤ 840000000)
+      pub counts-short : (nation_width * r.nations ≤ nation_width * most_countries) × (entry_width * r.entries ≤ entry_width * most_entries)
       counts-short =
           let q = nations-given xs lent r (ap (λ o. o.answer) given) in
           let a = q.nations in

@@ -21,6 +21,9 @@ use Rattle.rules.specs.Changes.{changes_of}
 use Rattle.rules.specs.Nations.{nations_of}
 use Rattle.rules.specs.Page.{one_more, selection_of, tags_read, digits, decimal, tag_text, line, is_living, tag_line, page_text}
 use Rattle.rules.specs.PageOutcomes.{bytes_number, limits_number, page_of}
+use Rattle.page_lines.specs.declared.lines.TheConstants.{SHORT_LINE}
+use Rattle.page_lines.specs.declared.selection.TheConstants.{TAG_LINE}
+use Rattle.pages.specs.Printing.{most_printed}
 
 -- ## Digits
 
@@ -67,7 +70,7 @@ status-short false = omega arith
 tag-three : (t : CountryTag) → length (tag_text t) ≡ 3
 tag-three t = refl
 
-line-short : (t : CountryTag) (o : Option Nation) → ((n : Nation) → o ≡ some n → length n.entries ≤ 5000) → length (tag_line t o) ≤ 25
+line-short : (t : CountryTag) (o : Option Nation) → ((n : Nation) → o ≡ some n → length n.entries ≤ 5000) → length (tag_line t o) ≤ SHORT_LINE
 unfolding tag_line
 line-short t none h =
     let six : length (ascii "absent") ≡ 6 = refl in
@@ -105,14 +108,14 @@ first-entries p (m ∷ ns) n e =
     (λ f. omega (arith, l, first-entries p ns n (sym (ap (λ b. cond b (some m) (first_that p ns)) f) ∙ e)))
 
 -- A tag read takes four bytes.
-more-tags : (o : Option CountryTag) (feed : Bool) (r : Option (List CountryTag)) (k : ℕ) → 4 * length (tags_read r) ≤ k
-    → 4 * length (tags_read (one_more o feed r)) ≤ k + 4
+more-tags : (o : Option CountryTag) (feed : Bool) (r : Option (List CountryTag)) (k : ℕ) → TAG_LINE * length (tags_read r) ≤ k
+    → TAG_LINE * length (tags_read (one_more o feed r)) ≤ k + TAG_LINE
 more-tags none feed r k h = omega arith
 more-tags (some t) false r k h = omega arith
 more-tags (some t) true none k h = omega arith
 more-tags (some t) true (some ts) k h = omega (arith, h)
 
-tags-few : (ys : List ℕ) → 4 * length (tags_read (selection_of ys)) ≤ length ys
+tags-few : (ys : List ℕ) → TAG_LINE * length (tags_read (selection_of ys)) ≤ length ys
 unfolding selection_of
 tags-few [] = omega arith
 tags-few (a ∷ []) = omega arith
@@ -123,14 +126,14 @@ tags-few (a ∷ b ∷ c ∷ d ∷ rest) =
     omega (arith, m)
 
 text-short : (ns : List Nation) (tags : List CountryTag) → length tags ≤ 16384 → length (join_of (λ n. n.entries) ns) ≤ 5000
-    → length (page_text ns tags) ≤ 409615
+    → length (page_text ns tags) ≤ most_printed
 unfolding page_text
 text-short ns tags h few =
     let eight : length (ascii "selected") ≡ 8 = refl in
     let count = decimal (length tags) in
     let d : length count ≤ 5 = digits-five (length tags + 1) (length tags) (omega (arith, h)) in
     let one : CountryTag → List ℕ = λ t. tag_line t (first_that (λ n. same_tag n.stored t) ns) in
-    let each : (t : CountryTag) → length (one t) ≤ 25 =
+    let each : (t : CountryTag) → length (one t) ≤ SHORT_LINE =
     λ t. line-short t (first_that (λ n. same_tag n.stored t) ns) (λ n e. omega (arith, few, first-entries (λ m. same_tag m.stored t) ns n e)) in
     omega (
       arith,
@@ -139,7 +142,7 @@ text-short ns tags h few =
       eight,
       line-more (ascii "selected") count [],
       line-one count,
-      join-short one 25 tags (all-each each tags),
+      join-short one SHORT_LINE tags (all-each each tags),
       length-append (line (ascii "selected" ∷ count ∷ [])) (join_of one tags),
     )
 
@@ -148,7 +151,7 @@ no-ten true e = refl
 no-ten false e = absurd (omega (arith, e))
 
 module _ (xs selection : List ℕ) where
-  pub page-length : bytes_number xs selection ≡ 0 → limits_number (campaign_of xs) ≡ 0 → length (page_of xs selection) ≤ 409615
+  pub page-length : bytes_number xs selection ≡ 0 → limits_number (campaign_of xs) ≡ 0 → length (page_of xs selection) ≤ most_printed
   unfolding bytes_number limits_number page_of
   page-length few limits =
       let c = campaign_of xs in

@@ -4,6 +4,7 @@ ghost use Rattle.std.proofs.Math.Option.{some};
 ghost use Rattle.format.specs.Refused.{refusal_number};
 ghost use Rattle.rules.specs.Lent.{written};
 ghost use Rattle.rules.specs.PageOutcomes.{refused_line, call_program};
+ghost use Rattle.page_lines.specs.declared.lines.TheConstants.{LONGEST_LINE};
 ghost use Rattle.pages.specs.Printing.{file_read, most_printed, call_print, printed_outcome};
 
 use crate::paging::{MOST_BYTES, write_page};
@@ -21,7 +22,7 @@ pub const PRINTED_BYTES: usize = FIRST_LINE + SHORT_LINE * MOST_TAGS;
 
 // Writes the line of a refusal, and gives how many bytes it has.
 fn put_refusal(refusal: Refusal, out: &mut [u8]) -> usize
-    requires { 31 ≤ length out.old }
+    requires { LONGEST_LINE ≤ length out.old }
     ensures { (result ≡ length (refused_line (refusal_number refusal))) × (out.new ≡ written (refused_line (refusal_number refusal)) out.old) }
 {
     let line = refused_line(refusal.number());

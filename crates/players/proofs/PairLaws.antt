@@ -2,22 +2,11 @@
 use mathlib.Core.Path.{◌≡◌, refl, ap, ◌∙◌}
 use mathlib.Core.Bool.{◌&&◌}
 use mathlib.Core.List.{List, [], ◌∷◌}
-use Prim.Native.Nat.{ℕ, ◌+◌, ◌≤◌}
-use native.Mathlib.Omega.{arith}
+use Prim.Native.Nat.{ℕ, ◌+◌}
 use lib.Dec.{eqb}
-use lib.ListN.{length}
 use lib.Pointwise.{pointwise}
-use Rattle.lists.specs.Lists.{All, same_numbers}
-use Rattle.record.specs.declared.texts.Strings.{Strings}
-use Rattle.record.specs.Cursors.{strings_left}
-use Rattle.record.proofs.TextLaws.{strings-few}
-use Rattle.rules.specs.Players.{Pair, pairs_from}
-use Rattle.players.specs.declared.pairs.Pairs.{Pairs}
-use Rattle.players.specs.PairSteps.{pairs_left}
-
--- The strings left can be numbered in a word.
-pub few_strings : (it : Strings) → length (strings_left it) ≤ 4294967295
-few_strings it = strings-few it
+use Rattle.lists.specs.Lists.{same_numbers}
+use Rattle.rules.specs.Players.{pairs_from}
 
 -- No string, a name alone, or a name and a text behind it.
 pub pairs_none : (n : ℕ) (ss : List (List ℕ)) → ss ≡ [] → pairs_from n ss ≡ []
@@ -34,17 +23,6 @@ unfolding pairs_from
 pairs_next n ss behind rest name text e f = ap (pairs_from n) (e ∙ ap (λ l. name ∷ l) f)
 
 pub ruleset pairs = (pairs_none, pairs_odd, pairs_next)
-
--- Of so few strings every number fits a word.
-numbers-fit : (most n : ℕ) (ss : List (List ℕ)) → n + length ss ≤ most → All (λ (p : Pair). p.number ≤ most) (pairs_from n ss)
-unfolding pairs_from
-numbers-fit most n [] h = tt
-numbers-fit most n (name ∷ []) h = tt
-numbers-fit most n (name ∷ text ∷ rest) h = (omega arith, numbers-fit most (n + 2) rest (omega arith))
-
--- So it is of the pairs that an iterator has left.
-pub pairs-numbered : (it : Pairs) → All (λ (p : Pair). p.number ≤ 4294967295) (pairs_left it)
-pairs-numbered it = numbers-fit 4294967295 it.number (strings_left it.strings) it.numbered
 
 -- Slices of bytes are compared as lists of numbers are.
 pub same_bytes : (xs ys : List ℕ) → pointwise eqb xs ys ≡ same_numbers xs ys

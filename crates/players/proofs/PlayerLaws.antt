@@ -28,7 +28,7 @@ use Rattle.record.specs.Opened.{RightlyOpened}
 use Rattle.format.proofs.RefusedLaws.{refuses}
 use Rattle.record.specs.Cursors.{strings_left}
 use Rattle.rules.specs.Lent.{written, fits, room_number}
-use Rattle.rules.specs.Players.{Pair, pairs_from, Player, is_anonymous, tagged_player, player_of, players_of, player_words, player_rows}
+use Rattle.rules.specs.Players.{Pair, pairs_from, Player, is_anonymous, tagged_player, player_of, players_of, player_words, player_rows, player_width}
 use Rattle.rules.specs.PlayerOutcomes.{call_players}
 use Rattle.rules.proofs.LentLaws.{outcome-refused, outcome-gives}
 use Rattle.chronicle_rows.specs.RowAt.{row_put}
@@ -69,9 +69,9 @@ players-few xs z =
 
 -- ## Their rows
 
-pub length-player_rows : (ps : List Player) → length (player_rows ps) ≡ 2 * length ps
+pub length-player_rows : (ps : List Player) → length (player_rows ps) ≡ player_width * length ps
 unfolding player_rows
-length-player_rows ps = length-join 2 player_words (λ p. refl) ps
+length-player_rows ps = length-join player_width player_words (λ p. refl) ps
 
 pub rows_next : (p : Player) (ps : List Player) → player_rows (p ∷ ps) ≡ player_words p ++ player_rows ps
 unfolding player_rows
@@ -82,22 +82,22 @@ unfolding player_rows
 rows_none = refl
 
 -- A row was put into the tail, which has room for it.
-put-tail : (row words out now : List ℕ) (at : ℕ) → at + 2 ≤ length out → words ≡ row → now ≡ row_put 2 words (take (length out - at) (drop at out))
-    → now ≡ row ++ drop 2 (take (length out - at) (drop at out))
+put-tail : (row words out now : List ℕ) (at : ℕ) → at + player_width ≤ length out → words ≡ row → now ≡ row_put player_width words (take (length out - at) (drop at out))
+    → now ≡ row ++ drop player_width (take (length out - at) (drop at out))
 put-tail row words out now at room e put =
-    let long : 2 ≤ length (take (length out - at) (drop at out)) = simp (length-take, length-drop) (omega arith) in
-    put ∙ rw (le-leb 2 (length (take (length out - at) (drop at out))) long, e) refl
+    let long : player_width ≤ length (take (length out - at) (drop at out)) = simp (length-take, length-drop) (omega arith) in
+    put ∙ rw (le-leb player_width (length (take (length out - at) (drop at out))) long, e) refl
 
 -- The row of the next player follows those of the players before.
 pub row-written : (all : List ℕ) (left rest : List Player) (p : Player) (before now words cells : List ℕ) (i at next : ℕ)
-    → Writing all (player_rows left) before (2 * i) now → left ≡ p ∷ rest → at ≡ i → next ≡ i + 1 → words ≡ player_words p
-    → cells ≡ row_put 2 words (take (length now - 2 * at) (drop (2 * at) now))
-    → Writing all (player_rows rest) before (2 * next) (put_mid (2 * at) (length now - 2 * at) now cells)
+    → Writing all (player_rows left) before (player_width * i) now → left ≡ p ∷ rest → at ≡ i → next ≡ i + 1 → words ≡ player_words p
+    → cells ≡ row_put player_width words (take (length now - player_width * at) (drop (player_width * at) now))
+    → Writing all (player_rows rest) before (player_width * next) (put_mid (player_width * at) (length now - player_width * at) now cells)
 row-written all left rest p before now words cells i at next w e a b same put =
-    let room : 2 * i + 2 ≤ length now = omega (arith, w.fits, w.long, length-player_rows left, ap length e) in
-    let wrote = behind now (player_words p) cells (2 * i) room (put-tail (player_words p) words now cells (2 * i) room same (rw a at put)) in
-    let two : 2 * next ≡ 2 * i + 2 = omega (arith, b) in
-    rw (a, two) (writing_more all (player_rows left) (player_rows rest) before (player_words p) now _ (2 * i) (ap player_rows e ∙ rows_next p rest) w wrote)
+    let room : player_width * i + player_width ≤ length now = omega (arith, w.fits, w.long, length-player_rows left, ap length e) in
+    let wrote = behind now (player_words p) cells (player_width * i) room (put-tail (player_words p) words now cells (player_width * i) room same (rw a at put)) in
+    let step : player_width * next ≡ player_width * i + player_width = omega (arith, b) in
+    rw (a, step) (writing_more all (player_rows left) (player_rows rest) before (player_words p) now _ (player_width * i) (ap player_rows e ∙ rows_next p rest) w wrote)
 
 -- ## `players`
 
@@ -137,14 +137,14 @@ module _ (xs before : List ℕ) where
     size : n ≡ length (players_of (campaign_of xs))
     size = counted ∙ ap length told.all
 
-    pub players_short : length before < 2 * n → players_outcome (Err NoRoom) before ≡ call_players xs before
+    pub players_short : length before < player_width * n → players_outcome (Err NoRoom) before ≡ call_players xs before
     unfolding call_players number rows players
     players_short h =
         let short : fits rows before ≡ false = lt-leb (length rows) (length before) (omega (arith, length-player_rows players, size)) in
         let first : number ≡ 10 = first-pass (refusal xs) _ told.accepted ∙ first_one _ ∙ ap room_number short in
         sym (rw first (outcome-refused 10 (length players) (written rows before) before (omega arith)))
 
-    pub players_rows : (after : List ℕ) → 2 * n ≤ length before → after ≡ written (player_rows left) before → players_outcome (Ok n) after ≡ call_players xs before
+    pub players_rows : (after : List ℕ) → player_width * n ≤ length before → after ≡ written (player_rows left) before → players_outcome (Ok n) after ≡ call_players xs before
     unfolding call_players number rows players
     players_rows after h e =
         let room : fits rows before ≡ true = le-leb (length rows) (length before) (omega (arith, length-player_rows players, size)) in

@@ -23,7 +23,7 @@ pub(crate) struct Pairs<'a> {
     ghost numbered: { number + length (strings_left strings) ≤ 4294967295 },
 }
 
-#[tactic(auto, using(crate::proofs::PairLaws::few_strings))]
+#[tactic(auto, using(record::proofs::TextLaws::strings_few))]
 impl<'a> Pairs<'a> {
     ghost use Rattle.std.specs.Prelude.{◌≡◌};
     ghost use Rattle.rules.specs.Players.{pairs_from};

@@ -17,7 +17,7 @@ use Rattle.questions.specs.Cases.{question_told, question_in}
 use Rattle.questions.specs.Asked.{question_at}
 
 module _ (qs : List ℕ) where
-  pub questions_count : length qs / 2 ≡ length (questions_in qs)
+  pub questions_count : length qs / question_width ≡ length (questions_in qs)
   unfolding questions_in
   questions_count = rows-count question_width question_of qs
 

@@ -14,7 +14,7 @@ use Rattle.sorting.specs.Sort.{sort_by}
 use Rattle.sorting.proofs.SortLaws.{length-sort}
 use Rattle.sorting.proofs.SortedKeyLaws.{sort-again}
 use Rattle.rules.specs.NationRows.{nation_rows_in, well_shaped}
-use Rattle.rules.specs.Questions.{questions_in, question_shaped}
+use Rattle.rules.specs.Questions.{questions_in, question_shaped, answer_width}
 use Rattle.claims.specs.declared.claims.Claim.{Claim}
 use Rattle.claims.specs.Claims.{claims_in}
 use Rattle.questions.specs.Layout.{claim_numbers, row_owners}
@@ -26,6 +26,7 @@ use Rattle.questions.proofs.GoodLaws.{SoundClaim, claims-sound}
 use Rattle.questions.proofs.KeyLaws.{GoodClaim}
 use Rattle.questions.proofs.PassLaws.{zeros-rows}
 use Rattle.questions.proofs.RowsLaws.{block-rows, final-rows}
+use Rattle.questions.specs.declared.blocks.TheConstants.{BLOCK}
 
 -- ## A block
 
@@ -72,11 +73,11 @@ module _ (words : ℕ) (held : List ℕ → List ℕ → List ℕ → List ℕ) 
     pub whole : claims ≡ passed ++ left
     pub told : (rows : List Claim → List ℕ) → before ≡ rows [] → words ≤ length before → HoldsBlock held claims rows → out ≡ rows passed
     pub long : length out ≡ length before
-    pub keys_long : length keys ≡ 24576
-    pub owners_long : length owners ≡ 24576
-    pub scratch_long : length scratch ≡ 24576
+    pub keys_long : length keys ≡ BLOCK
+    pub owners_long : length owners ≡ BLOCK
+    pub scratch_long : length scratch ≡ BLOCK
 
-  pub between-first : (left : List Claim) (keys owners scratch : List ℕ) → left ≡ claims → length keys ≡ 24576 → length owners ≡ 24576 → length scratch ≡ 24576
+  pub between-first : (left : List Claim) (keys owners scratch : List ℕ) → left ≡ claims → length keys ≡ BLOCK → length owners ≡ BLOCK → length scratch ≡ BLOCK
       → Between left before keys owners scratch
   between-first left keys owners scratch e k o s =
       record {
@@ -148,20 +149,20 @@ questions-hold ws es qs before shaped good passed ys left behind e few =
 
 -- The words of all rows, cleared, held against the blocks and turned, and behind them what stood there.
 module _ (ws es qs : List ℕ) (shaped : well_shaped ws es ≡ true) (few : length (nation_rows_in ws) < row_owners) (good : all_of question_shaped (questions_in qs) ≡ true) where
-  pub answered-rows : (n : ℕ) (before first second third : List ℕ) → n ≡ length (questions_in qs) → 2 * n ≤ length before → first ≡ replicate (length (take (2 * n) before)) 0
-      → HoldsAll (2 * length (questions_in qs)) (λ keys owners out. rows_with (block_row qs keys owners out) (length (questions_in qs)) out) (claims_in ws es) first second
-      → length second ≡ length first → third ≡ rows_with (finished_row ws second) (length second / 2) second
-      → third ++ drop (2 * n) before ≡ rows_with (claim_row ws es qs) (length (questions_in qs)) before
+  pub answered-rows : (n : ℕ) (before first second third : List ℕ) → n ≡ length (questions_in qs) → answer_width * n ≤ length before → first ≡ replicate (length (take (answer_width * n) before)) 0
+      → HoldsAll (answer_width * length (questions_in qs)) (λ keys owners out. rows_with (block_row qs keys owners out) (length (questions_in qs)) out) (claims_in ws es) first second
+      → length second ≡ length first → third ≡ rows_with (finished_row ws second) (length second / answer_width) second
+      → third ++ drop (answer_width * n) before ≡ rows_with (claim_row ws es qs) (length (questions_in qs)) before
   answered-rows n before first second third e room z h l f =
       let m = length (questions_in qs) in
-      let wide : length first ≡ 2 * m = ap length z ∙ length-replicate (length (take (2 * n) before)) 0 ∙ (length-take-le (2 * n) before room ∙ ap (λ (k : ℕ). 2 * k) e) in
-      let over : drop (2 * m) first ≡ [] = drop_all (2 * m) first (omega arith) in
+      let wide : length first ≡ answer_width * m = ap length z ∙ length-replicate (length (take (answer_width * n) before)) 0 ∙ (length-take-le (answer_width * n) before room ∙ ap (λ (k : ℕ). answer_width * k) e) in
+      let over : drop (answer_width * m) first ≡ [] = drop_all (answer_width * m) first (omega arith) in
       let blank : first ≡ best_rows qs first [] =
       z
-      ∙ (zeros-rows qs 0 m _ (length-take-le (2 * n) before room ∙ ap (λ (k : ℕ). 2 * k) e)
+      ∙ (zeros-rows qs 0 m _ (length-take-le (answer_width * n) before room ∙ ap (λ (k : ℕ). answer_width * k) e)
       ∙ (sym (append-nil _) ∙ ap (λ (t : List ℕ). join_of (best_row qs []) (numbers_from 0 m) ++ t) (sym over))) in
       let held : second ≡ best_rows qs first (claims_in ws es) = h (best_rows qs first) blank (omega arith) (questions-hold ws es qs first shaped good) in
-      let half : length second / 2 ≡ m = omega arith in
-      let turned : third ≡ rows_with (claim_row ws es qs) m first = final-rows ws es shaped few qs m first second third held (rw half at f) in
-      ap (λ (t : List ℕ). t ++ drop (2 * n) before) (turned ∙ (ap (λ (t : List ℕ). join_of (claim_row ws es qs) (numbers_from 0 m) ++ t) over ∙ append-nil _))
-      ∙ ap (λ (k : ℕ). join_of (claim_row ws es qs) (numbers_from 0 m) ++ drop (2 * k) before) e
+      let rows : length second / answer_width ≡ m = omega arith in
+      let turned : third ≡ rows_with (claim_row ws es qs) m first = final-rows ws es shaped few qs m first second third held (rw rows at f) in
+      ap (λ (t : List ℕ). t ++ drop (answer_width * n) before) (turned ∙ (ap (λ (t : List ℕ). join_of (claim_row ws es qs) (numbers_from 0 m) ++ t) over ∙ append-nil _))
+      ∙ ap (λ (k : ℕ). join_of (claim_row ws es qs) (numbers_from 0 m) ++ drop (answer_width * k) before) e

@@ -3,7 +3,6 @@ pub mod KeyLaws
 pub mod BlockLaws
 pub mod LookLaws
 pub mod AnsweredLaws
-pub mod WordLaws
 pub mod PassLaws
 pub mod BestLaws
 pub mod GoodLaws

@@ -13,7 +13,7 @@ use Rattle.std.proofs.lemmas.List.{drop_all}
 use Rattle.lists.specs.Lists.{join_of, numbers_from}
 use Rattle.lists.proofs.ListLaws.{join-append}
 use Rattle.chronicle_rows.specs.RowAt.{row_put}
-use Rattle.rules.specs.Questions.{Question, answer_words}
+use Rattle.rules.specs.Questions.{Question, answer_words, answer_width}
 use Rattle.claims.specs.declared.claims.Claim.{Claim}
 use Rattle.claims.specs.Claims.{claims_in, best_of, plain_at}
 use Rattle.claims.proofs.ResolvedLaws.{map-twice}
@@ -36,28 +36,28 @@ join-next row i =
     ∙ rw e (ap (λ (l : List ℕ). join_of row (numbers_from 0 i) ++ l) (append-nil (row i))))
 
 -- Words of zeros, as the library fills them, are rows with the best of no claims.
-pub zeros-rows : (qs : List ℕ) (a n m : ℕ) → m ≡ 2 * n → replicate m 0 ≡ join_of (best_row qs []) (numbers_from a n)
+pub zeros-rows : (qs : List ℕ) (a n m : ℕ) → m ≡ answer_width * n → replicate m 0 ≡ join_of (best_row qs []) (numbers_from a n)
 zeros-rows qs a zero m e = let z : m ≡ 0 = omega arith in rw z refl
 zeros-rows qs a (suc n) m e =
-    let z : m ≡ suc (suc (m - 2)) = omega arith in rw z (ap (λ (l : List ℕ). 0 ∷ 0 ∷ l) (zeros-rows qs (suc a) n (m - 2) (omega arith)))
+    let z : m ≡ suc (suc (m - answer_width)) = omega arith in rw z (ap (λ (l : List ℕ). 0 ∷ 0 ∷ l) (zeros-rows qs (suc a) n (m - answer_width) (omega arith)))
 
 -- A row put at the front of the cells from its place on.
-pub row-put : (out words now : List ℕ) (i : ℕ) → 2 * (i + 1) ≤ length out → now ≡ row_put 2 words (take (length out - 2 * i) (drop (2 * i) out))
-    → take (2 * i) out ++ (now ++ drop (length out - 2 * i) (drop (2 * i) out)) ≡ row_set out i words
+pub row-put : (out words now : List ℕ) (i : ℕ) → answer_width * (i + 1) ≤ length out → now ≡ row_put answer_width words (take (length out - answer_width * i) (drop (answer_width * i) out))
+    → take (answer_width * i) out ++ (now ++ drop (length out - answer_width * i) (drop (answer_width * i) out)) ≡ row_set out i words
 row-put out words now i h e =
-    let cells : List ℕ = drop (2 * i) out in
-    let many : length cells ≡ length out - 2 * i = length-drop (2 * i) out in
-    let two : 2 * i + 2 ≡ 2 * (i + 1) = omega arith in
-    let all : take (length out - 2 * i) cells ≡ cells = take_all (length out - 2 * i) cells (omega (arith, many)) in
-    let over : drop (length out - 2 * i) cells ≡ [] = drop_all (length out - 2 * i) cells (omega (arith, many)) in
-    let room : leb 2 (length cells) ≡ true = le-leb 2 (length cells) (omega (arith, many)) in
-    let back : drop 2 cells ≡ drop (2 * (i + 1)) out = drop-drop 2 (2 * i) out ∙ ap (λ (n : ℕ). drop n out) two in
-    let put : now ≡ words ++ drop (2 * (i + 1)) out = rw all at e ∙ rw (room, back) refl in
-    ap₂ (λ (l r : List ℕ). take (2 * i) out ++ (l ++ r)) put over ∙ ap (λ (l : List ℕ). take (2 * i) out ++ l) (append-nil _)
+    let cells : List ℕ = drop (answer_width * i) out in
+    let many : length cells ≡ length out - answer_width * i = length-drop (answer_width * i) out in
+    let step : answer_width * i + answer_width ≡ answer_width * (i + 1) = omega arith in
+    let all : take (length out - answer_width * i) cells ≡ cells = take_all (length out - answer_width * i) cells (omega (arith, many)) in
+    let over : drop (length out - answer_width * i) cells ≡ [] = drop_all (length out - answer_width * i) cells (omega (arith, many)) in
+    let room : leb answer_width (length cells) ≡ true = le-leb answer_width (length cells) (omega (arith, many)) in
+    let back : drop answer_width cells ≡ drop (answer_width * (i + 1)) out = drop-drop answer_width (answer_width * i) out ∙ ap (λ (n : ℕ). drop n out) step in
+    let put : now ≡ words ++ drop (answer_width * (i + 1)) out = rw all at e ∙ rw (room, back) refl in
+    ap₂ (λ (l r : List ℕ). take (answer_width * i) out ++ (l ++ r)) put over ∙ ap (λ (l : List ℕ). take (answer_width * i) out ++ l) (append-nil _)
 
 pub record Passing (row : ℕ → List ℕ) (before : List ℕ) (i : ℕ) (out : List ℕ) : Type 0 where
   pub cells : out ≡ rows_with row i before
-  pub wide : length (join_of row (numbers_from 0 i)) ≡ 2 * i
+  pub wide : length (join_of row (numbers_from 0 i)) ≡ answer_width * i
   pub long : length out ≡ length before
 
 pub passing-start : (row : ℕ → List ℕ) (before : List ℕ) → Passing row before 0 before
@@ -71,52 +71,52 @@ module _ (row : ℕ → List ℕ) (before : List ℕ) (i : ℕ) (out : List ℕ)
   passed = join_of row (numbers_from 0 i)
 
   -- The words of the next row are those that stood there.
-  word-still : (k : ℕ) → get_or out (2 * i + k) 0 ≡ get_or before (2 * i + k) 0
+  word-still : (k : ℕ) → get_or out (answer_width * i + k) 0 ≡ get_or before (answer_width * i + k) 0
   unfolding passed
   word-still k =
-      ap (λ (l : List ℕ). get_or l (2 * i + k) 0) p.cells
-      ∙ (ap (λ (n : ℕ). get_or (passed ++ drop (2 * i) before) (n + k) 0) (sym p.wide)
-      ∙ (get_or-append-add passed (drop (2 * i) before) k 0 ∙ get_or-drop (2 * i) before k 0))
+      ap (λ (l : List ℕ). get_or l (answer_width * i + k) 0) p.cells
+      ∙ (ap (λ (n : ℕ). get_or (passed ++ drop (answer_width * i) before) (n + k) 0) (sym p.wide)
+      ∙ (get_or-append-add passed (drop (answer_width * i) before) k 0 ∙ get_or-drop (answer_width * i) before k 0))
 
-  pub first-still : (at : ℕ) → at ≡ i → get_or out (2 * at) 0 ≡ get_or before (2 * i) 0
-  first-still at e = rw e (let f : 2 * i + 0 ≡ 2 * i = omega arith in rw f at (word-still 0))
+  pub first-still : (at : ℕ) → at ≡ i → get_or out (answer_width * at) 0 ≡ get_or before (answer_width * i) 0
+  first-still at e = rw e (let f : answer_width * i + 0 ≡ answer_width * i = omega arith in rw f at (word-still 0))
 
-  pub second-still : (at : ℕ) → at ≡ i → get_or out (2 * at + 1) 0 ≡ get_or before (2 * i + 1) 0
+  pub second-still : (at : ℕ) → at ≡ i → get_or out (answer_width * at + 1) 0 ≡ get_or before (answer_width * i + 1) 0
   second-still at e = rw e (word-still 1)
 
   -- The next row is written.
-  pub passing-put : (words new : List ℕ) (at : ℕ) → at ≡ i → length words ≡ 2 → new ≡ row_set out at words → 2 * (i + 1) ≤ length before → words ≡ row i → Passing row before (i + 1) new
+  pub passing-put : (words new : List ℕ) (at : ℕ) → at ≡ i → length words ≡ answer_width → new ≡ row_set out at words → answer_width * (i + 1) ≤ length before → words ≡ row i → Passing row before (i + 1) new
   unfolding passed
   passing-put words new at here-at l w h e =
-      let rest : List ℕ = drop (2 * (i + 1)) before in
-      let front : take (2 * i) out ≡ passed = ap (take (2 * i)) p.cells ∙ take_at passed (drop (2 * i) before) (2 * i) p.wide in
-      let two : 2 * i + 2 ≡ 2 * (i + 1) = omega arith in
-      let here : drop (2 * i) out ≡ drop (2 * i) before = ap (drop (2 * i)) p.cells ∙ drop_at passed (drop (2 * i) before) (2 * i) p.wide in
-      let back : drop (2 * (i + 1)) out ≡ rest =
-      ap (λ (n : ℕ). drop n out) (sym two) ∙ sym (drop-drop 2 (2 * i) out) ∙ ap (drop 2) here ∙ drop-drop 2 (2 * i) before ∙ ap (λ (n : ℕ). drop n before) two in
+      let rest : List ℕ = drop (answer_width * (i + 1)) before in
+      let front : take (answer_width * i) out ≡ passed = ap (take (answer_width * i)) p.cells ∙ take_at passed (drop (answer_width * i) before) (answer_width * i) p.wide in
+      let step : answer_width * i + answer_width ≡ answer_width * (i + 1) = omega arith in
+      let here : drop (answer_width * i) out ≡ drop (answer_width * i) before = ap (drop (answer_width * i)) p.cells ∙ drop_at passed (drop (answer_width * i) before) (answer_width * i) p.wide in
+      let back : drop (answer_width * (i + 1)) out ≡ rest =
+      ap (λ (n : ℕ). drop n out) (sym step) ∙ sym (drop-drop answer_width (answer_width * i) out) ∙ ap (drop answer_width) here ∙ drop-drop answer_width (answer_width * i) before ∙ ap (λ (n : ℕ). drop n before) step in
       let cells : new ≡ rows_with row (i + 1) before =
       w
       ∙ ap (λ (k : ℕ). row_set out k words) here-at
       ∙ ap₂ (λ (f b : List ℕ). f ++ (words ++ b)) front back
       ∙ sym (append_assoc passed words rest)
       ∙ ap (λ (l : List ℕ). l ++ rest) (ap (λ (r : List ℕ). passed ++ r) e ∙ sym (join-next row i)) in
-      let wide : length (join_of row (numbers_from 0 (i + 1))) ≡ 2 * (i + 1) =
+      let wide : length (join_of row (numbers_from 0 (i + 1))) ≡ answer_width * (i + 1) =
       omega (arith, ap length (join-next row i) ∙ length-append passed (row i), p.wide, ap length (sym e) ∙ l) in
       record {
         cells = cells;
         wide = wide;
-        long = ap length cells ∙ length-append (join_of row (numbers_from 0 (i + 1))) rest ∙ omega (arith, wide, length-drop (2 * (i + 1)) before);
+        long = ap length cells ∙ length-append (join_of row (numbers_from 0 (i + 1))) rest ∙ omega (arith, wide, length-drop (answer_width * (i + 1)) before);
       }
 
 -- ## The rows of the passes, as the code has worked them out
 
 pub block-row : (qs keys owners before : List ℕ) (i : ℕ) (words : List ℕ) (looked : Option ℕ) (q : Question) (best owner : ℕ) → words ≡ updated owners looked best owner
-    → looked ≡ last_asked q.tag q.date keys → q ≡ question_at qs i → best ≡ get_or before (2 * i) 0 → owner ≡ get_or before (2 * i + 1) 0
+    → looked ≡ last_asked q.tag q.date keys → q ≡ question_at qs i → best ≡ get_or before (answer_width * i) 0 → owner ≡ get_or before (answer_width * i + 1) 0
     → words ≡ block_row qs keys owners before i
 block-row qs keys owners before i words looked q best owner w l e b o = w ∙ rw (l, e, b, o)
 
 pub finished-row : (ws before : List ℕ) (i : ℕ) (words : List ℕ) (nation : Option ℕ) (owner : ℕ) → words ≡ answer_words (map (plain_at ws) nation) → nation ≡ row_owner owner
-    → owner ≡ get_or before (2 * i + 1) 0 → words ≡ finished_row ws before i
+    → owner ≡ get_or before (answer_width * i + 1) 0 → words ≡ finished_row ws before i
 finished-row ws before i words nation owner w n o = w ∙ rw (n, o)
 
 pub claim-row : (ws es qs : List ℕ) (i : ℕ) (words : List ℕ) (nation : Option ℕ) (best : Option Claim) (q : Question) → words ≡ answer_words (map (plain_at ws) nation)

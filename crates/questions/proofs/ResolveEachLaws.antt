@@ -16,17 +16,17 @@ use Rattle.rules.specs.Lent.{refused, gives, written, fits, room_number}
 use Rattle.rules.specs.NationRows.{nations_in, well_shaped}
 use Rattle.rules.specs.Resolver.{TagData, resolve}
 use Rattle.rules.specs.Refusals.{chronicle_number}
-use Rattle.rules.specs.Questions.{question_width, questions_in, question_shaped, questions_number, answer_words, answer_rows, call_resolve_each}
+use Rattle.rules.specs.Questions.{question_width, questions_in, question_shaped, questions_number, answer_words, answer_rows, call_resolve_each, answer_width}
 use Rattle.rules.proofs.LentLaws.{answered-given, outcome-refused, outcome-gives}
 use Rattle.questions.specs.Passes.{rows_with, claim_row}
 use Rattle.questions.proofs.AskedLaws.{questions_count}
 use Rattle.questions.proofs.RowsLaws.{answer-rows}
 
-length-answers : (ws es qs : List ℕ) → length (answer_rows (nations_in ws es) (questions_in qs)) ≡ 2 * length (questions_in qs)
+length-answers : (ws es qs : List ℕ) → length (answer_rows (nations_in ws es) (questions_in qs)) ≡ answer_width * length (questions_in qs)
 unfolding answer_rows
-length-answers ws es qs = length-join 2 (λ q. answer_words (resolve (nations_in ws es) q.tag q.date)) (λ q. wide (resolve (nations_in ws es) q.tag q.date)) (questions_in qs)
+length-answers ws es qs = length-join answer_width (λ q. answer_words (resolve (nations_in ws es) q.tag q.date)) (λ q. wide (resolve (nations_in ws es) q.tag q.date)) (questions_in qs)
   where
-    wide : (o : Option TagData) → length (answer_words o) ≡ 2
+    wide : (o : Option TagData) → length (answer_words o) ≡ answer_width
     wide none = refl
     wide (some d) = refl
 
@@ -71,17 +71,17 @@ module _ (ws es qs before : List ℕ) where
             behind
             ∙ (first-pass (questions_number qs) _ (ap (λ (b : Bool). cond b 0 12) (sym f ∙ not-false g ok)) ∙ first_one (room_number (fits rows before)))
 
-        pub each-short : length before / 2 < n → record { answer = refused 10; memory = before } ≡ call_resolve_each ws es qs before
+        pub each-short : length before / answer_width < n → record { answer = refused 10; memory = before } ≡ call_resolve_each ws es qs before
         unfolding call_resolve_each number rows
         each-short h =
             let short : fits rows before ≡ false = lt-leb (length rows) (length before) (omega (arith, length-answers ws es qs)) in
             let first : number ≡ 10 = last-number ∙ ap room_number short in
             sym (rw first (outcome-refused 10 (length (questions_in qs)) (written rows before) before (omega arith)))
 
-        pub each-room : n ≤ length before / 2 → 2 * length (questions_in qs) ≤ length before
+        pub each-room : n ≤ length before / answer_width → answer_width * length (questions_in qs) ≤ length before
         each-room h = omega arith
 
-        pub each_rows : n ≤ length before / 2 → (after : List ℕ) → after ≡ rows_with (claim_row ws es qs) (length (questions_in qs)) before
+        pub each_rows : n ≤ length before / answer_width → (after : List ℕ) → after ≡ rows_with (claim_row ws es qs) (length (questions_in qs)) before
             → record { answer = gives n; memory = after } ≡ call_resolve_each ws es qs before
         unfolding call_resolve_each number rows
         each_rows h after w =
@@ -91,7 +91,7 @@ module _ (ws es qs before : List ℕ) where
             w ∙ ap₂ ◌++◌ (answer-rows ws es shaped qs) (ap (λ (k : ℕ). drop k before) (sym (length-answers ws es qs))) in
             sym (rw (m, all) (outcome-gives number (length (questions_in qs)) (written rows before) before first))
 
--- How many rows are given: half as many as the questions have words.
-pub each-few : (ws es qs before : List ℕ) (n : ℕ) → gives n ≡ (call_resolve_each ws es qs before).answer → n ≡ length qs / 2
+-- How many rows are given: as many as the questions' words make whole rows.
+pub each-few : (ws es qs before : List ℕ) (n : ℕ) → gives n ≡ (call_resolve_each ws es qs before).answer → n ≡ length qs / question_width
 unfolding call_resolve_each number rows
 each-few ws es qs before n e = (answered-given (number ws es qs before) (length (questions_in qs)) n e).1 ∙ sym (questions_count qs)

@@ -22,7 +22,7 @@ use Rattle.format.specs.Dates.{good_date}
 use Rattle.format.proofs.BoundLaws.{date-small}
 use Rattle.rules.specs.NationRows.{nation_rows_in, nations_in, well_shaped}
 use Rattle.rules.specs.Resolver.{plain_data, resolved_nation, resolve}
-use Rattle.rules.specs.Questions.{Question, questions_in, question_shaped, answer_words, answer_rows}
+use Rattle.rules.specs.Questions.{Question, questions_in, question_shaped, answer_words, answer_rows, answer_width}
 use Rattle.chronicle_rows.proofs.NumberedLaws.{numbers-range, dropped-numbers}
 use Rattle.claims.specs.declared.claims.Claim.{Claim}
 use Rattle.claims.specs.Claims.{claims_in, best_of, is_asked, claim_day, plain_of}
@@ -37,37 +37,37 @@ use Rattle.questions.proofs.AnsweredLaws.{block_words, greatest-has, Has}
 use Rattle.questions.proofs.BestLaws.{block-best}
 use Rattle.questions.proofs.GoodLaws.{SoundClaim, claims-sound}
 
--- ## Rows of two words
+-- ## Rows of answers
 
-length-all : (row : ℕ → List ℕ) (n : ℕ) → ((i : ℕ) → length (row i) ≡ 2) → length (join_of row (numbers_from 0 n)) ≡ 2 * n
-length-all row n w = length-join 2 row w (numbers_from 0 n) ∙ ap (λ (m : ℕ). 2 * m) (length-numbers 0 n)
+length-all : (row : ℕ → List ℕ) (n : ℕ) → ((i : ℕ) → length (row i) ≡ answer_width) → length (join_of row (numbers_from 0 n)) ≡ answer_width * n
+length-all row n w = length-join answer_width row w (numbers_from 0 n) ∙ ap (λ (m : ℕ). answer_width * m) (length-numbers 0 n)
 
 -- Rows over rows.
-rows-again : (row old : ℕ → List ℕ) (n : ℕ) (before : List ℕ) → ((i : ℕ) → length (old i) ≡ 2) → rows_with row n (rows_with old n before) ≡ rows_with row n before
+rows-again : (row old : ℕ → List ℕ) (n : ℕ) (before : List ℕ) → ((i : ℕ) → length (old i) ≡ answer_width) → rows_with row n (rows_with old n before) ≡ rows_with row n before
 rows-again row old n before w =
-    ap (λ (l : List ℕ). join_of row (numbers_from 0 n) ++ l) (drop_at (join_of old (numbers_from 0 n)) (drop (2 * n) before) (2 * n) (length-all old n w))
+    ap (λ (l : List ℕ). join_of row (numbers_from 0 n) ++ l) (drop_at (join_of old (numbers_from 0 n)) (drop (answer_width * n) before) (answer_width * n) (length-all old n w))
 
 -- Word k of row i.
-row_word : (row : ℕ → List ℕ) (n : ℕ) (before : List ℕ) → ((i : ℕ) → length (row i) ≡ 2) → (i k : ℕ) → i < n → k < 2 → get_or (rows_with row n before) (2 * i + k) 0 ≡ get_or (row i) k 0
+row_word : (row : ℕ → List ℕ) (n : ℕ) (before : List ℕ) → ((i : ℕ) → length (row i) ≡ answer_width) → (i k : ℕ) → i < n → k < answer_width → get_or (rows_with row n before) (answer_width * i + k) 0 ≡ get_or (row i) k 0
 row_word row n before w i k h l =
     let is : List ℕ = numbers_from 0 n in
     let e : 0 + i ≡ i = omega arith in
-    get_or-append (join_of row is) (drop (2 * n) before) 0 (2 * i + k) (omega (arith, length-all row n w))
-    ∙ (sym (row-at 2 (length is) (join_of row is) i k 0 (omega (arith, length-numbers 0 n)) l)
-    ∙ ap (λ (r : List ℕ). get_or r k 0) (ap (λ (rs : List (List ℕ)). get_or rs i []) (rows_join 2 row w is) ∙ numbers-at row [] 0 n i h ∙ ap row e))
+    get_or-append (join_of row is) (drop (answer_width * n) before) 0 (answer_width * i + k) (omega (arith, length-all row n w))
+    ∙ (sym (row-at answer_width (length is) (join_of row is) i k 0 (omega (arith, length-numbers 0 n)) l)
+    ∙ ap (λ (r : List ℕ). get_or r k 0) (ap (λ (rs : List (List ℕ)). get_or rs i []) (rows_join answer_width row w is) ∙ numbers-at row [] 0 n i h ∙ ap row e))
 
-row_first : (row : ℕ → List ℕ) (n : ℕ) (before : List ℕ) → ((i : ℕ) → length (row i) ≡ 2) → (i : ℕ) → i < n → get_or (rows_with row n before) (2 * i) 0 ≡ get_or (row i) 0 0
-row_first row n before w i h = let e : 2 * i + 0 ≡ 2 * i = omega arith in rw e at (row_word row n before w i 0 h (omega arith))
+row_first : (row : ℕ → List ℕ) (n : ℕ) (before : List ℕ) → ((i : ℕ) → length (row i) ≡ answer_width) → (i : ℕ) → i < n → get_or (rows_with row n before) (answer_width * i) 0 ≡ get_or (row i) 0 0
+row_first row n before w i h = let e : answer_width * i + 0 ≡ answer_width * i = omega arith in rw e at (row_word row n before w i 0 h (omega arith))
 
 -- The same rows by another definition.
 rows_same : (f g : ℕ → List ℕ) (n : ℕ) (before : List ℕ) → ((i : ℕ) → i < n → f i ≡ g i) → rows_with f n before ≡ rows_with g n before
 rows_same f g n before h =
-    ap (λ (l : List ℕ). l ++ drop (2 * n) before) (join-same f g (numbers_from 0 n) (all_map (λ i r. h i (omega (arith, r.1))) (numbers_from 0 n) (numbers-range 0 n)))
+    ap (λ (l : List ℕ). l ++ drop (answer_width * n) before) (join-same f g (numbers_from 0 n) (all_map (λ i r. h i (omega (arith, r.1))) (numbers_from 0 n) (numbers-range 0 n)))
 
-best-wide : (qs : List ℕ) (cs : List Claim) (i : ℕ) → length (best_row qs cs i) ≡ 2
+best-wide : (qs : List ℕ) (cs : List Claim) (i : ℕ) → length (best_row qs cs i) ≡ answer_width
 best-wide qs cs i = go (best_of (question_at qs i).tag (question_at qs i).date cs)
   where
-    go : (o : Option Claim) → length (claim_words o) ≡ 2
+    go : (o : Option Claim) → length (claim_words o) ≡ answer_width
     go none = refl
     go (some c) = refl
 
@@ -106,8 +106,8 @@ module _ (qs : List ℕ) (good : all_of question_shaped (questions_in qs) ≡ tr
       step i h =
           let q = question_at qs i in
           let s = question-good i (omega arith) in
-          let first : get_or out (2 * i) 0 ≡ get_or (best_row qs xs i) 0 0 = rw e (row_first (best_row qs xs) n before (best-wide qs xs) i h) in
-          let second : get_or out (2 * i + 1) 0 ≡ get_or (best_row qs xs i) 1 0 = rw e (row_word (best_row qs xs) n before (best-wide qs xs) i 1 h (omega arith)) in
+          let first : get_or out (answer_width * i) 0 ≡ get_or (best_row qs xs i) 0 0 = rw e (row_first (best_row qs xs) n before (best-wide qs xs) i h) in
+          let second : get_or out (answer_width * i + 1) 0 ≡ get_or (best_row qs xs i) 1 0 = rw e (row_word (best_row qs xs) n before (best-wide qs xs) i 1 h (omega arith)) in
           rw (first, second, k, o)
           (block-updated q.tag q.date (and_left (is_tag q.tag) (good_date q.date) s) (date-small q.date (and_right (is_tag q.tag) (good_date q.date) s)) xs ys back g few)
 
@@ -129,7 +129,7 @@ module _ (ws es : List ℕ) (shaped : well_shaped ws es ≡ true) where
       step i h =
           let q = question_at qs i in
           let all = claims_in ws es in
-          let second : get_or out (2 * i + 1) 0 ≡ get_or (best_row qs all i) 1 0 = rw e (row_word (best_row qs all) n before (best-wide qs all) i 1 h (omega arith)) in
+          let second : get_or out (answer_width * i + 1) 0 ≡ get_or (best_row qs all i) 1 0 = rw e (row_word (best_row qs all) n before (best-wide qs all) i 1 h (omega arith)) in
           rw second
           (turn (best_of q.tag q.date all)
           (greatest-has claim_day claim_day (SoundClaim (length (nation_rows_in ws))) (keep (is_asked q.tag q.date) all) (all_keep (SoundClaim (length (nation_rows_in ws))) (is_asked q.tag q.date) all (claims-sound ws es shaped))))

@@ -3,8 +3,16 @@ use Rattle.std.specs.Prelude as code
 use Rattle.std.specs.Prelude.{◌≡◌, Some, None, List, [], ◌++◌, map, ℕ, ◌≤◌, leb, length}
 use Rattle.sorting.specs.Sort.{sort_by}
 use Rattle.claims.specs.declared.claims.Claim.{Claim}
+use Rattle.questions.specs.declared.holding.ClaimBlock.{ClaimBlock}
 use Rattle.questions.specs.Layout.{claim_numbers}
 use Rattle.questions.specs.Keys.{keys_from}
+
+-- The sorted keys of a block, and the numbers of its nations.
+abbrev pub block_keys : ClaimBlock → List ℕ
+block_keys block = block.sorted.keys.now
+
+abbrev pub block_owners : ClaimBlock → List ℕ
+block_owners block = block.owners.now
 
 -- How many claims a block has; without a block none.
 abbrev pub taken_told : code.Option ℕ → ℕ

@@ -5,11 +5,11 @@ ghost use Rattle.claims.specs.Claims.{claims_in};
 ghost use Rattle.questions.specs.Layout.{row_owners};
 ghost use Rattle.questions.specs.Keys.{last_asked};
 ghost use Rattle.questions.specs.Passes.{updated};
-ghost use Rattle.questions.specs.Holding.{HoldsAll};
+ghost use Rattle.questions.specs.Holding.{block_keys, block_owners, HoldsAll};
 
 use crate::blocks::{BLOCK, look_up_near, sort_block};
 use crate::layout::ROW_OWNERS;
-use crate::words::{ANSWER_WIDTH, updated_row};
+use crate::words::{ANSWER_WIDTH, later_row};
 use chronicle_rows::{Chronicle, nation_count};
 use claims::Claims;
 use format::{CountryTag, Eu4Date};
@@ -34,10 +34,10 @@ impl ClaimBlock<'_> {
         best: u32,
         owner: u32,
     ) -> [u32; ANSWER_WIDTH]
-        ensures { result ≡ updated self.now.owners.now (last_asked tag date self.now.sorted.keys.now) best owner }
+        ensures { result ≡ updated (block_owners self.now) (last_asked tag date (block_keys self.now)) best owner }
     {
         let looked = look_up_near(self.sorted, self.starts, tag, date);
-        updated_row(self.owners, looked, best, owner)
+        later_row(self.owners, looked, best, owner)
     }
 }
 
@@ -49,7 +49,7 @@ pub trait BlockPass {
 
     // Holds the best claim so far of each row against that of the block, in a slice with room for the rows.
     fn hold(&self, block: &ClaimBlock, out: &mut [u32])
-        ensures { words self.now ≤ length out.old → out.new ≡ held self.now block.now.sorted.keys.now block.now.owners.now out.old };
+        ensures { words self.now ≤ length out.old → out.new ≡ held self.now (block_keys block.now) (block_owners block.now) out.old };
 }
 
 // Whether a row's word has room for the number of every nation, plus 1.

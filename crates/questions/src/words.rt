@@ -23,7 +23,6 @@ pub(crate) fn put_row(out: &mut [u32], i: usize, row: [u32; ANSWER_WIDTH])
 }
 
 // The number of a key's nation, plus 1, as a word.
-#[tactic(auto, using(crate::proofs::WordLaws::no_owner))]
 fn owner_word(owners: &[u64], key: u64) -> u32
     ensures { result ≡ get_or owners.now (key_number key) 0 % row_owners + 1 }
 {
@@ -34,7 +33,7 @@ fn owner_word(owners: &[u64], key: u64) -> u32
 
 // What `ClaimBlock::updated_row` makes of the key that it has looked up: the later of a row's best claim so far and of the block's, of equals the
 // block's. Between blocks the claim stands in two words of the lent answer, which say none by a nation number of 0.
-pub(crate) fn updated_row(
+pub(crate) fn later_row(
     owners: &[u64],
     looked: Option<u64>,
     best: u32,

@@ -1,6 +1,4 @@
 pub mod CountLaws
-pub mod RunLaws
-pub mod OpenedLaws
 pub mod TextLaws
 pub mod NarrowLaws
 pub mod ToldLaws

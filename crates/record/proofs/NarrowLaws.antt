@@ -15,6 +15,7 @@ use Rattle.format.specs.Bytes.{byte_at, le16, tag_at, id_at}
 use Rattle.format.specs.declared.packed.PackedProvince.{PackedProvince}
 use Rattle.format.specs.Rows.{rows_at, province_at, owner_event_at}
 use Rattle.format.specs.Campaign.{Province, group_provinces}
+use Rattle.format.specs.Head.{province_bytes, owner_event_bytes}
 use Rattle.record.specs.declared.provinces.Provinces.{Provinces}
 use Rattle.record.specs.Narrow.{narrow_id, narrow_tag}
 use Rattle.record.specs.Cursors.{owner_events_left, provinces_left}
@@ -45,13 +46,13 @@ module _ {A : Type 0} (p : A → Bool) where
 -- ## Rows of bytes
 
 module _ (xs : List ℕ) (bytes : (i : ℕ) → byte_at xs i < 256) where
-  pub ids_narrow : (at n : ℕ) → all_of narrow_id (rows_at (province_at xs) 7 xs at n) ≡ true
+  pub ids_narrow : (at n : ℕ) → all_of narrow_id (rows_at (province_at xs) province_bytes xs at n) ≡ true
   unfolding province_at id_at le16
-  ids_narrow = passed_rows narrow_id (province_at xs) 7 xs (λ at. lt-ltb _ _ (omega (arith, bytes at, bytes (at + 1))))
+  ids_narrow = passed_rows narrow_id (province_at xs) province_bytes xs (λ at. lt-ltb _ _ (omega (arith, bytes at, bytes (at + 1))))
 
-  pub tags_narrow : (at n : ℕ) → all_of narrow_tag (rows_at (owner_event_at xs) 7 xs at n) ≡ true
+  pub tags_narrow : (at n : ℕ) → all_of narrow_tag (rows_at (owner_event_at xs) owner_event_bytes xs at n) ≡ true
   unfolding owner_event_at tag_at
-  tags_narrow = passed_rows narrow_tag (owner_event_at xs) 7 xs (λ at. lt-ltb _ _ (omega (arith, bytes (at + 4), bytes (at + 4 + 1), bytes (at + 4 + 2))))
+  tags_narrow = passed_rows narrow_tag (owner_event_at xs) owner_event_bytes xs (λ at. lt-ltb _ _ (omega (arith, bytes (at + 4), bytes (at + 4 + 1), bytes (at + 4 + 2))))
 
 pub ruleset narrow = (passed_rest, passed_behind)
 

@@ -14,7 +14,7 @@ use Rattle.format.specs.declared.rows.OwnerEvent.{OwnerEvent}
 use Rattle.format.specs.declared.rows.Point.{Point}
 use Rattle.format.specs.declared.packed.PackedProvince.{PackedProvince}
 use Rattle.format.specs.declared.packed.PackedLedger.{PackedLedger}
-use Rattle.format.specs.Head.{head_of, within_limits, events_at, points_at}
+use Rattle.format.specs.Head.{head_of, within_limits, events_at, points_at, owner_event_bytes, point_bytes}
 use Rattle.format.specs.Rows.{owner_event_at, point_at}
 use Rattle.format.specs.Campaign.{country_rows, province_rows, war_rows, ledger_rows, owner_events, points, group_provinces, group_ledgers}
 use Rattle.format.specs.Refusal.{refusal, totals_agree, length_agrees, sizes_agree}
@@ -71,9 +71,9 @@ module _ (xs : List ℕ) (h : refusal xs ≡ 0) where
   pub events_counted : sum_of (λ r. r.events) (province_rows xs) ≡ length (owner_events xs)
   events_counted =
       totals.0
-      ∙ sym (rows_all (owner_event_at xs) 7 xs (events_at (head_of xs)) (head_of xs).events (omega (arith, (accepted-laid xs (accepted xs h)).inside)))
+      ∙ sym (rows_all (owner_event_at xs) owner_event_bytes xs (events_at (head_of xs)) (head_of xs).events (omega (arith, (accepted-laid xs (accepted xs h)).inside)))
 
   pub points_counted : sum_of (λ r. r.points) (ledger_rows xs) ≡ length (points xs)
   points_counted =
       totals.1
-      ∙ sym (rows_all (point_at xs) 6 xs (points_at (head_of xs)) (head_of xs).points (omega (arith, (accepted-laid xs (accepted xs h)).inside)))
+      ∙ sym (rows_all (point_at xs) point_bytes xs (points_at (head_of xs)) (head_of xs).points (omega (arith, (accepted-laid xs (accepted xs h)).inside)))

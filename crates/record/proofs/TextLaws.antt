@@ -69,7 +69,7 @@ strings_first xs (suc left) len behind e p h =
     (ap (λ l. take len behind ∷ l) (sym (strings-behind (len ∷ behind) (suc len) 0 left ∙ ap (λ a. strings_from (len ∷ behind) a left) at)))
 
 -- As many strings as are left can be numbered in a word.
-pub strings-few : (it : Strings) → length (strings_left it) ≤ 4294967295
-strings-few it = omega (arith, strings-counted it.bytes.now 0 it.left, it.few)
+pub strings_few : (it : Strings) → length (strings_left it) ≤ 4294967295
+strings_few it = omega (arith, strings-counted it.bytes.now 0 it.left, it.few)
 
 pub ruleset texts = (strings_none, strings_empty, strings_past, strings_first)

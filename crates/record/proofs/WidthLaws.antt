@@ -5,7 +5,7 @@ use Prim.Native.Nat.{ℕ, suc, ◌+◌, ◌*◌, ◌≤◌}
 use native.Mathlib.Omega.{arith}
 use lib.ListN.{length}
 use Rattle.lists.specs.Lists.{join_of, sum_of}
-use Rattle.format.specs.Head.{head_of, provinces_at}
+use Rattle.format.specs.Head.{head_of, provinces_at, province_bytes}
 use Rattle.format.specs.Rows.{province_at}
 use Rattle.format.specs.Campaign.{province_rows, owner_events, campaign_of}
 use Rattle.format.specs.Refusal.{refusal}
@@ -20,7 +20,7 @@ module _ (xs : List ℕ) (h : refusal xs ≡ 0) where
   unfolding campaign_of
   provinces-within =
       let grouped = provinces-length (province_rows xs) (owner_events xs) in
-      let counted = rows-counted (province_at xs) 7 xs (provinces_at (head_of xs)) (head_of xs).provinces in
+      let counted = rows-counted (province_at xs) province_bytes xs (provinces_at (head_of xs)) (head_of xs).provinces in
       omega (arith, (accepted-laid xs (accepted xs h)).inside)
 
   pub events-within : row_bytes * sum_of (λ p. length p.events) (campaign_of xs).provinces ≤ length xs

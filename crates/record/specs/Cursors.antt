@@ -9,6 +9,7 @@ use Rattle.format.specs.declared.rows.Point.{Point}
 use Rattle.format.specs.Bytes.{le16, tag_at}
 use Rattle.format.specs.Rows.{country_at, switch_at, province_at, owner_event_at, war_event_at, ledger_at, point_at, strings_from}
 use Rattle.format.specs.Campaign.{Country, Province, Ledger, group_countries, group_provinces, group_wars, group_ledgers}
+use Rattle.format.specs.Head.{previous_bytes, switch_bytes, owner_event_bytes, war_event_bytes, point_bytes}
 use Rattle.record.specs.declared.rows.Rows.{Rows}
 use Rattle.record.specs.declared.cursors.CountryRow.{CountryRow}
 use Rattle.record.specs.declared.cursors.Countries.{Countries}
@@ -21,21 +22,21 @@ use Rattle.record.specs.declared.texts.Strings.{Strings}
 
 -- ## Rows that own nothing: each as it stands, from its first byte on
 
--- Their iterators, by the names that the code has for these types. Widths stand here alone: pages above use the names.
+-- Their iterators, by the names that the code has for these types: pages above use the names, and no width.
 abbrev pub PreviousTags : Type 0
-PreviousTags = Rows CountryTag 3
+PreviousTags = Rows CountryTag previous_bytes
 
 abbrev pub Switches : Type 0
-Switches = Rows Switch 7
+Switches = Rows Switch switch_bytes
 
 abbrev pub OwnerEvents : Type 0
-OwnerEvents = Rows OwnerEvent 7
+OwnerEvents = Rows OwnerEvent owner_event_bytes
 
 abbrev pub WarEvents : Type 0
-WarEvents = Rows WarEvent 8
+WarEvents = Rows WarEvent war_event_bytes
 
 abbrev pub Points : Type 0
-Points = Rows Point 6
+Points = Rows Point point_bytes
 
 abbrev pub previous_left : PreviousTags → List CountryTag
 previous_left c = map (λ row. tag_at row 0) c.packed.now

@@ -18,5 +18,5 @@ pub use ledger::{LedgerRow, Ledgers};
 pub use opened::{Record, open_record};
 pub use provinces::{ProvinceRow, Provinces};
 pub use record_check::check;
-pub use rows::{OwnerEvents, Points, PreviousTags, Rows, Switches, WarEvents};
+pub use rows::{OwnerEvents, Points, PreviousTags, ROW_BYTES, Rows, Switches, WarEvents};
 pub use texts::Strings;

@@ -4,7 +4,7 @@ ghost use Rattle.lists.specs.Lists.{all_of, sum_of};
 ghost use Rattle.format.specs.Rows.{province_at, owner_event_at};
 ghost use Rattle.record.specs.Narrow.{narrow_id, narrow_tag};
 
-use crate::rows::{OwnerEvents, Rows};
+use crate::rows::{OwnerEvents, ROW_BYTES, Rows};
 use format::{CountryTag, PackedProvince, ProvinceId};
 
 // A province's row, with its owner events.
@@ -19,7 +19,7 @@ pub struct ProvinceRow<'a> {
 // their bytes allow.
 #[derive(Clone, Copy)]
 pub struct Provinces<'a> {
-    pub(crate) rows: Rows<'a, PackedProvince, 7>,
+    pub(crate) rows: Rows<'a, PackedProvince, ROW_BYTES>,
     pub(crate) events: OwnerEvents<'a>,
     ghost narrow_ids: { all_of narrow_id (map (λ row. province_at row 0) rows.packed.now) ≡ true },
     ghost narrow_tags: { all_of narrow_tag (map (λ row. owner_event_at row 0) events.packed.now) ≡ true },

@@ -12,14 +12,17 @@ pub struct Rows<'a, R, const WIDTH: usize> {
     pub(crate) told: PhantomData<R>,
 }
 
+// How many bytes a row of a switch, of an owner event or of a province takes. One of a country takes more, and so does the head.
+pub const ROW_BYTES: usize = 7;
+
 // A country's previous tags.
 pub type PreviousTags<'a> = Rows<'a, CountryTag, 3>;
 
 // A country's switches.
-pub type Switches<'a> = Rows<'a, Switch, 7>;
+pub type Switches<'a> = Rows<'a, Switch, ROW_BYTES>;
 
 // A province's owner events.
-pub type OwnerEvents<'a> = Rows<'a, OwnerEvent, 7>;
+pub type OwnerEvents<'a> = Rows<'a, OwnerEvent, ROW_BYTES>;
 
 // A war's events.
 pub type WarEvents<'a> = Rows<'a, WarEvent, 8>;

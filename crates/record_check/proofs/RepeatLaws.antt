@@ -19,7 +19,7 @@ use Rattle.format.specs.declared.head.Head.{Head}
 use Rattle.format.specs.declared.packed.PackedCountry.{PackedCountry}
 use Rattle.format.specs.declared.packed.PackedProvince.{PackedProvince}
 use Rattle.format.specs.Tags.{is_tag}
-use Rattle.format.specs.Head.{head_of, provinces_at}
+use Rattle.format.specs.Head.{head_of, provinces_at, province_bytes}
 use Rattle.format.specs.Rows.{country_at, province_at}
 use Rattle.format.specs.Campaign.{country_rows, province_rows}
 use Rattle.format.specs.Refusal.{first_in, tag_number, country_number, head_number, fields_number, tag_twice, id_twice_or_above}
@@ -210,7 +210,7 @@ repeats-told xs h z e s =
     sym (map-then (λ row. country_at row 0) (λ r. r.tag.0) z.countries.now) ∙ ap (map (λ r. r.tag.0)) (rw e at s.countries) in
     let ids : map (λ row. (province_at row 0).id.0) z.provinces.now ≡ map (λ r. r.id.0) (province_rows xs) =
     sym (map-then (λ row. province_at row 0) (λ r. r.id.0) z.provinces.now) ∙ ap (map (λ r. r.id.0)) (rw e at s.provinces) in
-    let whole = rows_all (province_at xs) 7 xs (provinces_at h) h.provinces (omega (arith, s.inside)) in
+    let whole = rows_all (province_at xs) province_bytes xs (provinces_at h) h.provinces (omega (arith, s.inside)) in
     let many : length z.provinces.now ≡ (head_of xs).provinces =
     rw e at (sym (length-map z.provinces.now (λ row. province_at row 0)) ∙ ap length s.provinces ∙ whole) in
     rw (tags, ids, many, any-map (ltb (head_of xs).provinces) (λ (r : PackedProvince). r.id.0) (province_rows xs))

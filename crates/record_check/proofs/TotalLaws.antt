@@ -12,7 +12,7 @@ use Rattle.lists.specs.Lists.{sum_of}
 use Rattle.lists.proofs.BoolLaws.{and-false}
 use Rattle.format.specs.declared.head.Head.{Head}
 use Rattle.format.specs.Bytes.{le16}
-use Rattle.format.specs.Head.{head_of, within_limits, countries_at, provinces_at, wars_at, ledgers_at, strings_at}
+use Rattle.format.specs.Head.{head_of, within_limits, countries_at, provinces_at, wars_at, ledgers_at, strings_at, country_bytes, province_bytes, war_bytes, ledger_bytes}
 use Rattle.format.specs.Rows.{rows_at, country_at, province_at, ledger_at, strings_end}
 use Rattle.format.specs.Refusal.{totals_agree, length_agrees, sizes_agree}
 use Rattle.format.proofs.RowLaws.{rows-counted}
@@ -44,10 +44,10 @@ pub few-rows : (xs : List ℕ) (h : Head) (z : Sections) → within_limits h ≡
 few-rows xs h z t s =
     let l = limits_of h t in
     record {
-      countries = few (λ row. country_at row 0) z.countries.now (country_at xs) 12 (countries_at h) h.countries s.countries (omega (arith, l.countries));
-      provinces = few (λ row. province_at row 0) z.provinces.now (province_at xs) 7 (provinces_at h) h.provinces s.provinces l.provinces;
-      wars = few (λ row. le16 row 0) z.wars.now (le16 xs) 2 (wars_at h) h.wars s.wars (omega (arith, l.wars));
-      ledgers = few (λ row. ledger_at row 0) z.ledgers.now (ledger_at xs) 5 (ledgers_at h) h.ledgers s.ledgers (omega (arith, l.ledgers));
+      countries = few (λ row. country_at row 0) z.countries.now (country_at xs) country_bytes (countries_at h) h.countries s.countries (omega (arith, l.countries));
+      provinces = few (λ row. province_at row 0) z.provinces.now (province_at xs) province_bytes (provinces_at h) h.provinces s.provinces l.provinces;
+      wars = few (λ row. le16 row 0) z.wars.now (le16 xs) war_bytes (wars_at h) h.wars s.wars (omega (arith, l.wars));
+      ledgers = few (λ row. ledger_at row 0) z.ledgers.now (ledger_at xs) ledger_bytes (ledgers_at h) h.ledgers s.ledgers (omega (arith, l.ledgers));
     }
   where
     few : {A B : Type 0} (read : A → B) (rows : List A) (row : ℕ → B) (width at n : ℕ) → map read rows ≡ rows_at row width xs at n → n ≤ 8000

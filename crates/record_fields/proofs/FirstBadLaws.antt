@@ -1,19 +1,20 @@
 -- The first bad row, the first section with one, and the fields of a record by its sections.
 use mathlib.Core.Path.{◌≡◌, refl, sym, ap, ◌∙◌}
 use mathlib.Core.Bool.{cond}
-use mathlib.Core.List.{List, [], ◌∷◌, map}
+use mathlib.Core.List.{List, [], ◌∷◌, ◌++◌, map}
 use Prim.Native.Nat.{ℕ, ◌+◌, ◌<◌, ◌≤◌}
 use lib.Dec.{leb}
 use lib.ListN.{length, get_or, drop}
 use Rattle.std.proofs.lemmas.List.{at_drop_all, at_drop_more}
 use Rattle.lists.specs.Lists.{all_of}
 use Rattle.lists.proofs.BoolLaws.{cases}
+use Rattle.lists.proofs.ListLaws.{map-append}
 use Rattle.format.specs.declared.refused.Refusal.{Refusal}
 use Rattle.format.specs.Bytes.{tag_at}
 use Rattle.format.specs.Rows.{country_at, switch_at, province_at, owner_event_at, war_event_at, ledger_at, point_at}
 use Rattle.format.specs.Refused.{refusal_number}
 use Rattle.format.specs.Refusal.{first_of, first_in, tag_number, year_number, country_number, switch_number, owner_event_number, war_event_number, head_number, fields_number}
-use Rattle.format.proofs.FirstLaws.{first-pass}
+use Rattle.format.proofs.FirstLaws.{first-pass, first-append}
 use Rattle.format.proofs.RefusedLaws.{stop}
 use Rattle.record_head.specs.declared.parsed.Parsed.{Parsed}
 
@@ -37,6 +38,23 @@ module _ {B A : Type 0} (number : A → ℕ) (read : B → A) (rows : List B) (i
   pub rows-pass : length rows ≤ i → 0 ≡ left (drop i rows)
   unfolding first_in first_of
   rows-pass h = sym (at_drop_all left rows i h)
+
+-- Of rows that are read in two parts the first part passes, or refuses all of them.
+module _ {B A : Type 0} (number : A → ℕ) (read : B → A) (all block rest : List B) (parts : all ≡ block ++ rest) where
+  in-turn : first_in number (map read all) ≡ first_of (first_in number (map read block) ∷ map number (map read rest))
+  unfolding first_in
+  in-turn =
+      ap (λ (l : List B). first_of (map number (map read l))) parts
+      ∙ ap (λ (l : List A). first_of (map number l)) (map-append read block rest)
+      ∙ ap first_of (map-append number (map read block) (map read rest))
+      ∙ first-append (map number (map read block)) (map number (map read rest))
+
+  pub block-passes : 0 ≡ first_in number (map read block) → first_in number (map read all) ≡ first_in number (map read rest)
+  unfolding first_in
+  block-passes h = in-turn ∙ first-pass (first_in number (map read block)) (map number (map read rest)) (sym h)
+
+  pub block-refuses : (e : Refusal) → refusal_number e ≡ first_in number (map read block) → refusal_number e ≡ first_in number (map read all)
+  block-refuses e h = stop (map number (map read rest)) e h ∙ sym in-turn
 
 -- Whichever point has a long year, the number is 9.
 pub points-told : (rows : List (List ℕ))

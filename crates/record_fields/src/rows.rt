@@ -10,12 +10,15 @@ use format::{
     Refusal, Switch, WarEvent,
 };
 
+// So many rows are read before it is asked whether they are good.
+const BLOCK_ROWS: usize = 64;
+
 // What can be tested: a row, or a field that several rows have. The number is that of the first bad field, 0 where none is bad.
 pub(crate) trait Checked: Sized {
     ghost number: { Self → ℕ };
 
     // Whether every field is good, by the tables, and without a way out behind the first bad one: most rows are good.
-    fn good(self, tables: &Tables) -> bool
+    fn passes(self, tables: &Tables) -> bool
         ensures { result ≡ eqb (number self) 0 };
 
     // The refusal of the first bad field.
@@ -27,12 +30,12 @@ pub(crate) trait Checked: Sized {
 impl Checked for Eu4Date {
     ghost number = { date_number };
 
-    fn good(self, tables: &Tables) -> bool {
+    fn passes(self, tables: &Tables) -> bool {
         tables.good_date(self)
     }
 
     fn checked(self) -> Result<(), Refusal> {
-        if Eu4Date::good(self) {
+        if self.good() {
             Ok(())
         } else {
             Err(Refusal::BadDate)
@@ -44,12 +47,12 @@ impl Checked for Eu4Date {
 impl Checked for CountryTag {
     ghost number = { tag_number };
 
-    fn good(self, tables: &Tables) -> bool {
+    fn passes(self, tables: &Tables) -> bool {
         tables.good_tag(self)
     }
 
     fn checked(self) -> Result<(), Refusal> {
-        if CountryTag::good(self) {
+        if self.good() {
             Ok(())
         } else {
             Err(Refusal::BadTag)
@@ -61,7 +64,7 @@ impl Checked for CountryTag {
 impl Checked for PackedCountry {
     ghost number = { country_number };
 
-    fn good(self, tables: &Tables) -> bool {
+    fn passes(self, tables: &Tables) -> bool {
         tables.good_tag(self.tag) & record_head::flags_defined(self.flags, 3)
     }
 
@@ -79,13 +82,14 @@ impl Checked for PackedCountry {
 impl Checked for Switch {
     ghost number = { switch_number };
 
-    fn good(self, tables: &Tables) -> bool {
+    fn passes(self, tables: &Tables) -> bool {
         tables.good_date(self.date) & tables.good_tag(self.from)
     }
 
     fn checked(self) -> Result<(), Refusal> {
-        self.date.checked()?;
-        self.from.checked()
+        let Switch { date, from } = self;
+        date.checked()?;
+        from.checked()
     }
 }
 
@@ -93,7 +97,7 @@ impl Checked for Switch {
 impl Checked for PackedProvince {
     ghost number = { λ row. tag_number row.owner };
 
-    fn good(self, tables: &Tables) -> bool {
+    fn passes(self, tables: &Tables) -> bool {
         tables.good_tag(self.owner)
     }
 
@@ -106,13 +110,14 @@ impl Checked for PackedProvince {
 impl Checked for OwnerEvent {
     ghost number = { owner_event_number };
 
-    fn good(self, tables: &Tables) -> bool {
+    fn passes(self, tables: &Tables) -> bool {
         tables.good_date(self.date) & tables.good_tag(self.tag)
     }
 
     fn checked(self) -> Result<(), Refusal> {
-        self.date.checked()?;
-        self.tag.checked()
+        let OwnerEvent { date, tag } = self;
+        date.checked()?;
+        tag.checked()
     }
 }
 
@@ -120,18 +125,19 @@ impl Checked for OwnerEvent {
 impl Checked for WarEvent {
     ghost number = { war_event_number };
 
-    fn good(self, tables: &Tables) -> bool {
+    fn passes(self, tables: &Tables) -> bool {
         tables.good_date(self.date)
             & record_head::kind_defined(self.kind)
             & tables.good_tag(self.tag)
     }
 
     fn checked(self) -> Result<(), Refusal> {
-        self.date.checked()?;
-        if !record_head::kind_defined(self.kind) {
+        let WarEvent { date, kind, tag } = self;
+        date.checked()?;
+        if !record_head::kind_defined(kind) {
             return Err(Refusal::UndefinedBit);
         }
-        self.tag.checked()
+        tag.checked()
     }
 }
 
@@ -139,7 +145,7 @@ impl Checked for WarEvent {
 impl Checked for PackedLedger {
     ghost number = { λ row. tag_number row.tag };
 
-    fn good(self, tables: &Tables) -> bool {
+    fn passes(self, tables: &Tables) -> bool {
         tables.good_tag(self.tag)
     }
 
@@ -157,7 +163,7 @@ fn all_good<R: Packed<WIDTH> + Checked, const WIDTH: usize>(
 {
     let mut good = true;
     for row in rows {
-        good &= R::unpack(row).good(tables);
+        good &= R::unpack(row).passes(tables);
     }
     good
 }
@@ -174,18 +180,20 @@ fn first_bad<R: Packed<WIDTH> + Checked, const WIDTH: usize>(
     Ok(())
 }
 
-// The rows of a section, in order: which of them is bad is asked only where one is.
+// The rows of a section, in order and by blocks: which of them is bad is asked only of a block with a bad one, so that a refused section takes no longer
+// than an accepted one, but for the second reading of that block.
 pub(crate) fn rows_checked<R: Packed<WIDTH> + Checked, const WIDTH: usize>(
     rows: &[[u8; WIDTH]],
     tables: &Tables,
 ) -> Result<(), Refusal>
     ensures { number_of result ≡ first_in R.number (map R.unpacked rows.now) }
 {
-    if all_good::<R, WIDTH>(rows, tables) {
-        Ok(())
-    } else {
-        first_bad::<R, WIDTH>(rows)
+    for block in rows.chunks(BLOCK_ROWS) {
+        if !all_good::<R, WIDTH>(block, tables) {
+            first_bad::<R, WIDTH>(block)?;
+        }
     }
+    Ok(())
 }
 
 // The points, which are most of a record's bytes: whichever of them is bad refuses with the same number, so the latest year tells.

@@ -11,7 +11,7 @@ use Rattle.std.proofs.lemmas.List.{get_or-take, get_or-drop, get_or-append_right
 use Rattle.std.specs.Simd.{first_chunks}
 use Rattle.lists.proofs.TableLaws.{blank-entry}
 use Rattle.format.specs.Bytes.{byte_at}
-use Rattle.format.specs.Head.{head_of}
+use Rattle.format.specs.Head.{head_of, head_bytes}
 use Rattle.format.specs.Rows.{rows_at}
 use Rattle.format.proofs.PackedLaws.{Reads, head-same, rows_cut}
 use Rattle.record_head.specs.Sections.{RowsCut}
@@ -30,11 +30,11 @@ filled xs size n e k h =
           ∙ sym (get_or-eq_default xs 0 (omega arith))
     ]
 
-pub head-filled : (xs front : List ℕ) (n : ℕ) → n ≡ min (length xs) 44 → front ≡ take n xs
-    → head_of (front ++ drop n (replicate 44 0)) ≡ head_of xs
+pub head-filled : (xs front : List ℕ) (n : ℕ) → n ≡ min (length xs) head_bytes → front ≡ take n xs
+    → head_of (front ++ drop n (replicate head_bytes 0)) ≡ head_of xs
 head-filled xs front n e f =
-    ap (λ l. head_of (l ++ drop n (replicate 44 0))) f
-    ∙ head-same (take n xs ++ drop n (replicate 44 0)) xs (record { byte = λ k h. rw (zero-add k) (filled xs 44 n e k h) })
+    ap (λ l. head_of (l ++ drop n (replicate head_bytes 0))) f
+    ∙ head-same (take n xs ++ drop n (replicate head_bytes 0)) xs (record { byte = λ k h. rw (zero-add k) (filled xs head_bytes n e k h) })
 
 -- Rows that are cut out of the front of some bytes are cut out of the bytes.
 front-chunks : (w n : ℕ) (xs : List ℕ) → first_chunks w n (take (w * n) xs) ≡ first_chunks w n xs

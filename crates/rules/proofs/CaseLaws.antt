@@ -56,9 +56,9 @@ pub questions : Hold question_cases
 unfolding computes question_cases
 questions = (refl, (refl, (refl, (refl, (refl, (refl, (refl, (refl, (refl, tt)))))))))
 
-pub room : Hold room_cases
+pub room_needed : Hold room_cases
 unfolding computes room_cases
-room = (refl, (refl, (refl, (refl, (refl, (refl, (refl, (refl, tt))))))))
+room_needed = (refl, (refl, (refl, (refl, (refl, (refl, (refl, (refl, tt))))))))
 
 pub ledgers : Hold span_cases × Hold ledgers_cases
 unfolding computes span_cases ledgers_cases
@@ -96,7 +96,7 @@ pub cases :
     × Hold order_cases
     × (Hold starting_cases × Hold starting_shape_cases)
     × (Hold page_cases × Hold decimal_cases × Hold same_stored_cases × Hold page_room_cases)
-cases = (changes, nations, days, resolver, shapes, bookings, ledger, questions, room, ledgers, players, order, starting, page)
+cases = (changes, nations, days, resolver, shapes, bookings, ledger, questions, room_needed, ledgers, players, order, starting, page)
 
 -- Campaigns at the page's limits are too large to compute with: these hold of any campaign of that size.
 module _ (c : Campaign) where

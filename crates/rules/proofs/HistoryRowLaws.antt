@@ -13,6 +13,6 @@ pub history-rows : (hs : List History) → history_rows_in (history_words hs) �
 unfolding history_rows_in history_words
 history-rows hs =
     let rs : List HistoryRow = history_rows_from 0 hs in
-    let e : length (join_of history_row_words rs) / 7 ≡ length rs = omega (arith, length-join history_width history_row_words (λ r. refl) rs) in
+    let e : length (join_of history_row_words rs) / history_width ≡ length rs = omega (arith, length-join history_width history_row_words (λ r. refl) rs) in
     simp e
     (ap (map history_row_of) (rows_join history_width history_row_words (λ r. refl) rs) ∙ map_back history_row_words history_row_of (λ r. refl) rs)

@@ -47,7 +47,7 @@ pub nation-rows : (ns : List Nation) → nation_rows_in (nation_words ns) ≡ na
 unfolding nation_rows_in nation_words
 nation-rows ns =
     let rs : List NationRow = nation_rows_from 0 ns in
-    let e : length (join_of nation_row_words rs) / 5 ≡ length rs = omega (arith, length-join nation_width nation_row_words (λ r. refl) rs) in
+    let e : length (join_of nation_row_words rs) / nation_width ≡ length rs = omega (arith, length-join nation_width nation_row_words (λ r. refl) rs) in
     simp e
     (ap (map nation_row_of) (rows_join nation_width nation_row_words (λ r. refl) rs) ∙ map_back nation_row_words nation_row_of (λ r. refl) rs)
 
@@ -56,13 +56,13 @@ unfolding entry_rows_in entry_words
 entry-rows ns =
     let f : Entry → List ℕ = λ e. entry_row_words (entry_row e) in
     let es : List Entry = all_entries ns in
-    let e : length (join_of f es) / 3 ≡ length es = omega (arith, length-join entry_width f (λ x. refl) es) in
+    let e : length (join_of f es) / entry_width ≡ length es = omega (arith, length-join entry_width f (λ x. refl) es) in
     simp e (ap (map entry_row_of) (rows_join entry_width f (λ x. refl) es) ∙ map-then f entry_row_of es)
 
 pub bookings-in : (bs : List Booking) → bookings_in (booking_rows bs) ≡ bs
 unfolding bookings_in booking_rows
 bookings-in bs =
-    let e : length (join_of booking_words bs) / 3 ≡ length bs = omega (arith, length-join booking_width booking_words (λ b. refl) bs) in
+    let e : length (join_of booking_words bs) / booking_width ≡ length bs = omega (arith, length-join booking_width booking_words (λ b. refl) bs) in
     simp e (ap (map booking_at) (rows_join booking_width booking_words (λ b. refl) bs) ∙ map_back booking_words booking_at (λ b. refl) bs)
 
 -- ## Nations

@@ -20,7 +20,7 @@ use Rattle.format.specs.Sound.{GoodTag, GoodDate, GoodSwitch, GoodCountry, GoodP
 use Rattle.rules.specs.Chronicle.{Kind, switch, appeared, annexed, Entry, Nation}
 use Rattle.rules.specs.Nations.{initial_from, initial_of, last_target, switch_chain, switch_entries, matches, is_mapped, start_holders, turns_from, turns_of, turn_entries, lives_from, lives_of, entries_of, kind_target, targets, nation_of, held_ever, listed_countries, nations_of, Move, moves_of}
 use Rattle.rules.specs.Holding.{wears}
-use Rattle.rules.specs.NationRows.{nation_rows_from, kind_word, target_word, entry_row, nation_words, entry_words, tags_shaped, kind_shaped, entry_shaped, without_gap, well_shaped}
+use Rattle.rules.specs.NationRows.{nation_rows_from, kind_word, target_word, entry_row, nation_words, entry_words, tags_shaped, kind_shaped, entry_shaped, without_gap, well_shaped, nation_width, entry_width}
 use Rattle.rules.proofs.CampaignLaws.{all-changes, all-moves}
 use Rattle.rules.proofs.RowLaws.{all_entries, length-nation_words, length-entry_words, nation-rows, entry-rows}
 
@@ -154,8 +154,8 @@ entries-shaped (e ∷ es) q = simp (entry-shaped e q.0) (entries-shaped es q.1)
 pub well-shaped : (ns : List Nation) → All GoodNation ns → well_shaped (nation_words ns) (entry_words ns) ≡ true
 unfolding well_shaped
 well-shaped ns q =
-    let a : length (nation_words ns) % 5 ≡ 0 = omega (arith, length-nation_words ns) in
-    let b : length (entry_words ns) % 3 ≡ 0 = omega (arith, length-entry_words ns) in
+    let a : length (nation_words ns) % nation_width ≡ 0 = omega (arith, length-nation_words ns) in
+    let b : length (entry_words ns) % entry_width ≡ 0 = omega (arith, length-entry_words ns) in
     let es : All GoodEntry (all_entries ns) = all_join GoodEntry (λ n. n.entries) (λ n g. g.entries) ns q in
     simp
     (a, b, nation-rows, entry-rows, rows-tags 0 ns q, entries-shaped (all_entries ns) es, length-map)

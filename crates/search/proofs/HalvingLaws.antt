@@ -21,7 +21,7 @@ use Rattle.lists.proofs.BoundLaws.{bound-up, bound-down}
 use Rattle.sorting.specs.Sort.{sort_by}
 use Rattle.sorting.proofs.SortLaws.{Ordered, sort-ordered, ordered-sort, leb-total, leb-trans}
 use Rattle.sorting.proofs.SortedKeyLaws.{sorted-up}
-use Rattle.search.specs.Halving.{CountsBelow, in_cell_before, starts_of}
+use Rattle.search.specs.Halving.{CountsBelow, in_cell_before, starts_of, keys_per_cell}
 
 -- ## One of two products
 
@@ -205,7 +205,7 @@ start-inside keys cell = front-most (in_cell_before cell) keys
 pub start-grows : (keys : List ℕ) (cell : ℕ) → start_of keys cell ≤ start_of keys (cell + 1)
 start-grows keys cell =
     front-grows (in_cell_before cell) (in_cell_before (cell + 1))
-    (λ x t. let l = ltb-true (x / 4503599627370496) cell t in lt-ltb (x / 4503599627370496) (cell + 1) (omega arith))
+    (λ x t. let l = ltb-true (x / keys_per_cell) cell t in lt-ltb (x / keys_per_cell) (cell + 1) (omega arith))
     keys
 
 -- The starts of cells from one on.

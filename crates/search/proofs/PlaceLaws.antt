@@ -21,7 +21,7 @@ use Rattle.sorting.proofs.SortedKeyLaws.{sorted-up, sort-again}
 use Rattle.format.specs.declared.tag.CountryTag.{CountryTag}
 use Rattle.format.specs.Tags.{same_tag}
 use Rattle.search.specs.Halving.{count_below}
-use Rattle.search.specs.Places.{tag_key, tag_keys_from, place_from}
+use Rattle.search.specs.Places.{tag_key, tag_keys_from, place_from, keys_per_tag}
 
 -- ## The keys of a list of tags
 
@@ -45,28 +45,28 @@ module _ (t : CountryTag) where
   low = tag_key t 0
 
   abbrev is_key : ℕ → Bool
-  is_key x = leb low x && ltb x (low + 65536)
+  is_key x = leb low x && ltb x (low + keys_per_tag)
 
-  key-same : (x : CountryTag) (k : ℕ) → k < 65536 → same_tag x t ≡ true → is_key (tag_key x k) ≡ true
+  key-same : (x : CountryTag) (k : ℕ) → k < keys_per_tag → same_tag x t ≡ true → is_key (tag_key x k) ≡ true
   key-same x k h e =
       let q = eqb-true x.0 t.0 e in
       let a : leb low (tag_key x k) ≡ true = le-leb low (tag_key x k) (omega arith) in
-      let b : ltb (tag_key x k) (low + 65536) ≡ true = lt-ltb (tag_key x k) (low + 65536) (omega arith) in
+      let b : ltb (tag_key x k) (low + keys_per_tag) ≡ true = lt-ltb (tag_key x k) (low + keys_per_tag) (omega arith) in
       simp (a, b)
 
-  key-other : (x : CountryTag) (k : ℕ) → k < 65536 → same_tag x t ≡ false → is_key (tag_key x k) ≡ false
+  key-other : (x : CountryTag) (k : ℕ) → k < keys_per_tag → same_tag x t ≡ false → is_key (tag_key x k) ≡ false
   key-other x k h e =
       cases (is_key (tag_key x k))
-      (λ g. let p = both (leb low (tag_key x k)) (ltb (tag_key x k) (low + 65536)) g in
+      (λ g. let p = both (leb low (tag_key x k)) (ltb (tag_key x k) (low + keys_per_tag)) g in
       let a = leb-true low (tag_key x k) p.0 in
-      let b = ltb-true (tag_key x k) (low + 65536) p.1 in
+      let b = ltb-true (tag_key x k) (low + keys_per_tag) p.1 in
       clash (same_tag x t) (eq-eqb x.0 t.0 (omega arith)) e)
       (λ g. g)
 
-  key-number : (x : CountryTag) (k : ℕ) → k < 65536 → same_tag x t ≡ true → tag_key x k % 65536 ≡ k
+  key-number : (x : CountryTag) (k : ℕ) → k < keys_per_tag → same_tag x t ≡ true → tag_key x k % keys_per_tag ≡ k
   key-number x k h e = omega arith
 
-  keys-from : (k : ℕ) (ts : List CountryTag) → k + length ts ≤ 65536 → All (λ x. low + k ≤ x) (keep is_key (tag_keys_from k ts))
+  keys-from : (k : ℕ) (ts : List CountryTag) → k + length ts ≤ keys_per_tag → All (λ x. low + k ≤ x) (keep is_key (tag_keys_from k ts))
   unfolding tag_keys_from
   keys-from k [] h = tt
   keys-from k (x ∷ ts) h =
@@ -75,7 +75,7 @@ module _ (t : CountryTag) where
       (λ e. let q = eqb-true x.0 t.0 e in simp (key-same x k (omega arith) e) (omega arith, rest))
       (λ e. simp (key-other x k (omega arith) e) rest)
 
-  keys-ordered : (k : ℕ) (ts : List CountryTag) → k + length ts ≤ 65536 → Ordered leb (keep is_key (tag_keys_from k ts))
+  keys-ordered : (k : ℕ) (ts : List CountryTag) → k + length ts ≤ keys_per_tag → Ordered leb (keep is_key (tag_keys_from k ts))
   unfolding tag_keys_from
   keys-ordered k [] h = tt
   keys-ordered k (x ∷ ts) h =
@@ -87,8 +87,8 @@ module _ (t : CountryTag) where
       (λ e. simp (key-other x k (omega arith) e) rest)
 
   -- The first key of the tag has the number of the first element.
-  first-number : (k : ℕ) (ts : List CountryTag) → k + length ts ≤ 65536
-      → first_or none (map (λ x. some (x % 65536)) (keep is_key (tag_keys_from k ts))) ≡ place_from k t ts
+  first-number : (k : ℕ) (ts : List CountryTag) → k + length ts ≤ keys_per_tag
+      → first_or none (map (λ x. some (x % keys_per_tag)) (keep is_key (tag_keys_from k ts))) ≡ place_from k t ts
   unfolding tag_keys_from place_from
   first-number k [] h = refl
   first-number k (x ∷ ts) h =
@@ -98,36 +98,36 @@ module _ (t : CountryTag) where
 
 -- ## The place that a search finds
 
-module _ (t : CountryTag) (ts : List CountryTag) (few : length ts ≤ 65536) (keys : List ℕ) (sorted : keys ≡ sort_by leb (tag_keys_from 0 ts))
+module _ (t : CountryTag) (ts : List CountryTag) (few : length ts ≤ keys_per_tag) (keys : List ℕ) (sorted : keys ≡ sort_by leb (tag_keys_from 0 ts))
     (lowest : ℕ) (first_of_tag : lowest ≡ tag_key t 0) (i : ℕ) (counted : i ≡ count_below (lowest / 2 * 2) keys) where
   again : sort_by leb keys ≡ keys
   again = rw sorted (sort-again (tag_keys_from 0 ts))
 
-  first_key : first_or none (map (λ x. some (x % 65536)) (keep (is_key t) keys)) ≡ place_from 0 t ts
+  first_key : first_or none (map (λ x. some (x % keys_per_tag)) (keep (is_key t) keys)) ≡ place_from 0 t ts
   first_key =
-      ap (λ (ks : List ℕ). first_or none (map (λ x. some (x % 65536)) ks))
+      ap (λ (ks : List ℕ). first_or none (map (λ x. some (x % keys_per_tag)) ks))
       (ap (keep (is_key t)) sorted
       ∙ keep-sort leb leb-total leb-trans (is_key t) (tag_keys_from 0 ts)
       ∙ sort-ordered leb (keep (is_key t) (tag_keys_from 0 ts)) (keys-ordered t 0 ts (omega arith)))
       ∙ first-number t 0 ts (omega arith)
 
   abbrev first : List ℕ → Option ℕ
-  first ks = first_or none (map (λ x. some (x % 65536)) ks)
+  first ks = first_or none (map (λ x. some (x % keys_per_tag)) ks)
 
   below : i ≡ count_of (λ k. ltb k (tag_key t 0)) keys
   below = let e : lowest / 2 * 2 ≡ tag_key t 0 = omega arith in rw e at counted
 
   pub placed_past : length keys ≤ i → none ≡ place_from 0 t ts
-  placed_past h = sym (ap first (first_past (low t) (low t + 65536) keys (sorted-up keys again) i below h)) ∙ first_key
+  placed_past h = sym (ap first (first_past (low t) (low t + keys_per_tag) keys (sorted-up keys again) i below h)) ∙ first_key
 
   -- The key that stands there is the tag's, if it is below those of the next tag.
-  pub placed-key : (key : ℕ) → i < length keys → key ≡ get_or keys i 0 → option_of (then_some (ltb key (lowest + 65536)) (key % 65536)) ≡ place_from 0 t ts
+  pub placed-key : (key : ℕ) → i < length keys → key ≡ get_or keys i 0 → option_of (then_some (ltb key (lowest + keys_per_tag)) (key % keys_per_tag)) ≡ place_from 0 t ts
   placed-key key h e =
-      cases (ltb key (lowest + 65536))
-      (λ g. let l = ltb-true key (lowest + 65536) g in
-      simp g (rw e (sym (first-there (low t) (low t + 65536) keys (sorted-up keys again) i below (λ x. some (x % 65536)) none h (omega arith)) ∙ first_key)))
-      (λ g. let l = ltb-false key (lowest + 65536) g in
-      simp g (sym (ap first (first_above (low t) (low t + 65536) keys (sorted-up keys again) i below h (omega arith))) ∙ first_key))
+      cases (ltb key (lowest + keys_per_tag))
+      (λ g. let l = ltb-true key (lowest + keys_per_tag) g in
+      simp g (rw e (sym (first-there (low t) (low t + keys_per_tag) keys (sorted-up keys again) i below (λ x. some (x % keys_per_tag)) none h (omega arith)) ∙ first_key)))
+      (λ g. let l = ltb-false key (lowest + keys_per_tag) g in
+      simp g (sym (ap first (first_above (low t) (low t + keys_per_tag) keys (sorted-up keys again) i below h (omega arith))) ∙ first_key))
 
 -- ## What a caller knows of a place
 

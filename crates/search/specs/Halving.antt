@@ -3,9 +3,13 @@ use Rattle.std.specs.Prelude.{◌≡◌, Bool, List, map, ℕ, ◌/◌, ◌≤�
 use Rattle.lists.specs.Lists.{count_of, leading, numbers_from}
 use Rattle.sorting.specs.Sort.{sort_by}
 
--- A key is of a cell before this one: a cell holds keys with the same first 12 bits.
+-- A cell holds the keys with the same first 12 bits: so many numbers.
+abbrev pub keys_per_cell : ℕ
+keys_per_cell = 4503599627370496
+
+-- A key is of a cell before this one.
 abbrev pub in_cell_before : ℕ → ℕ → Bool
-in_cell_before cell key = ltb (key / 4503599627370496) cell
+in_cell_before cell key = ltb (key / keys_per_cell) cell
 
 -- For so many cells, how many keys at the front are of cells before each.
 abbrev pub starts_of : List ℕ → ℕ → List ℕ

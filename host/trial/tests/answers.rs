@@ -4,7 +4,7 @@
 use chronicle_trial::adversary::days_of;
 use chronicle_trial::cases::Cases;
 use chronicle_trial::generate::Random;
-use chronicle_trial::pack::{pack, Campaign};
+use chronicle_trial::pack::{pack, Campaign, OwnerEvent};
 use chronicle_trial::unpack::unpack;
 use chronicle_trial::{extremes, model, recount, sample, trial, wars};
 
@@ -60,6 +60,28 @@ fn damaged_records() {
 fn campaigns_at_the_limits() {
     for (name, campaign) in extremes::ALL {
         assert_eq!(tried(&campaign(), &mut Random::new(1)), Ok(()), "{name}");
+    }
+}
+
+/// Changes of one province that fall once: two runs of different lengths are merged where they stand. On each
+/// day there are two in each run, so that they tie.
+#[test]
+fn changes_in_two_runs() {
+    let drawn = extremes::in_order(extremes::owners(30_000, 1));
+    let turns = [drawn.countries[1].tag, drawn.countries[0].tag];
+    for first in [1_000, 15_000, 29_000] {
+        let mut campaign = drawn.clone();
+        campaign.provinces.truncate(1);
+        campaign.provinces[0].owner = turns[1];
+        campaign.provinces[0].events = (0..first)
+            .chain(0..30_000 - first)
+            .zip(turns.into_iter().cycle())
+            .map(|(rank, tag)| OwnerEvent {
+                date: (1500 + rank / 56) * 10_000 + 101 + rank % 56 / 2,
+                tag,
+            })
+            .collect();
+        assert_eq!(tried(&campaign, &mut Random::new(1)), Ok(()), "{first} in the first run");
     }
 }
 

@@ -21,8 +21,8 @@ Hold [] = Unit {0}
 Hold (c ∷ cs) = (c.computed ≡ c.expected) × Hold cs
 
 -- A record in version 2: refused by that number, though each of its rows can be read.
-abbrev pub spoiled : List ℕ → List ℕ
-spoiled xs = take 3 xs ++ (2 ∷ drop 4 xs)
+abbrev pub second_version : List ℕ → List ℕ
+second_version xs = take 3 xs ++ (2 ∷ drop 4 xs)
 
 -- ## Words
 

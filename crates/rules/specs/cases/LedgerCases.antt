@@ -4,30 +4,30 @@ use Rattle.std.specs.Prelude.{List, [], ◌∷◌, ◌++◌, ℕ}
 use Rattle.rules.specs.Lent.{Answer, gives, refused, Outcome}
 use Rattle.rules.specs.Outcomes.{call_nation_ledger, call_nation_ledger_rows, LedgerCells, call_nation_ledgers}
 use Rattle.rules.specs.Table.{sevens}
-use Rattle.rules.specs.cases.CaseForms.{Case, case, spoiled, nation, came, went, rows, wrote}
-use Rattle.rules.specs.cases.LentCases.{LentChronicle, told, accounts, owners, given, gone_points, back_points}
+use Rattle.rules.specs.cases.CaseForms.{Case, case, second_version, nation, came, went, rows, wrote}
+use Rattle.rules.specs.cases.LentCases.{LentChronicle, lent_chronicle, accounts, owners, given, gone_points, back_points}
 
 -- Of a nation by its number, no more than so many.
-abbrev room : ℕ → ℕ → Answer ℕ
-room number most = call_nation_ledger_rows accounts owners.nations owners.entries number most
+abbrev rows_counted : ℕ → ℕ → Answer ℕ
+rows_counted number most = call_nation_ledger_rows accounts owners.nations owners.entries number most
 
 -- As many as it has; just as many as are counted, one more, and none; no ledger row. A number that no nation has; before that a word over
 -- in the rows; before that a record of version 2.
 unfoldable pub room_cases : List (Case (Answer ℕ))
 room_cases =
-    case (room 2 1000) (gives 6)
-    ∷ case (room 2 6) (gives 6)
-    ∷ case (room 2 5) (gives 5)
-    ∷ case (room 1 0) (gives 0)
-    ∷ case (room 3 5) (gives 0)
-    ∷ case (room 4 5) (refused 13)
+    case (rows_counted 2 1000) (gives 6)
+    ∷ case (rows_counted 2 6) (gives 6)
+    ∷ case (rows_counted 2 5) (gives 5)
+    ∷ case (rows_counted 1 0) (gives 0)
+    ∷ case (rows_counted 3 5) (gives 0)
+    ∷ case (rows_counted 4 5) (refused 13)
     ∷ case (call_nation_ledger_rows accounts (owners.nations ++ (7 ∷ [])) owners.entries 4 5) (refused 11)
-    ∷ case (call_nation_ledger_rows (spoiled accounts) (owners.nations ++ (7 ∷ [])) owners.entries 4 5) (refused 2)
+    ∷ case (call_nation_ledger_rows (second_version accounts) (owners.nations ++ (7 ∷ [])) owners.entries 4 5) (refused 2)
     ∷ []
 
 -- Annexed twice: from 1444 to 1445, from 1444 again to 1446, and no more.
 abbrev annexed_twice : LentChronicle
-annexed_twice = told (nation "NOR" "LA1" "ST1" 0 2) (rows (went 14450101 ∷ went 14460101 ∷ []))
+annexed_twice = lent_chronicle (nation "NOR" "LA1" "ST1" 0 2) (rows (went 14450101 ∷ went 14460101 ∷ []))
 
 abbrev twice_points : List (List ℕ)
 twice_points =
@@ -58,15 +58,15 @@ span_cases =
 -- Appeared, then Annexed; no ledger row; Annexed, then Appeared.
 abbrev three : LentChronicle
 three =
-    told (rows (nation "NOR" "LA1" "ST1" 0 2 ∷ nation "XXX" "LA3" "ST3" 2 0 ∷ nation "NOR" "LA2" "ST2" 2 2 ∷ []))
+    lent_chronicle (rows (nation "NOR" "LA1" "ST1" 0 2 ∷ nation "XXX" "LA3" "ST3" 2 0 ∷ nation "NOR" "LA2" "ST2" 2 2 ∷ []))
     (rows (came 14450101 ∷ went 14460101 ∷ went 14450101 ∷ came 14470101 ∷ []))
 
 -- Lent slices of so many cells: rows, counts.
 abbrev lent : ℕ → ℕ → LedgerCells
 lent rs counts = record { rows = sevens rs; counts = sevens counts }
 
-abbrev kept_cells : ℕ → ℕ → ℕ → Outcome ℕ LedgerCells
-kept_cells number rs counts = record { answer = refused number; memory = lent rs counts }
+abbrev kept_ledgers : ℕ → ℕ → ℕ → Outcome ℕ LedgerCells
+kept_ledgers number rs counts = record { answer = refused number; memory = lent rs counts }
 
 abbrev ledgers : ℕ → ℕ → Outcome ℕ LedgerCells
 ledgers rs counts = call_nation_ledgers accounts three.nations three.entries (lent rs counts)
@@ -88,9 +88,9 @@ unfoldable pub ledgers_cases : List (Case (Outcome ℕ LedgerCells))
 ledgers_cases =
     case (ledgers 24 3) (three_ledgers 0 0)
     ∷ case (ledgers 25 5) (three_ledgers 1 2)
-    ∷ case (ledgers 23 3) (kept_cells 10 23 3)
-    ∷ case (ledgers 24 2) (kept_cells 10 24 2)
+    ∷ case (ledgers 23 3) (kept_ledgers 10 23 3)
+    ∷ case (ledgers 24 2) (kept_ledgers 10 24 2)
     ∷ case (call_nation_ledgers accounts [] [] (lent 1 1)) (record { answer = gives 0; memory = lent 1 1 })
-    ∷ case (call_nation_ledgers accounts (three.nations ++ (7 ∷ [])) three.entries (lent 1 1)) (kept_cells 11 1 1)
-    ∷ case (call_nation_ledgers (spoiled accounts) (three.nations ++ (7 ∷ [])) three.entries (lent 1 1)) (kept_cells 2 1 1)
+    ∷ case (call_nation_ledgers accounts (three.nations ++ (7 ∷ [])) three.entries (lent 1 1)) (kept_ledgers 11 1 1)
+    ∷ case (call_nation_ledgers (second_version accounts) (three.nations ++ (7 ∷ [])) three.entries (lent 1 1)) (kept_ledgers 2 1 1)
     ∷ []

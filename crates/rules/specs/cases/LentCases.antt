@@ -8,7 +8,7 @@ use Rattle.rules.specs.Resolver.{TagData}
 use Rattle.rules.specs.Outcomes.{call_resolve, call_initial, call_resolve_on, call_initial_on, call_war_participants, call_nation_ledger}
 use Rattle.rules.specs.cases.Packing.{tagged, word, DraftWarEvent, DraftLedger, war, point, ledger, packed}
 use Rattle.rules.specs.Table.{sevens}
-use Rattle.rules.specs.cases.CaseForms.{Case, case, spoiled, nation, turned, came, went, rows, wrote, unwritten}
+use Rattle.rules.specs.cases.CaseForms.{Case, case, second_version, nation, turned, came, went, rows, wrote, unwritten}
 
 -- The words of a chronicle.
 pub record LentChronicle : Type 0 where
@@ -98,42 +98,44 @@ asked_cases =
 
 -- ## Shape
 
--- One nation and its one entry.
-abbrev pub told : List ℕ → List ℕ → LentChronicle
-told nations entries = record { nations = nations; entries = entries }
+-- The words of nations and of entries.
+abbrev pub lent_chronicle : List ℕ → List ℕ → LentChronicle
+lent_chronicle nations entries = record { nations = nations; entries = entries }
 
+-- One nation and its one entry.
 abbrev sole_nation : List ℕ
 sole_nation = nation "ENG" "GBR" "GBR" 0 1
 
 abbrev sole_entry : List ℕ
 sole_entry = turned 14480601 "GBR"
 
--- One thing wrong in each: a word over in either list; a word for each tag that is none; the date; the kind; the target of a switch and of
--- another kind; a first entry other than 0; an entry that no nation has; one that two have; one that is not there.
+-- One thing wrong in each, in this order: a word over behind the nations, and behind the entries; each of a nation's three tags, which is none; a date
+-- that is none; a kind above 2; a switch to no tag; of both other kinds an entry with a target; a nation whose first entry is not the first; an
+-- entry that no nation has; one that two nations have; one that a nation counts and that is not there.
 abbrev misshapen : List LentChronicle
 misshapen =
-    told (sole_nation ++ (7 ∷ [])) sole_entry
-    ∷ told sole_nation (sole_entry ++ (7 ∷ []))
-    ∷ told (nation "E_G" "GBR" "GBR" 0 1) sole_entry
-    ∷ told (nation "ENG" "G_R" "GBR" 0 1) sole_entry
-    ∷ told (nation "ENG" "GBR" "G_R" 0 1) sole_entry
-    ∷ told sole_nation (turned 14480229 "GBR")
-    ∷ told sole_nation (14480601 ∷ 3 ∷ 0 ∷ [])
-    ∷ told sole_nation (14480601 ∷ 0 ∷ 0 ∷ [])
-    ∷ told sole_nation (14480601 ∷ 1 ∷ word "GBR" ∷ [])
-    ∷ told sole_nation (14480601 ∷ 2 ∷ word "GBR" ∷ [])
-    ∷ told (nation "ENG" "GBR" "GBR" 1 1) sole_entry
-    ∷ told sole_nation (sole_entry ++ sole_entry)
-    ∷ told (sole_nation ++ sole_nation) (sole_entry ++ sole_entry)
-    ∷ told (nation "ENG" "GBR" "GBR" 0 2) sole_entry
+    lent_chronicle (sole_nation ++ (7 ∷ [])) sole_entry
+    ∷ lent_chronicle sole_nation (sole_entry ++ (7 ∷ []))
+    ∷ lent_chronicle (nation "E_G" "GBR" "GBR" 0 1) sole_entry
+    ∷ lent_chronicle (nation "ENG" "G_R" "GBR" 0 1) sole_entry
+    ∷ lent_chronicle (nation "ENG" "GBR" "G_R" 0 1) sole_entry
+    ∷ lent_chronicle sole_nation (turned 14480229 "GBR")
+    ∷ lent_chronicle sole_nation (14480601 ∷ 3 ∷ 0 ∷ [])
+    ∷ lent_chronicle sole_nation (14480601 ∷ 0 ∷ 0 ∷ [])
+    ∷ lent_chronicle sole_nation (14480601 ∷ 1 ∷ word "GBR" ∷ [])
+    ∷ lent_chronicle sole_nation (14480601 ∷ 2 ∷ word "GBR" ∷ [])
+    ∷ lent_chronicle (nation "ENG" "GBR" "GBR" 1 1) sole_entry
+    ∷ lent_chronicle sole_nation (sole_entry ++ sole_entry)
+    ∷ lent_chronicle (sole_nation ++ sole_nation) (sole_entry ++ sole_entry)
+    ∷ lent_chronicle (nation "ENG" "GBR" "GBR" 0 2) sole_entry
     ∷ []
 
 -- Nothing wrong: no rows at all; one nation; two with entries behind each other, one in between that has none.
 abbrev shapely : List LentChronicle
 shapely =
-    told [] []
-    ∷ told sole_nation sole_entry
-    ∷ told (sole_nation ++ nation "NOR" "NOR" "NOR" 1 0 ++ nation "SCO" "SCO" "SCO" 1 2) (sole_entry ++ came 14490101 ++ went 14500101)
+    lent_chronicle [] []
+    ∷ lent_chronicle sole_nation sole_entry
+    ∷ lent_chronicle (sole_nation ++ nation "NOR" "NOR" "NOR" 1 0 ++ nation "SCO" "SCO" "SCO" 1 2) (sole_entry ++ came 14490101 ++ went 14500101)
     ∷ []
 
 -- Each is asked for what is no tag: 11 comes first, 12 without it.
@@ -197,7 +199,7 @@ booking_cases =
     ∷ case (call_war_participants wars fighters sole_entry (sevens 14)) (wrote 4 bookings 2)
     ∷ case (call_war_participants wars fighters sole_entry (sevens 11)) (unwritten 10 11)
     ∷ case (call_war_participants wars (fighters ++ (7 ∷ [])) sole_entry (sevens 11)) (unwritten 11 11)
-    ∷ case (call_war_participants (spoiled wars) (fighters ++ (7 ∷ [])) sole_entry (sevens 11)) (unwritten 2 11)
+    ∷ case (call_war_participants (second_version wars) (fighters ++ (7 ∷ [])) sole_entry (sevens 11)) (unwritten 2 11)
     ∷ []
 
 -- ## Ledger
@@ -216,7 +218,7 @@ accounts =
 -- Annexed, then a switch; Appeared, then Annexed; Annexed, then Appeared; a nation without a ledger row.
 abbrev pub owners : LentChronicle
 owners =
-    told
+    lent_chronicle
     (rows
     (nation "ENG" "LA0" "ST0" 0 2
     ∷ nation "NOR" "LA1" "ST1" 2 2
@@ -282,5 +284,5 @@ ledger_cases =
     ∷ case (ledger_call 4 5) (unwritten 13 5)
     ∷ case (call_nation_ledger accounts [] [] 0 (sevens 5)) (unwritten 13 5)
     ∷ case (call_nation_ledger accounts (owners.nations ++ (7 ∷ [])) owners.entries 4 (sevens 5)) (unwritten 11 5)
-    ∷ case (call_nation_ledger (spoiled accounts) (owners.nations ++ (7 ∷ [])) owners.entries 4 (sevens 5)) (unwritten 2 5)
+    ∷ case (call_nation_ledger (second_version accounts) (owners.nations ++ (7 ∷ [])) owners.entries 4 (sevens 5)) (unwritten 2 5)
     ∷ []

@@ -104,31 +104,31 @@ abbrev pub four : ℕ → List ℕ
 four n = n % 256 ∷ n / 256 % 256 ∷ n / 65536 % 256 ∷ n / 16777216 ∷ []
 
 -- A row of each section.
-abbrev pub event_bytes : DraftEvent → List ℕ
-event_bytes e = four e.date ++ ascii e.tag
+abbrev pub packed_event : DraftEvent → List ℕ
+packed_event e = four e.date ++ ascii e.tag
 
-abbrev pub country_bytes : DraftCountry → List ℕ
-country_bytes k =
+abbrev pub packed_country : DraftCountry → List ℕ
+packed_country k =
     ascii k.tag ++ (k.flags ∷ four k.cities ++ two (length k.previous) ++ two (length k.switches))
 
-abbrev pub province_bytes : DraftProvince → List ℕ
-province_bytes p = two p.id ++ ascii p.owner ++ two (length p.events)
+abbrev pub packed_province : DraftProvince → List ℕ
+packed_province p = two p.id ++ ascii p.owner ++ two (length p.events)
 
-abbrev pub war_event_bytes : DraftWarEvent → List ℕ
-war_event_bytes e = four e.date ++ (e.kind ∷ ascii e.tag)
+abbrev pub packed_war_event : DraftWarEvent → List ℕ
+packed_war_event e = four e.date ++ (e.kind ∷ ascii e.tag)
 
-abbrev pub ledger_bytes : DraftLedger → List ℕ
-ledger_bytes l = ascii l.tag ++ two (length l.points)
+abbrev pub packed_ledger : DraftLedger → List ℕ
+packed_ledger l = ascii l.tag ++ two (length l.points)
 
-abbrev pub point_bytes : DraftPoint → List ℕ
-point_bytes p = two p.year ++ four p.value
+abbrev pub packed_point : DraftPoint → List ℕ
+packed_point p = two p.year ++ four p.value
 
-abbrev pub string_bytes : String → List ℕ
-string_bytes s = length (ascii s) ∷ ascii s
+abbrev pub packed_string : String → List ℕ
+packed_string s = length (ascii s) ∷ ascii s
 
 -- The head: `ATL`, version 1, flags, the two dates, and how many rows each section has.
-abbrev pub head_bytes : DraftRecord → List ℕ
-head_bytes d =
+abbrev pub packed_head : DraftRecord → List ℕ
+packed_head d =
     ascii "ATL" ++ two 1 ++ (d.flags ∷ four d.start ++ four d.current)
     ++ two (length d.countries)
     ++ two (length d.provinces)
@@ -144,14 +144,14 @@ head_bytes d =
 -- The record's bytes: the head, then the sections.
 abbrev pub packed : DraftRecord → List ℕ
 packed d =
-    head_bytes d
-    ++ join_of country_bytes d.countries
+    packed_head d
+    ++ join_of packed_country d.countries
     ++ join_of (λ k. join_of ascii k.previous) d.countries
-    ++ join_of (λ k. join_of event_bytes k.switches) d.countries
-    ++ join_of province_bytes d.provinces
-    ++ join_of (λ p. join_of event_bytes p.events) d.provinces
+    ++ join_of (λ k. join_of packed_event k.switches) d.countries
+    ++ join_of packed_province d.provinces
+    ++ join_of (λ p. join_of packed_event p.events) d.provinces
     ++ join_of (λ w. two (length w)) d.wars
-    ++ join_of (λ w. join_of war_event_bytes w) d.wars
-    ++ join_of ledger_bytes d.ledgers
-    ++ join_of (λ l. join_of point_bytes l.points) d.ledgers
-    ++ join_of string_bytes d.strings
+    ++ join_of (λ w. join_of packed_war_event w) d.wars
+    ++ join_of packed_ledger d.ledgers
+    ++ join_of (λ l. join_of packed_point l.points) d.ledgers
+    ++ join_of packed_string d.strings

@@ -12,7 +12,7 @@ use Rattle.rules.specs.cases.Packing.{tagged}
 use Rattle.rules.specs.cases.Worked.{worked}
 use Rattle.rules.specs.cases.RecordCases.{realms}
 use Rattle.rules.specs.Table.{sevens}
-use Rattle.rules.specs.cases.CaseForms.{Case, case, spoiled, nation, unwritten}
+use Rattle.rules.specs.cases.CaseForms.{Case, case, second_version, nation, unwritten}
 
 -- The page that a record and a selection print.
 abbrev page : List ℕ → String → List ℕ
@@ -35,7 +35,7 @@ page_cases =
     ∷ case (page worked "G_R\n") (ascii "refused 12\n")
     ∷ case (call_program (some worked) (ascii "GBR" ++ (9 ∷ []))) (ascii "refused 12\n")
     ∷ case (call_program (some worked) (ascii "GBR" ++ (11 ∷ []))) (ascii "refused 12\n")
-    ∷ case (page (spoiled worked) "GBR") (ascii "refused 2\n")
+    ∷ case (page (second_version worked) "GBR") (ascii "refused 2\n")
     ∷ case (call_program none []) (ascii "refused 1\n")
     ∷ []
 

@@ -7,7 +7,7 @@ use Rattle.rules.specs.Lent.{Answer, gives, refused, Outcome}
 use Rattle.rules.specs.PlayerOutcomes.{call_players, HistoryCells, HistoryCounts, call_player_histories, call_starting_country}
 use Rattle.rules.specs.cases.Packing.{tagged, word, DraftCountry, played, packed}
 use Rattle.rules.specs.Table.{sevens}
-use Rattle.rules.specs.cases.CaseForms.{Case, case, spoiled, nation, turned, came, went, rows, wrote, unwritten}
+use Rattle.rules.specs.cases.CaseForms.{Case, case, second_version, nation, turned, came, went, rows, wrote, unwritten}
 
 -- A record of countries and strings, with flags: 1 ironman, 2 multiplayer.
 abbrev named : ℕ → List DraftCountry → List String → List ℕ
@@ -37,7 +37,7 @@ player_cases =
     ∷ case (call_players (named 2 [] pairs) (sevens 6))
     (wrote 3 ((0 ∷ word "AAA" ∷ []) ∷ (2 ∷ word "BBB" ∷ []) ∷ (8 ∷ word "AAA" ∷ []) ∷ []) 0)
     ∷ case (call_players (named 2 [] pairs) (sevens 5)) (unwritten 10 5)
-    ∷ case (call_players (spoiled (named 2 [] pairs)) (sevens 5)) (unwritten 2 5)
+    ∷ case (call_players (second_version (named 2 [] pairs)) (sevens 5)) (unwritten 2 5)
     ∷ []
 
 -- ## Histories
@@ -75,34 +75,34 @@ history initial latest stored number human first count =
     word initial ∷ word latest ∷ word stored ∷ number ∷ human ∷ first ∷ count ∷ []
 
 -- Lent slices of so many cells: rows, names.
-abbrev room : ℕ → ℕ → HistoryCells
-room rs names = record { rows = sevens rs; names = sevens names }
+abbrev lent_slices : ℕ → ℕ → HistoryCells
+lent_slices rs names = record { rows = sevens rs; names = sevens names }
 
 abbrev asked : List ℕ → List ℕ → ℕ → ℕ → Outcome HistoryCounts HistoryCells
-asked xs nations rs names = call_player_histories xs nations (came 14450101) (room rs names)
+asked xs nations rs names = call_player_histories xs nations (came 14450101) (lent_slices rs names)
 
 -- The histories and names that were written, and so many cells behind both.
-abbrev told : List (List ℕ) → List ℕ → ℕ → ℕ → ℕ → Outcome HistoryCounts HistoryCells
-told hs names histories count beyond =
+abbrev wrote_histories : List (List ℕ) → List ℕ → ℕ → ℕ → ℕ → Outcome HistoryCounts HistoryCells
+wrote_histories hs names histories count beyond =
     record {
       answer = gives (record { histories = histories; names = count });
       memory = record { rows = rows hs ++ sevens beyond; names = names ++ sevens beyond };
     }
 
-abbrev kept_room : ℕ → ℕ → ℕ → Outcome HistoryCounts HistoryCells
-kept_room number rs names = record { answer = refused number; memory = room rs names }
+abbrev kept_slices : ℕ → ℕ → ℕ → Outcome HistoryCounts HistoryCells
+kept_slices number rs names = record { answer = refused number; memory = lent_slices rs names }
 
 -- AAA keeps its initial, and both leftovers stay.
 abbrev unreleased : String → ℕ → Outcome HistoryCounts HistoryCells
 unreleased latest human =
-    told
+    wrote_histories
     (history "IN0" latest "AAA" 2 human 0 1 ∷ history "IN1" "LA1" "LL1" 3 0 1 0 ∷ history "IN2" "LA2" "LL2" 4 0 1 0 ∷ [])
     (2 ∷ []) 3 1 0
 
 -- AAA takes the initial of LL2, which is gone.
 abbrev released_told : Outcome HistoryCounts HistoryCells
 released_told =
-    told (history "IN2" "AAA" "AAA" 2 1 0 1 ∷ history "IN1" "LA1" "LL1" 3 0 1 0 ∷ []) (2 ∷ []) 2 1 1
+    wrote_histories (history "IN2" "AAA" "AAA" 2 1 0 1 ∷ history "IN1" "LA1" "LL1" 3 0 1 0 ∷ []) (2 ∷ []) 2 1 1
 
 -- Released with three cities, and with one. Then each condition fails by itself: ironman, human, switched, cities above 0 (0 and -1),
 -- stored and latest the same, one player. Last, none is left over to take from.
@@ -117,11 +117,11 @@ release_cases =
     ∷ case (asked (released 1 7 4294967295 ann) (lived "AAA") 21 1) (unreleased "AAA" 1)
     ∷ case (asked (released 1 7 3 ann) (lived "BBB") 21 1) (unreleased "BBB" 1)
     ∷ case (asked (released 1 7 3 ("Ann" ∷ "AAA" ∷ "Bob" ∷ "AAA" ∷ [])) (lived "AAA") 21 2)
-    (told
+    (wrote_histories
     (history "IN0" "AAA" "AAA" 2 1 0 2 ∷ history "IN1" "LA1" "LL1" 3 0 2 0 ∷ history "IN2" "LA2" "LL2" 4 0 2 0 ∷ [])
     (0 ∷ 2 ∷ []) 3 2 0)
     ∷ case (asked (named 1 (played "AAA" 7 3 ∷ []) ann) (lived "AAA") 7 1)
-    (told (history "IN0" "AAA" "AAA" 2 1 0 1 ∷ []) (2 ∷ []) 1 1 0)
+    (wrote_histories (history "IN0" "AAA" "AAA" 2 1 0 1 ∷ []) (2 ∷ []) 1 1 0)
     ∷ []
 
 -- Two with players, so that nothing is taken: LL1, a row before them, goes last; BAR has no nation.
@@ -133,7 +133,7 @@ several =
 
 abbrev several_told : Outcome HistoryCounts HistoryCells
 several_told =
-    told
+    wrote_histories
     (history "IN0" "AAA" "AAA" 2 1 0 1 ∷ history "BAR" "BAR" "BAR" 0 1 1 2 ∷ history "IN1" "LA1" "LL1" 3 0 3 0 ∷ [])
     (2 ∷ 0 ∷ 4 ∷ []) 3 3 0
 
@@ -141,10 +141,10 @@ several_told =
 unfoldable pub history_cases : List (Case (Outcome HistoryCounts HistoryCells))
 history_cases =
     case (asked several (lived "AAA") 21 3) several_told
-    ∷ case (asked several (lived "AAA") 20 3) (kept_room 10 20 3)
-    ∷ case (asked several (lived "AAA") 21 2) (kept_room 10 21 2)
-    ∷ case (asked several (lived "AAA" ++ (7 ∷ [])) 20 2) (kept_room 11 20 2)
-    ∷ case (asked (spoiled several) (lived "AAA" ++ (7 ∷ [])) 20 2) (kept_room 2 20 2)
+    ∷ case (asked several (lived "AAA") 20 3) (kept_slices 10 20 3)
+    ∷ case (asked several (lived "AAA") 21 2) (kept_slices 10 21 2)
+    ∷ case (asked several (lived "AAA" ++ (7 ∷ [])) 20 2) (kept_slices 11 20 2)
+    ∷ case (asked (second_version several) (lived "AAA" ++ (7 ∷ [])) 20 2) (kept_slices 2 20 2)
     ∷ []
 
 -- Nobody's: ironman, and AAA fit to be released but for a player.
@@ -153,7 +153,7 @@ nobodies = named 1 (played "LL1" 2 0 ∷ played "AAA" 7 3 ∷ played "LL2" 2 0 �
 
 abbrev nobodies_told : Outcome HistoryCounts HistoryCells
 nobodies_told =
-    told
+    wrote_histories
     (history "IN1" "LA1" "LL1" 3 0 0 0 ∷ history "IN0" "AAA" "AAA" 2 1 0 0 ∷ history "IN2" "LA2" "LL2" 4 0 0 0 ∷ [])
     [] 3 0 2
 
@@ -166,7 +166,7 @@ many =
 
 abbrev many_told : Outcome HistoryCounts HistoryCells
 many_told =
-    told
+    wrote_histories
     (history "BAR" "BAR" "BAR" 0 0 0 1
     ∷ history "BAS" "BAS" "BAS" 0 0 1 1
     ∷ history "BAT" "BAT" "BAT" 0 0 2 1
@@ -180,7 +180,7 @@ many_told =
 unfoldable pub order_cases : List (Case (Outcome HistoryCounts HistoryCells))
 order_cases =
     case (asked nobodies (lived "AAA") 23 2) nobodies_told
-    ∷ case (asked (named 1 (played "AAA" 5 3 ∷ []) ann) (lived "AAA") 1 1) (told [] [] 0 0 1)
+    ∷ case (asked (named 1 (played "AAA" 5 3 ∷ []) ann) (lived "AAA") 1 1) (wrote_histories [] [] 0 0 1)
     ∷ case (asked many (lived "AAA") 42 4) many_told
     ∷ []
 

@@ -16,7 +16,7 @@ use Rattle.rules.specs.Outcomes.{call_province_owners, call_events_on, NationCel
 use Rattle.rules.specs.cases.Packing.{tagged, word, DraftCountry, DraftProvince, on, country, province, packed}
 use Rattle.rules.specs.cases.Worked.{dated, worked}
 use Rattle.rules.specs.Table.{sevens}
-use Rattle.rules.specs.cases.CaseForms.{Case, case, spoiled, change, nation, turned, came, went, rows, wrote, unwritten}
+use Rattle.rules.specs.cases.CaseForms.{Case, case, second_version, change, nation, turned, came, went, rows, wrote, unwritten}
 
 -- A record of countries and provinces, from 14440101 to 14500101.
 abbrev landed : List DraftCountry → List DraftProvince → List ℕ
@@ -57,7 +57,7 @@ change_cases =
     case (call_province_owners tangled (sevens 17)) (wrote 4 tangled_changes 1)
     ∷ case (call_province_owners tangled (sevens 16)) (wrote 4 tangled_changes 0)
     ∷ case (call_province_owners tangled (sevens 15)) (unwritten 10 15)
-    ∷ case (call_province_owners (spoiled tangled) (sevens 15)) (unwritten 2 15)
+    ∷ case (call_province_owners (second_version tangled) (sevens 15)) (unwritten 2 15)
     ∷ []
 
 -- Before all changes, on a day with one and on a day with three, between, and after all; a bad date; the record's number before that.
@@ -69,7 +69,7 @@ events_on_cases =
     ∷ case (call_events_on tangled 14460101) (gives (record { first = 1; count = 3 }))
     ∷ case (call_events_on tangled 14460102) (gives (record { first = 4; count = 0 }))
     ∷ case (call_events_on tangled 14460229) (refused 12)
-    ∷ case (call_events_on (spoiled tangled) 14460229) (refused 2)
+    ∷ case (call_events_on (second_version tangled) 14460229) (refused 2)
     ∷ []
 
 -- ## Nations
@@ -219,7 +219,7 @@ nation_cases =
     ∷ case (call_nation_events worked (lent_cells 10 9 2 2 8)) (kept_cells 10 (lent_cells 10 9 2 2 8))
     ∷ case (call_nation_events worked (lent_cells 10 9 3 1 8)) (kept_cells 10 (lent_cells 10 9 3 1 8))
     ∷ case (call_nation_events worked (lent_cells 10 9 3 2 7)) (kept_cells 10 (lent_cells 10 9 3 2 7))
-    ∷ case (call_nation_events (spoiled worked) (lent_cells 0 0 0 0 0)) (kept_cells 2 (lent_cells 0 0 0 0 0))
+    ∷ case (call_nation_events (second_version worked) (lent_cells 0 0 0 0 0)) (kept_cells 2 (lent_cells 0 0 0 0 0))
     ∷ []
 
 -- ## On a day

@@ -14,6 +14,7 @@ use Rattle.std.specs.Prelude.{is_some, IfSome, Some}
 use Rattle.lists.specs.Lists.{keep}
 use Rattle.lists.proofs.ElementLaws.{keep-short}
 use Rattle.rules.specs.Lent.{written}
+use Rattle.rules.specs.HistoryRows.{history_width}
 use Rattle.format.specs.declared.tag.CountryTag.{CountryTag}
 use Rattle.arranging.specs.Drafts.{is_played, is_leftover}
 use Rattle.arranging.specs.Arranging.{last_initial, kept_words}
@@ -40,7 +41,7 @@ write_drafts-at-requires-clause-ready c =
     )
 
 -- There is room behind it.
-behind : (c : After-write_drafts-at) → (c.write_drafts-at.result ≤ 14000) × (c.write_drafts-at.result + 7 * c.args.kept ≤ length c.write_drafts-at.new.out)
+behind : (c : After-write_drafts-at) → (c.write_drafts-at.result ≤ history_width * 2000) × (c.write_drafts-at.result + history_width * c.args.kept ≤ length c.write_drafts-at.new.out)
 behind c =
     let at = (front c).0 in
     (omega (arith, at, keep-short is_played c.args.drafts.now, c.requires.many), omega (arith, at, c.requires.room, c.write_drafts-at.auto.out))

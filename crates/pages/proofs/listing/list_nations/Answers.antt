@@ -1,27 +1,31 @@
 -- Nations answer if the record is within the page's limits; then their words stand at the front of the slices, and the cells are filled.
-use Rattle.std.proofs.Common.{◌≡◌, ℕ, ◌≤◌, List, length, arith}
+use Rattle.std.proofs.Common.{◌≡◌, ℕ, ◌*◌, ◌≤◌, List, length, arith}
 use lib.ListN.{take, replicate, length-take, length-replicate}
 use Rattle.rules.specs.Outcomes.{NationCells}
+use Rattle.rules.specs.NationRows.{nation_width, entry_width}
+use Rattle.rules.specs.Changes.{change_width}
+use Rattle.nation_tables.specs.Layout.{most_countries, most_slots}
 use Rattle.nations.specs.Cases.{nation_cells}
+use Rattle.pages.specs.declared.listing.TheConstants.{MOST_PAGE_ENTRIES, MOST_PAGE_CHANGES}
 use Rattle.pages.proofs.RoomLaws.{LentFor, over, nations-inside, entries-inside, limits-kept, nation-front, entry-front, counts-short}
 use Rattle.pages.proofs.TextLaws.{rows_few, cells-listed}
 use Rattle.pages.proofs.listing.list_nations.Goals as goal
 
 -- The cells that nations were lent.
 abbrev lent : List ℕ → NationCells
-lent nations = nation_cells nations (replicate 15000 0) (replicate 8001 0) (replicate 2000 0) (replicate 16000 0)
+lent nations = nation_cells nations (replicate (entry_width * MOST_PAGE_ENTRIES) 0) (replicate most_slots 0) (replicate most_countries 0) (replicate (change_width * MOST_PAGE_CHANGES) 0)
 
-new : (nations : List ℕ) → length nations ≡ 10000 → LentFor (lent nations)
+new : (nations : List ℕ) → length nations ≡ nation_width * most_countries → LentFor (lent nations)
 new nations e =
     record {
       nations = e;
-      entries = length-replicate {A = ℕ} 15000 0;
-      holders = length-replicate {A = ℕ} 8001 0;
-      held = length-replicate {A = ℕ} 2000 0;
-      changes = length-replicate {A = ℕ} 16000 0;
+      entries = length-replicate {A = ℕ} (entry_width * MOST_PAGE_ENTRIES) 0;
+      holders = length-replicate {A = ℕ} most_slots 0;
+      held = length-replicate {A = ℕ} most_countries 0;
+      changes = length-replicate {A = ℕ} (change_width * MOST_PAGE_CHANGES) 0;
     }
 
-fits-within : {a b : ℕ} → a ≤ 2000 → b ≡ 2000 → a ≤ b
+fits-within : {a b : ℕ} → a ≤ most_countries → b ≡ most_countries → a ≤ b
 fits-within h e = omega (arith, h, e)
 
 pub overflow_mul-n : goal.overflow_mul-n

@@ -2,10 +2,10 @@
 use Prim.Native.Nat.{◌*◌}
 use Rattle.std.specs.Iterator.Adapters.{enumerate_source, enumerate_count}
 use Rattle.lists.proofs.WriteLaws.{Writing}
-use Rattle.rules.specs.Players.{player_rows}
+use Rattle.rules.specs.Players.{player_rows, player_width}
 use Rattle.players.specs.PlayerSteps.{players_left}
 use Rattle.players.proofs.player_rows.write_players.Given as goal
 
 abbrev pub invariant-loop-i : goal.invariant-loop-i
 invariant-loop-i l =
-    Writing (player_rows (players_left l.fn.players)) (player_rows (players_left (enumerate_source l.i-iterator))) l.fn.out (2 * enumerate_count l.i-iterator) l.out
+    Writing (player_rows (players_left l.fn.players)) (player_rows (players_left (enumerate_source l.i-iterator))) l.fn.out (player_width * enumerate_count l.i-iterator) l.out

@@ -5,6 +5,7 @@ use lib.ListN.{length}
 use Rattle.questions.specs.Passes.{finished_row}
 use Rattle.questions.proofs.PassLaws.{passing-start, passing-put, passing-done, second-still, finished-row}
 use Rattle.questions.proofs.each.finish_rows.Goals as goal
+use Rattle.rules.specs.Questions.{answer_width}
 
 pub loop-i-init : goal.loop-i-init
 loop-i-init c = (search rules, passing-start _ _)
@@ -21,4 +22,4 @@ shape_of-out c = c.loop-i.invariant.1.long
 
 pub returns : goal.returns
 returns c =
-    passing-done (finished_row c.args.nations.now c.args.out.now) c.args.out.now c.loop-i.i (length c.args.out.now / 2) _ c.loop-i.invariant.1 (search rules) (search rules)
+    passing-done (finished_row c.args.nations.now c.args.out.now) c.args.out.now c.loop-i.i (length c.args.out.now / answer_width) _ c.loop-i.invariant.1 (search rules) (search rules)

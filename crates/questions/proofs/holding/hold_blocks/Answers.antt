@@ -5,11 +5,12 @@ use borrow.Author.Rules.{rules}
 use Rattle.claims.specs.Claims.{claims_in}
 use Rattle.questions.proofs.HoldingLaws.{between-first, between-last, between-next, part-in-order, nothing_left, fewer-left}
 use Rattle.questions.proofs.holding.hold_blocks.Goals as goal
+use Rattle.questions.specs.declared.blocks.TheConstants.{BLOCK}
 
 pub loop-taken-init : goal.loop-taken-init
 loop-taken-init g c =
     between-first _ _ (claims_in c.args.chronicle.nations.now c.args.chronicle.entries.now) c.args.out.now _ _ _ _ c.of-claims.ensures
-    (length-replicate {A = ℕ} 24576 0) (length-replicate {A = ℕ} 24576 0) (length-replicate {A = ℕ} 24576 0)
+    (length-replicate {A = ℕ} BLOCK 0) (length-replicate {A = ℕ} BLOCK 0) (length-replicate {A = ℕ} BLOCK 0)
 
 pub invariant_of-sorted : goal.invariant_of-sorted
 invariant_of-sorted g c = record { sorted = part-in-order _ _ _ _ _ _ _ _ _ _ c.in-Some.ensures.sorts }

@@ -9,6 +9,7 @@ use lib.Dec.{eqb, leb}
 use Rattle.std.specs.List.{starts_with}
 use Rattle.lists.proofs.BoolLaws.{cases, clash}
 use Rattle.format.specs.Refusal.{opens}
+use Rattle.format.specs.Head.{head_bytes}
 use Rattle.record_head.proofs.opening.opens_record.Goals as goal
 
 flip : (a b : ℕ) → eqb a b ≡ eqb b a
@@ -23,13 +24,13 @@ three true false c = refl
 three true true false = refl
 three true true true = refl
 
-opens-told : (xs : List ℕ) → leb 44 (length xs) && starts_with eqb xs (65 ∷ 84 ∷ 76 ∷ []) ≡ opens xs
+opens-told : (xs : List ℕ) → leb head_bytes (length xs) && starts_with eqb xs (65 ∷ 84 ∷ 76 ∷ []) ≡ opens xs
 unfolding opens
 opens-told [] = refl
 opens-told (x ∷ []) = refl
 opens-told (x ∷ y ∷ []) = refl
 opens-told (x ∷ y ∷ z ∷ xs) =
-    ap (λ b. leb 44 (length (x ∷ y ∷ z ∷ xs)) && b) (simp (flip 65 x, flip 84 y, flip 76 z) (three (eqb x 65) (eqb y 84) (eqb z 76)))
+    ap (λ b. leb head_bytes (length (x ∷ y ∷ z ∷ xs)) && b) (simp (flip 65 x, flip 84 y, flip 76 z) (three (eqb x 65) (eqb y 84) (eqb z 76)))
 
 pub returns : goal.returns
-returns c = ap (λ b. leb 44 (length c.args.s.now) && b) c.starts_with.ensures.value ∙ opens-told c.args.s.now
+returns c = ap (λ b. leb head_bytes (length c.args.s.now) && b) c.starts_with.ensures.value ∙ opens-told c.args.s.now

@@ -6,10 +6,11 @@ use Rattle.span_points.proofs.FilledLaws.{zeros-start}
 use Rattle.span_points.proofs.FillsLaws.{fills-start, zeros-next, zeros-fill}
 use Rattle.span_points.proofs.filling.write_zeros.Goals.{After-min-n}
 use Rattle.span_points.proofs.filling.write_zeros.Goals as goal
+use Rattle.rules.specs.Ledger.{ledger_width}
 
 -- As many zeros as there are years and as find room.
-size : (c : After-min-n) → c.min-n.result ≡ min (c.args.until - c.args.running) (length c.args.out.now / 3)
-size c = c.min-n.ensures ∙ ap (λ m. min m (length c.args.out.now / 3)) c.saturating_sub-years.ensures
+size : (c : After-min-n) → c.min-n.result ≡ min (c.args.until - c.args.running) (length c.args.out.now / ledger_width)
+size c = c.min-n.ensures ∙ ap (λ m. min m (length c.args.out.now / ledger_width)) c.saturating_sub-years.ensures
 
 pub loop-i-init : goal.loop-i-init
 loop-i-init c = fills-start _ _ _ (zeros-start _ _ _)

@@ -7,5 +7,5 @@ use Rattle.questions.proofs.holding.ClaimBlock.updated_row.Goals as goal
 
 pub returns : goal.returns
 returns c =
-    c.updated_row.ensures
+    c.later_row.ensures
     ∙ ap (λ (looked : Option ℕ). updated c.args.self.now.owners.now looked c.args.best c.args.owner) c.look_up_near-looked.ensures

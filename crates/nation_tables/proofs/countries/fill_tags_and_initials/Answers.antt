@@ -5,8 +5,8 @@ use lib.ListN.{length-map, length}
 use Rattle.lists.proofs.FillLaws.{filling-new, filling-room, filling-put, filling-written}
 use Rattle.record.specs.Cursors.{country_of, countries_left}
 use Rattle.nation_tables.specs.Countries.{country_tags, initial_words}
-use Rattle.nation_tables.proofs.countries.country_words.Goals.{In-Some}
-use Rattle.nation_tables.proofs.countries.country_words.Goals as goal
+use Rattle.nation_tables.proofs.countries.fill_tags_and_initials.Goals.{In-Some}
+use Rattle.nation_tables.proofs.countries.fill_tags_and_initials.Goals as goal
 
 -- what was left is the country of the row, and what is left then
 told : (c : In-Some) → countries_left c.loop-row.row-iterator.iter ≡ country_of c.in-Some.country ∷ countries_left c.next.new.self.iter

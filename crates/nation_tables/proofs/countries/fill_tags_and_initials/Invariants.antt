@@ -2,7 +2,7 @@
 use Rattle.lists.proofs.FillLaws.{Filling}
 use Rattle.record.specs.Cursors.{countries_left}
 use Rattle.nation_tables.specs.Countries.{country_tags, initial_words}
-use Rattle.nation_tables.proofs.countries.country_words.Given as goal
+use Rattle.nation_tables.proofs.countries.fill_tags_and_initials.Given as goal
 
 abbrev pub invariant-loop-row : goal.invariant-loop-row
 invariant-loop-row l =
