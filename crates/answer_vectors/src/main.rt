@@ -1,15 +1,13 @@
-// Replays the stored campaigns of answers.bin, each a record and what a chronicle answers of it, and counts the wrong answers. The list is made
-// by host/oracle's answer_vectors. Its numbers take 32 bits each, low byte first: the bytes of the record, and how many changes, days, nations,
-// entries, slots and countries follow; then these, of 4, 3, 5, 3, 1 and 1 numbers each. Held to the record are its changes, days and nations.
+//! Replays the stored campaigns of answers.bin, each a record and what a chronicle answers of it, and counts the wrong answers. The list is made
+//! by host/oracle's answer_vectors. Its numbers take 32 bits each, low byte first: the bytes of the record, and how many changes, days, nations,
+//! entries, slots and countries follow; then these, of 4, 3, 5, 3, 1 and 1 numbers each. Held to the record are its changes, days and nations.
 #![tactic(auto)]
 
 ghost use Rattle.std.specs.Prelude.{◌≤◌, ℕ, List, IfOk, OnOk};
 ghost use Rattle.std.specs.Io.KnownBytes.{Consumes};
 
-use change_keys::CHANGE_WIDTH;
-use chronicle::{DateRun, NationCounts};
-use chronicle_rows::{ENTRY_WIDTH, NATION_WIDTH};
-use record::Eu4Date;
+use format::{DateRun, Eu4Date, NationCounts};
+use rows::{CHANGE_WIDTH, ENTRY_WIDTH, NATION_WIDTH};
 use std::io;
 use std::io::Read;
 use stored_input::{BrokenOff, Counts, Replay, read_numbers, read_part, replay_file, take_part};
@@ -48,7 +46,9 @@ fn wrong_days<R: Read>(list: &mut R, s: &[u8], days: u32) -> Result<usize, Broke
             first: first as usize,
             count: count as usize,
         };
-        wrong += usize::from(chronicle::events_on(s, Eu4Date::kept(date)) != Ok(run));
+        wrong += usize::from(
+            chronicle::events_on(s, Eu4Date::from_word_unchecked(date)) != Ok(run),
+        );
     }
     Ok(wrong)
 }

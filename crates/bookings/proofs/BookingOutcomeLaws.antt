@@ -11,24 +11,25 @@ use lib.ListN.{length, drop, length-map}
 use Rattle.lists.specs.Lists.{join_of}
 use Rattle.format.specs.declared.tag.CountryTag.{CountryTag}
 use Rattle.format.specs.Campaign.{campaign_of}
-use Rattle.format.specs.Refusal.{refusal, first_of}
+use Rattle.format.specs.RecordNumber.{refusal, first_of}
 use Rattle.format.proofs.FirstLaws.{first-stop, first-pass, first_one, first-zero}
-use Rattle.rules.specs.Lent.{refused, gives, written, fits, room_number}
+use Rattle.rules.specs.Lent.{refused, gives, outcome_of, written, fits, room_number}
 use Rattle.rules.specs.NationRows.{nations_in, well_shaped}
 use Rattle.rules.specs.Resolver.{plain_data, resolve}
-use Rattle.rules.specs.Bookings.{Joining, joinings_of, Booking, booking_of, bookings_of, booking_rows, booking_width}
-use Rattle.rules.specs.Refusals.{chronicle_number}
+use Rattle.format.specs.declared.values.Joining.{Joining}
+use Rattle.format.specs.declared.values.Booking.{Booking}
+use Rattle.rules.specs.Bookings.{joinings_of, booking_of, bookings_of, booking_rows, booking_width}
+use Rattle.rules.specs.CallNumbers.{chronicle_number}
 use Rattle.rules.specs.Outcomes.{call_war_participants}
 use Rattle.rules.proofs.LentLaws.{answered-given, outcome-refused, outcome-gives}
 use Rattle.rules.proofs.RowLaws.{length-booking_rows}
-use Rattle.claims.specs.declared.claims.Claim.{Claim}
-use Rattle.claims.specs.Claims.{claims_in, best_of}
-use Rattle.claims.proofs.ResolvedLaws.{claim_nation, claim-resolved}
+use Rattle.resolver.specs.declared.claims.Claim.{Claim}
+use Rattle.resolver.specs.Claims.{claims_in, best_of}
+use Rattle.resolver.proofs.ResolvedLaws.{claim_nation, claim-resolved}
 use Rattle.std.specs.Prelude.{Err}
 use Rattle.format.specs.declared.refused.Refusal.{Refusal}
-use Rattle.format.specs.Refused.{refusal_number}
+use Rattle.format.specs.RefusalNumber.{refusal_number}
 use Rattle.record.proofs.ToldLaws.{refusal_above}
-use Rattle.bookings.specs.Cases.{bookings_outcome}
 use Rattle.bookings.specs.Passes.{rows_by, stored_tag, claimed_row}
 use Rattle.bookings.proofs.JoiningLaws.{few-joinings}
 use Rattle.bookings.proofs.RowsByLaws.{rows_join}
@@ -71,7 +72,7 @@ module _ (xs ws es before : List ℕ) where
   unfolding bookings bookings_of
   joinings-counted = length-map (joinings_of (campaign_of xs)) (booking_of (nations_in ws es))
 
-  pub bookings-refused : (e : Refusal) → refusal_number e ≡ refusal xs → bookings_outcome (Err e) before ≡ call_war_participants xs ws es before
+  pub bookings-refused : (e : Refusal) → refusal_number e ≡ refusal xs → outcome_of {A = ℕ} (λ n. n) (Err e) before ≡ call_war_participants xs ws es before
   unfolding call_war_participants number rows bookings
   bookings-refused e t =
       let above = refusal_above e in

@@ -2,15 +2,17 @@
 use mathlib.Core.Path.{◌≡◌, refl, sym, ap, ap₂, ◌∙◌}
 use mathlib.Core.Bool.{true}
 use mathlib.Core.List.{List, [], ◌∷◌, ◌++◌, append_assoc, append-nil}
-use Prim.Native.Nat.{ℕ, ◌+◌, ◌-◌, ◌*◌, ◌≤◌}
+use Prim.Native.Nat.{ℕ, suc, ◌+◌, ◌-◌, ◌*◌, ◌/◌, ◌<◌, ◌≤◌}
+use native.Mathlib.Nat.{sub-zero}
 use native.Mathlib.Omega.{arith}
 use borrow.Author.Tests.{le-leb}
 use lib.Dec.{leb}
-use lib.ListN.{length, take, drop, length-append, length-drop, take-append-drop}
-use lib.Seq.{take_at, drop_at, drop-drop, length-take-le, take_all}
+use lib.ListN.{length, take, drop, length-append, length-drop, length-take, take-append-drop}
+use lib.Seq.{take_at, drop_at, drop-drop, length-take-le, take_all, take-nil}
 use Rattle.std.proofs.lemmas.List.{drop_all}
-use Rattle.chronicle_rows.specs.RowAt as Cells
-use Rattle.rules.specs.Bookings.{Joining, booking_width}
+use Rattle.rows.specs.RowAt as Cells
+use Rattle.format.specs.declared.values.Joining.{Joining}
+use Rattle.rules.specs.Bookings.{booking_width}
 use Rattle.bookings.specs.Passes.{row_here, row_put_at, rows_by}
 
 module _ (row : Joining → List ℕ → List ℕ) (all : List Joining) (before : List ℕ) where
@@ -71,13 +73,28 @@ row-made row out made k h e l =
       ap₂ (λ (x y : List ℕ). take k out ++ (x ++ y)) put over ∙ ap (λ (x : List ℕ). take k out ++ x) (append-nil _),
     )
 
--- Row number i was made, as the code counts and as it leaves the words.
-pub passing-made : (row : Joining → List ℕ → List ℕ) (all : List Joining) (before : List ℕ) (left rest : List Joining) (j : Joining) (i at next : ℕ) (now made : List ℕ)
-    → Passing row all before left (booking_width * i) now → left ≡ j ∷ rest → at ≡ i → next ≡ i + 1
-    → made ≡ Cells.row_put booking_width (row j (take booking_width (take (length now - booking_width * at) (drop (booking_width * at) now)))) (take (length now - booking_width * at) (drop (booking_width * at) now))
-    → length made ≡ length (take (length now - booking_width * at) (drop (booking_width * at) now))
-    → Passing row all before rest (booking_width * next) (take (booking_width * at) now ++ (made ++ drop (length now - booking_width * at) (drop (booking_width * at) now)))
-passing-made row all before left rest j i at next now made p e a b m l =
-    let r = row-made (row j) now made (booking_width * i) (passing-room row all before p e) (rw a at m) (rw a at l) in
-    let step : booking_width * next ≡ booking_width * i + booking_width = omega arith in
-    rw (a, step) (passing-next row all before p e r.0 _ r.1)
+-- ## As many rows as find room
+
+module _ (row : Joining → List ℕ → List ℕ) (all : List Joining) (before : List ℕ) (m : ℕ) where
+  pub passing-first : m ≡ length before / booking_width → Passing row (take m all) before (take (m - 0) all) (booking_width * 0) before
+  passing-first e = rw (sub-zero m) record { done = refl; long = refl; room = omega (arith, length-take m all) }
+
+  module _ (left : List Joining) (i : ℕ) (now : List ℕ) (p : Passing row (take m all) before (take (m - i) left) (booking_width * i) now) where
+    -- Row number i was made, as the code leaves the words.
+    pub passing-made : (rest : List Joining) (j : Joining) (made : List ℕ) → i < m → left ≡ j ∷ rest
+        → made ≡ Cells.row_put booking_width (row j (take booking_width (take (length now - booking_width * i) (drop (booking_width * i) now)))) (take (length now - booking_width * i) (drop (booking_width * i) now))
+        → length made ≡ length (take (length now - booking_width * i) (drop (booking_width * i) now))
+        → Passing row (take m all) before (take (m - (i + 1)) rest) (booking_width * (i + 1)) (take (booking_width * i) now ++ (made ++ drop (length now - booking_width * i) (drop (booking_width * i) now)))
+    passing-made rest j made h e q l =
+        let more : m - i ≡ suc (m - (i + 1)) = omega arith in
+        let first : take (m - i) left ≡ j ∷ take (m - (i + 1)) rest = rw (more, e) in
+        let r = row-made (row j) now made (booking_width * i) (passing-room row (take m all) before p first) q l in
+        let step : booking_width * (i + 1) ≡ booking_width * i + booking_width = omega arith in
+        rw step (passing-next row (take m all) before p first r.0 _ r.1)
+
+    -- No joining is left, or no row.
+    pub passing-out : left ≡ [] → now ≡ rows_by row (take m all) before
+    passing-out e = passing-end row (take m all) before p (ap (take (m - i)) e ∙ take-nil (m - i))
+
+    pub passing-full : m ≤ i → now ≡ rows_by row (take m all) before
+    passing-full h = let z : m - i ≡ 0 = omega arith in passing-end row (take m all) before p (rw z refl)

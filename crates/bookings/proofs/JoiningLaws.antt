@@ -1,5 +1,5 @@
 -- The walk over the joinings, event by event, and how many an accepted record has.
-use mathlib.Core.Path.{◌≡◌, refl, sym, ap, ◌∙◌}
+use mathlib.Core.Path.{◌≡◌, refl, ap}
 use mathlib.Core.List.{List, [], ◌∷◌}
 use Prim.Native.Nat.{ℕ, suc, ◌+◌, ◌≤◌, ◌<◌}
 use native.Mathlib.Omega.{arith}
@@ -11,19 +11,20 @@ use Rattle.lists.proofs.ListLaws.{all_keep, all_append, all_of_map}
 use Rattle.lists.proofs.ElementLaws.{keep-short}
 use Rattle.format.specs.declared.rows.WarEvent.{WarEvent}
 use Rattle.format.specs.Campaign.{campaign_of}
-use Rattle.format.specs.Refusal.{refusal}
+use Rattle.format.specs.RecordNumber.{refusal}
 use Rattle.format.specs.Sound.{GoodWarEvent}
 use Rattle.format.proofs.BoundLaws.{date-small}
 use Rattle.format.proofs.SoundLaws.{sound}
 use Rattle.std.specs.Prelude as code
-use Rattle.std.specs.Prelude.{Some, None, Ok}
+use Rattle.std.specs.Prelude.{Some, None}
 use Rattle.record.specs.declared.opened.Record.{Record}
-use Rattle.record.specs.Opened.{RightlyOpened}
+use Rattle.record.specs.Opened.{campaign_in}
 use Rattle.std.specs.Iterator.{YieldsFirstBy}
 use Rattle.record.specs.declared.cursors.Wars.{Wars}
 use Rattle.record.specs.Cursors.{WarEvents, war_events_left, wars_left}
 use Rattle.bookings.specs.AtHand.{wars_told}
-use Rattle.rules.specs.Bookings.{Joining, war_joinings, joinings_from, joinings_of}
+use Rattle.format.specs.declared.values.Joining.{Joining}
+use Rattle.rules.specs.Bookings.{war_joinings, joinings_from, joinings_of}
 use Rattle.bookings.specs.Passes.{GoodJoining}
 
 -- ## One step
@@ -99,22 +100,16 @@ module _ (xs : List ℕ) (accepted : refusal xs ≡ 0) (ws : List (List WarEvent
 pub few-joinings : (xs : List ℕ) → refusal xs ≡ 0 → length (joinings_of (campaign_of xs)) ≤ 100000
 few-joinings xs h = let s = sound xs h in omega (arith, joinings-few 0 (campaign_of xs).wars, s.few_war_events)
 
--- What the code knows of the joinings, once it has opened the record.
-pub record JoiningsTold (xs : List ℕ) (left : List Joining) : Type 0 where
-  pub accepted : refusal xs ≡ 0
-  pub all : left ≡ joinings_of (campaign_of xs)
-  pub few : length left ≤ 100000
-  pub good : All GoodJoining left
+-- The record's facts, of the wars of one that was opened.
+module _ (r : Record) where
+  pub wars-fit : length (wars_left r.wars) ≤ 4294967295
+  wars-fit = wars-few r.bytes.now r.accepted (wars_left r.wars) r.told.wars
 
-pub wars-fit : (xs : List ℕ) (r : Record) → RightlyOpened xs (Ok r) → length (wars_left r.wars) ≤ 4294967295
-wars-fit xs r o = wars-few xs (sym o.number) (wars_left r.wars) o.rows.wars
+  pub joinings-told : joinings_from 0 (wars_left r.wars) ≡ joinings_of (campaign_in r)
+  joinings-told = ap (joinings_from 0) r.told.wars
 
-pub joinings-told : (xs : List ℕ) (r : Record) (left : List Joining) → RightlyOpened xs (Ok r) → left ≡ joinings_from 0 (wars_left r.wars) → JoiningsTold xs left
-joinings-told xs r left o e =
-    let all : left ≡ joinings_of (campaign_of xs) = e ∙ ap (joinings_from 0) o.rows.wars in
-    record {
-      accepted = sym o.number;
-      all = all;
-      few = omega (arith, ap length all, few-joinings xs (sym o.number));
-      good = rw e (all-good xs (sym o.number) (wars_left r.wars) o.rows.wars);
-    }
+  pub told-few : (left : List Joining) → left ≡ joinings_of (campaign_in r) → length left ≤ 100000
+  told-few left e = omega (arith, ap length e, few-joinings r.bytes.now r.accepted)
+
+  pub told-good : (left : List Joining) → left ≡ joinings_of (campaign_in r) → All GoodJoining left
+  told-good left e = rw (e, ← joinings-told) (all-good r.bytes.now r.accepted (wars_left r.wars) r.told.wars)

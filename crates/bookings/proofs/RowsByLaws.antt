@@ -7,10 +7,11 @@ use native.Mathlib.Omega.{arith}
 use lib.ListN.{length, take, drop, replicate}
 use lib.Seq.{take_at, drop_at, drop-drop}
 use Rattle.lists.specs.Lists.{All, join_of}
-use Rattle.rules.specs.Bookings.{Joining, booking_width}
-use Rattle.claims.specs.declared.claims.Claim.{Claim}
-use Rattle.claims.specs.Claims.{best_of}
-use Rattle.questions.specs.Passes.{claim_words}
+use Rattle.format.specs.declared.values.Joining.{Joining}
+use Rattle.rules.specs.Bookings.{booking_width}
+use Rattle.resolver.specs.declared.claims.Claim.{Claim}
+use Rattle.resolver.specs.Claims.{best_of}
+use Rattle.resolver.specs.Passes.{claim_words}
 use Rattle.bookings.specs.Passes.{rows_by, best_booking_row}
 
 -- Each row is as wide as a booking's.

@@ -1,4 +1,4 @@
--- The wars that an iterator over joinings has before it. No promise of a call of 01 cites them.
+-- The wars that an iterator over joinings has before it: inner steps.
 use Rattle.std.specs.Prelude as code
 use Rattle.std.specs.Prelude.{List, [], ◌∷◌, Some, None}
 use Rattle.format.specs.declared.rows.WarEvent.{WarEvent}

@@ -1,4 +1,3 @@
-pub mod Cases
 pub mod AtHand
 pub mod Walking
 pub mod Passes

@@ -9,7 +9,7 @@ use lib.Dec.{eqb, ltb}
 use Rattle.lists.proofs.BoolLaws.{neither}
 use Rattle.format.specs.Head.{head_of}
 use Rattle.format.specs.Laid.{Laid}
-use Rattle.format.specs.Refusal.{refusal, opens, sizes_agree, fields_number, tag_twice, id_twice_or_above}
+use Rattle.format.specs.RecordNumber.{refusal, opens, sizes_agree, fields_number, tag_twice, id_twice_or_above}
 use Rattle.format.proofs.FirstLaws.{first-zero}
 use Rattle.format.proofs.SizeLaws.{laid}
 

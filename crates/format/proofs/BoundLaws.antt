@@ -20,7 +20,7 @@ use Rattle.format.specs.Dates.{good_date, year, month, day, month_table, month_d
 use Rattle.format.specs.Head.{head_of, countries_at, switches_at, events_at, country_bytes, switch_bytes, owner_event_bytes}
 use Rattle.format.specs.Rows.{country_at, switch_at, owner_event_at}
 use Rattle.format.specs.Campaign.{Province, country_rows, previous_tags, switch_rows, province_rows, owner_events, campaign_of}
-use Rattle.format.specs.Refusal.{refusal}
+use Rattle.format.specs.RecordNumber.{refusal}
 use Rattle.format.specs.Sound.{GoodTag, GoodDate, GoodOwnerEvent, GoodProvince}
 use Rattle.format.proofs.AcceptLaws.{accepted, accepted-laid}
 use Rattle.format.proofs.RowLaws.{rows-counted}

@@ -5,7 +5,7 @@ use Prim.Native.Nat.{ℕ, zero, suc}
 use native.Mathlib.Omega.{arith}
 use Rattle.lists.specs.Lists.{All}
 use Rattle.lists.proofs.ListLaws.{all-unmap}
-use Rattle.format.specs.Refusal.{first_of, first_in}
+use Rattle.format.specs.RecordNumber.{first_of, first_in}
 
 pub first-pass : (n : ℕ) (ns : List ℕ) → n ≡ 0 → first_of (n ∷ ns) ≡ first_of ns
 unfolding first_of

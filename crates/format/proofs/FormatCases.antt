@@ -11,7 +11,7 @@ use Rattle.format.specs.declared.date.Eu4Date.{Eu4Date}
 use Rattle.format.specs.declared.head.Head.{Head}
 use Rattle.format.specs.Head.{within_limits}
 use Rattle.format.specs.Campaign.{Campaign, campaign_of}
-use Rattle.format.specs.Refusal.{refusal}
+use Rattle.format.specs.RecordNumber.{refusal}
 use Rattle.format.proofs.Computes.{computes}
 
 -- A head of 44 bytes; then each section from the offset named.

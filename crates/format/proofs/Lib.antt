@@ -5,7 +5,7 @@ pub mod RowLaws
 pub mod PackedLaws
 pub mod CampaignLaws
 pub mod FirstLaws
-pub mod RefusedLaws
+pub mod RefusalNumberLaws
 pub mod SizeLaws
 pub mod TagLaws
 pub mod HeadLaws

@@ -12,7 +12,7 @@ use Rattle.lists.proofs.BoolLaws.{and_left, and_right}
 use Rattle.format.specs.declared.head.Head.{Head}
 use Rattle.format.specs.Head.{head_of, within_limits, strings_at}
 use Rattle.format.specs.Laid.{Laid}
-use Rattle.format.specs.Refusal.{totals_agree, length_agrees, sizes_agree}
+use Rattle.format.specs.RecordNumber.{totals_agree, length_agrees, sizes_agree}
 use Rattle.format.specs.Bytes.{byte_at}
 use Rattle.format.specs.Rows.{strings_end}
 

@@ -23,7 +23,7 @@ use Rattle.format.specs.Head.{head_of, provinces_at, province_bytes}
 use Rattle.format.specs.Rows.{PackedCountry, PackedProvince, province_at, PackedLedger}
 use Rattle.format.specs.Campaign.{country_rows, previous_tags, switch_rows, province_rows, owner_events, war_rows, war_events, ledger_rows, points, group_countries, group_provinces, group_wars, group_ledgers, campaign_of}
 use Rattle.format.specs.Laid.{Laid}
-use Rattle.format.specs.Refusal.{first_in, tag_number, date_number, head_flags_number, country_flags_number, kind_number, year_number, country_number, switch_number, owner_event_number, war_event_number, head_number, fields_number, tag_twice, id_twice_or_above, refusal}
+use Rattle.format.specs.RecordNumber.{first_in, tag_number, date_number, head_flags_number, country_flags_number, kind_number, year_number, country_number, switch_number, owner_event_number, war_event_number, head_number, fields_number, tag_twice, id_twice_or_above, refusal}
 use Rattle.format.specs.Sound.{GoodTag, GoodDate, GoodSwitch, GoodCountry, GoodOwnerEvent, GoodProvince, GoodWarEvent, GoodPoint, GoodLedger, Sound}
 use Rattle.format.proofs.AcceptLaws.{accepted, accepted-laid, number-true}
 use Rattle.format.proofs.CampaignLaws.{countries-length, provinces-length, wars-length, ledgers-length, strings-counted, previous-owned, switches-owned, events-owned, war-events-owned, points-owned}

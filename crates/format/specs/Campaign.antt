@@ -1,4 +1,4 @@
--- 01, The packed record: the campaign that a record holds. What rows own is dealt out to them, each its share, in their order.
+-- Rules 1: the campaign that a record holds. What rows own is dealt out to them, each its share, in their order.
 use Rattle.std.specs.Prelude.{Bool, List, [], ◌∷◌, ℕ, ℤ, take, drop}
 use Rattle.format.specs.declared.tag.CountryTag.{CountryTag}
 use Rattle.format.specs.declared.date.Eu4Date.{Eu4Date}
@@ -13,49 +13,49 @@ use Rattle.format.specs.Rows.{rows_at, PackedCountry, country_at, switch_at, Pac
 
 -- ## The sections, flat: each section's rows in file order, so many as the head says
 
--- Countries.
+-- Countries. (Rules 1.5)
 abbrev pub country_rows : List ℕ → List PackedCountry
 country_rows xs = rows_at (country_at xs) country_bytes xs (countries_at (head_of xs)) (head_of xs).countries
 
--- Previous tags of all countries.
+-- Previous tags of all countries. (Rules 1.5)
 abbrev pub previous_tags : List ℕ → List CountryTag
 previous_tags xs = rows_at (tag_at xs) previous_bytes xs (previous_at (head_of xs)) (head_of xs).previous
 
--- Switches of all countries.
+-- Switches of all countries. (Rules 1.5)
 abbrev pub switch_rows : List ℕ → List Switch
 switch_rows xs = rows_at (switch_at xs) switch_bytes xs (switches_at (head_of xs)) (head_of xs).switches
 
--- Provinces.
+-- Provinces. (Rules 1.8)
 abbrev pub province_rows : List ℕ → List PackedProvince
 province_rows xs = rows_at (province_at xs) province_bytes xs (provinces_at (head_of xs)) (head_of xs).provinces
 
--- Owner events of all provinces.
+-- Owner events of all provinces. (Rules 1.5)
 abbrev pub owner_events : List ℕ → List OwnerEvent
 owner_events xs = rows_at (owner_event_at xs) owner_event_bytes xs (events_at (head_of xs)) (head_of xs).events
 
--- Wars: a war's row is the count of its events.
+-- Wars: a war's row is the count of its events. (Rules 1.5)
 abbrev pub war_rows : List ℕ → List ℕ
 war_rows xs = rows_at (le16 xs) war_bytes xs (wars_at (head_of xs)) (head_of xs).wars
 
--- War events of all wars.
+-- War events of all wars. (Rules 1.9)
 abbrev pub war_events : List ℕ → List WarEvent
 war_events xs = rows_at (war_event_at xs) war_event_bytes xs (war_events_at (head_of xs)) (head_of xs).war_events
 
--- Ledger names.
+-- Ledger names. (Rules 1.5)
 abbrev pub ledger_rows : List ℕ → List PackedLedger
 ledger_rows xs = rows_at (ledger_at xs) ledger_bytes xs (ledgers_at (head_of xs)) (head_of xs).ledgers
 
--- Points of all ledger names.
+-- Points of all ledger names. (Rules 1.10)
 abbrev pub points : List ℕ → List Point
 points xs = rows_at (point_at xs) point_bytes xs (points_at (head_of xs)) (head_of xs).points
 
--- Strings.
+-- Strings. (Rules 1.5)
 abbrev pub strings : List ℕ → List (List ℕ)
 strings xs = strings_from xs (strings_at (head_of xs)) (head_of xs).strings
 
 -- ## Rows with what they own
 
--- A country with its previous tags and switches. Its flags: bit 0 human, 1 was_player, 2 has_switched_nation.
+-- A country with its previous tags and switches. Its flags: bit 0 human, 1 was_player, 2 has_switched_nation. (Rules 1.7)
 pub record Country : Type 0 where
   pub tag : CountryTag
   pub human : Bool
@@ -65,18 +65,18 @@ pub record Country : Type 0 where
   pub previous : List CountryTag
   pub switches : List Switch
 
--- A province with its owner events.
+-- A province with its owner events. (Rules 1.8)
 pub record Province : Type 0 where
   pub id : ProvinceId
   pub owner : CountryTag
   pub events : List OwnerEvent
 
--- A ledger name with its points.
+-- A ledger name with its points. (Rules 1.10)
 pub record Ledger : Type 0 where
   pub tag : CountryTag
   pub points : List Point
 
--- Each row takes its own from the front of the section that it owns, and leaves the rest to the rows behind it.
+-- Each row takes its own from the front of the section that it owns, and leaves the rest to the rows behind it. (Rules 1.7)
 unfoldable pub group_countries : List PackedCountry → List CountryTag → List Switch → List Country
 group_countries [] ps ss = []
 group_countries (r ∷ rs) ps ss =
@@ -106,7 +106,7 @@ group_ledgers (r ∷ rs) ps = record { tag = r.tag; points = take r.points ps } 
 
 -- ## The campaign
 
--- All that a record tells; a war is the list of its events. The record's flags: bit 0 ironman, bit 1 multiplayer.
+-- All that a record tells; a war is the list of its events. The record's flags: bit 0 ironman, bit 1 multiplayer. (Rules 1.6)
 pub record Campaign : Type 0 where
   pub ironman : Bool
   pub multiplayer : Bool
@@ -118,7 +118,7 @@ pub record Campaign : Type 0 where
   pub ledgers : List Ledger
   pub strings : List (List ℕ)
 
--- The campaign of a record's bytes.
+-- The campaign of a record's bytes. (Rules 1.4)
 unfoldable pub campaign_of : List ℕ → Campaign
 campaign_of xs =
     record {

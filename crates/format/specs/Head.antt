@@ -1,9 +1,9 @@
--- 01, The packed record: the head, its limits, and where each section begins.
+-- Rules 1: the head, its limits, and where each section begins.
 use Rattle.std.specs.Prelude.{Bool, ◌&&◌, List, ℕ, ◌+◌, ◌*◌, leb}
 use Rattle.format.specs.declared.head.Head.{Head}
 use Rattle.format.specs.Bytes.{byte_at, le16, le32, date_at}
 
--- The head's fields, each at its offset.
+-- The head's fields, each at its offset. (Rules 1.4)
 unfoldable pub head_of : List ℕ → Head
 head_of xs =
     record {
@@ -24,7 +24,7 @@ head_of xs =
     }
 
 -- At most 2,000 countries, and as many ledger names; 8,000 provinces; 20,000 previous tags, and as many switches; 60,000 owner events;
--- 1,000 strings; 5,000 wars with 100,000 events; 1,000,000 points.
+-- 1,000 strings; 5,000 wars with 100,000 events; 1,000,000 points. (Rules 1.4)
 unfoldable pub within_limits : Head → Bool
 within_limits h =
     leb h.countries 2000
@@ -40,7 +40,7 @@ within_limits h =
 
 -- ## Widths
 
--- How many bytes the head takes, and a row of each section.
+-- How many bytes the head takes, and a row of each section. (Rules 1.4)
 abbrev pub head_bytes : ℕ
 head_bytes = 44
 
@@ -73,7 +73,7 @@ point_bytes = 6
 
 -- ## Sections
 
--- They follow the head in this order, so each begins where the one before it ends.
+-- They follow the head in this order, so each begins where the one before it ends. (Rules 1.5)
 abbrev pub countries_at : Head → ℕ
 countries_at h = head_bytes
 

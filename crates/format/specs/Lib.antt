@@ -5,7 +5,7 @@ pub mod Bytes
 pub mod Head
 pub mod Rows
 pub mod Campaign
-pub mod Refusal
-pub mod Refused
+pub mod RecordNumber
+pub mod RefusalNumber
 pub mod Laid
 pub mod Sound

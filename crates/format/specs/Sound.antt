@@ -58,7 +58,7 @@ pub record GoodLedger (l : Ledger) : Type 0 where
   pub points : All GoodPoint l.points
 
 -- All rows are good; 7: no tag and no id stands twice; 8: the start is no later than the current date. 3: there are no more rows than
--- the limits allow; of rows that others own, all owners together count.
+-- the limits allow; of rows that others own, all owners together count. (Rules 2.12)
 pub record Sound (c : Campaign) : Type 0 where
   pub start : GoodDate c.start
   pub current : GoodDate c.current

@@ -1,7 +1,7 @@
-// The head of a record. Crate record_head reads it and tests it.
+//! The head of a record. Crate record_check reads it and tests it.
 use crate::date::Eu4Date;
 
-// The head's numbers: version, flags, dates, and the counts of C, P, A, B, E, N, W, V, G and Y.
+/// The head's numbers: version, flags, dates, and the counts of C, P, A, B, E, N, W, V, G and Y.
 #[derive(Clone, Copy, Debug, PartialEq, Eq)]
 pub struct Head {
     pub version: u32,

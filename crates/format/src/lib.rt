@@ -1,5 +1,5 @@
-// The packed record's types, with the rules of dates and tags. What a record is stands in specs; crate record_head has the tests of its head and of
-// single fields.
+//! The types that everything above speaks of: tags, dates, ids, the record's rows, the values that a chronicle is told in, and refusals, with the rules of
+//! tags and dates. What a record is stands in specs; crate record_check tests one.
 #![tactic(auto)]
 
 mod date;
@@ -9,6 +9,7 @@ mod packed;
 mod refused;
 mod rows;
 mod tag;
+mod values;
 
 pub use date::{Eu4Date, NotADate, month_days};
 pub use head::Head;
@@ -20,3 +21,7 @@ pub use packed::{Packed, PackedCountry, PackedLedger, PackedProvince};
 pub use refused::Refusal;
 pub use rows::{OwnerEvent, Point, ProvinceId, Switch, WarEvent};
 pub use tag::{CountryTag, NotATag, tag_byte};
+pub use values::{
+    Booking, DateRun, Entry, EntryKind, HistoryCounts, HistoryRow, Joining, LedgerPoint,
+    NationCounts, NationRow, OwnerChange, Player, Question, Span, TagData,
+};

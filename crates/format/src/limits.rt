@@ -1,31 +1,31 @@
-// The most rows of each kind that a record may have.
+//! The most rows of each kind that a record may have.
 
-// Countries.
+/// Countries.
 pub const MOST_COUNTRIES: usize = 2000;
 
-// Provinces.
+/// Provinces.
 pub const MOST_PROVINCES: usize = 8000;
 
-// Previous tags, of all countries together.
+/// Previous tags, of all countries together.
 pub const MOST_PREVIOUS: usize = 20000;
 
-// Switches, of all countries together.
+/// Switches, of all countries together.
 pub const MOST_SWITCHES: usize = 20000;
 
-// Owner events, of all provinces together.
+/// Owner events, of all provinces together.
 pub const MOST_EVENTS: usize = 60000;
 
-// Strings.
+/// Strings.
 pub const MOST_STRINGS: usize = 1000;
 
-// Wars.
+/// Wars.
 pub const MOST_WARS: usize = 5000;
 
-// War events, of all wars together.
+/// War events, of all wars together.
 pub const MOST_WAR_EVENTS: usize = 100000;
 
-// Ledger names.
+/// Ledger names.
 pub const MOST_LEDGERS: usize = 2000;
 
-// Points, of all ledger names together.
+/// Points, of all ledger names together.
 pub const MOST_POINTS: usize = 1000000;

@@ -1,4 +1,4 @@
-// Rows as they stand in the bytes, each of one width, read into fields with names.
+//! Rows as they stand in the bytes, each of one width, read into fields with names.
 ghost use Rattle.std.specs.Prelude.{◌≡◌, List, ℕ, ◌+◌, ◌*◌, ◌^◌, ◌<◌};
 ghost use Rattle.std.proofs.Common.{lit<};
 ghost use Rattle.format.specs.Bytes.{le16, tag_at};
@@ -10,7 +10,7 @@ use crate::head::Head;
 use crate::rows::{OwnerEvent, Point, ProvinceId, Switch, WarEvent};
 use crate::tag::CountryTag;
 
-// A country's row; what it owns is told by number.
+/// A country's row; what it owns is told by number.
 #[derive(Clone, Copy, Debug, PartialEq, Eq)]
 pub struct PackedCountry {
     pub tag: CountryTag,
@@ -20,7 +20,7 @@ pub struct PackedCountry {
     pub switches: u32,
 }
 
-// A province's row.
+/// A province's row.
 #[derive(Clone, Copy, Debug, PartialEq, Eq)]
 pub struct PackedProvince {
     pub id: ProvinceId,
@@ -28,14 +28,14 @@ pub struct PackedProvince {
     pub events: u32,
 }
 
-// A ledger name's row.
+/// A ledger name's row.
 #[derive(Clone, Copy, Debug, PartialEq, Eq)]
 pub struct PackedLedger {
     pub tag: CountryTag,
     pub points: u32,
 }
 
-// What a row of so many bytes tells. Any bytes can be read: the check of a record tells which fields are good.
+/// What a row of so many bytes tells. Any bytes can be read: the check of a record tells which fields are good.
 pub trait Packed<const WIDTH: usize>: Sized {
     ghost unpacked: { List ℕ → Self };
 
@@ -71,7 +71,7 @@ impl Packed<3> for CountryTag {
     ghost narrow = { lit< tt };
 
     fn unpack(row: &[u8; 3]) -> CountryTag {
-        CountryTag::read(row[0], row[1], row[2])
+        CountryTag::from_bytes_unchecked(row[0], row[1], row[2])
     }
 }
 
@@ -83,7 +83,7 @@ impl Packed<12> for PackedCountry {
 
     fn unpack(row: &[u8; 12]) -> PackedCountry {
         PackedCountry {
-            tag: CountryTag::read(row[0], row[1], row[2]),
+            tag: CountryTag::from_bytes_unchecked(row[0], row[1], row[2]),
             flags: u32::from(row[3]),
             cities: u32::from_le_bytes([row[4], row[5], row[6], row[7]]).cast_signed(),
             previous: word16(row[8], row[9]),
@@ -100,8 +100,8 @@ impl Packed<7> for Switch {
 
     fn unpack(row: &[u8; 7]) -> Switch {
         Switch {
-            date: Eu4Date::read([row[0], row[1], row[2], row[3]]),
-            from: CountryTag::read(row[4], row[5], row[6]),
+            date: Eu4Date::from_bytes_unchecked([row[0], row[1], row[2], row[3]]),
+            from: CountryTag::from_bytes_unchecked(row[4], row[5], row[6]),
         }
     }
 }
@@ -114,8 +114,8 @@ impl Packed<7> for PackedProvince {
 
     fn unpack(row: &[u8; 7]) -> PackedProvince {
         PackedProvince {
-            id: ProvinceId::kept(word16(row[0], row[1])),
-            owner: CountryTag::read(row[2], row[3], row[4]),
+            id: ProvinceId::from_word_unchecked(word16(row[0], row[1])),
+            owner: CountryTag::from_bytes_unchecked(row[2], row[3], row[4]),
             events: word16(row[5], row[6]),
         }
     }
@@ -129,8 +129,8 @@ impl Packed<7> for OwnerEvent {
 
     fn unpack(row: &[u8; 7]) -> OwnerEvent {
         OwnerEvent {
-            date: Eu4Date::read([row[0], row[1], row[2], row[3]]),
-            tag: CountryTag::read(row[4], row[5], row[6]),
+            date: Eu4Date::from_bytes_unchecked([row[0], row[1], row[2], row[3]]),
+            tag: CountryTag::from_bytes_unchecked(row[4], row[5], row[6]),
         }
     }
 }
@@ -143,9 +143,9 @@ impl Packed<8> for WarEvent {
 
     fn unpack(row: &[u8; 8]) -> WarEvent {
         WarEvent {
-            date: Eu4Date::read([row[0], row[1], row[2], row[3]]),
+            date: Eu4Date::from_bytes_unchecked([row[0], row[1], row[2], row[3]]),
             kind: u32::from(row[4]),
-            tag: CountryTag::read(row[5], row[6], row[7]),
+            tag: CountryTag::from_bytes_unchecked(row[5], row[6], row[7]),
         }
     }
 }
@@ -158,7 +158,7 @@ impl Packed<5> for PackedLedger {
 
     fn unpack(row: &[u8; 5]) -> PackedLedger {
         PackedLedger {
-            tag: CountryTag::read(row[0], row[1], row[2]),
+            tag: CountryTag::from_bytes_unchecked(row[0], row[1], row[2]),
             points: word16(row[3], row[4]),
         }
     }
@@ -188,8 +188,8 @@ impl Packed<44> for Head {
         Head {
             version: word16(row[3], row[4]),
             flags: u32::from(row[5]),
-            start: Eu4Date::read([row[6], row[7], row[8], row[9]]),
-            current: Eu4Date::read([row[10], row[11], row[12], row[13]]),
+            start: Eu4Date::from_bytes_unchecked([row[6], row[7], row[8], row[9]]),
+            current: Eu4Date::from_bytes_unchecked([row[10], row[11], row[12], row[13]]),
             countries: word16(row[14], row[15]),
             provinces: word16(row[16], row[17]),
             previous: u32::from_le_bytes([row[18], row[19], row[20], row[21]]),

@@ -1,37 +1,37 @@
-// Why a record, or a call that is given one, is refused.
+//! Why a record, or a call that is given one, is refused.
 ghost use Rattle.std.specs.Prelude.{◌≡◌, Some};
-ghost use Rattle.format.specs.Refused.{refusal_number, refused_text};
+ghost use Rattle.format.specs.RefusalNumber.{refusal_number, refused_text};
 
 use std::fmt;
 
-// Each has a number, from 1 on in this order. The first nine are of records, the others of calls.
+/// Each has a number, from 1 on in this order. The first nine are of records, the others of calls.
 #[derive(Clone, Copy, Debug, PartialEq, Eq)]
 pub enum Refusal {
-    NoRecord,
-    UnknownVersion,
-    WrongSizes,
-    BadTag,
-    BadDate,
-    UndefinedBit,
-    Repeated,
-    EndsEarly,
-    LongYear,
-    NoRoom,
-    NotShaped,
-    BadQuestion,
-    NoNation,
+    NotARecord = 1,
+    UnknownVersion = 2,
+    SizesDisagree = 3,
+    BadTag = 4,
+    BadDate = 5,
+    UndefinedFlag = 6,
+    Repeated = 7,
+    DatesReversed = 8,
+    LedgerYear = 9,
+    NoRoom = 10,
+    NotWellShaped = 11,
+    BadQuestion = 12,
+    NoSuchNation = 13,
 }
 
 impl Refusal {
-    // The number that the host, and the program's output, know it by.
+    /// The number that the host, and the program's output, know it by.
     pub fn number(self) -> u32
         ensures { result ≡ refusal_number self }
     {
-        self as u32 + 1
+        self as u32
     }
 }
 
-// How a program prints it. The page's line of it (page_lines, `refused_line`) is put together anew: `write!` into its ArrayVec promises the bytes where it
+// How a program prints it. The page's line of it (pages, `refused_line`) is put together anew: `write!` into its ArrayVec promises the bytes where it
 // is Ok, and nowhere that it is.
 impl fmt::Display for Refusal {
     ghost output = { λ refusal. Some (refused_text refusal) };

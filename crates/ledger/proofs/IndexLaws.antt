@@ -28,8 +28,8 @@ use Rattle.format.specs.Campaign.{Ledger}
 use Rattle.record.specs.declared.ledger.LedgerRow.{LedgerRow}
 use Rattle.record.specs.declared.ledger.Ledgers.{Ledgers}
 use Rattle.record.specs.Cursors.{points_left, ledger_of, ledgers_left}
-use Rattle.search.specs.Places.{tag_key, tag_keys_from, place_from, keys_per_tag}
-use Rattle.search.proofs.PlaceLaws.{tag-keys-nil, tag-keys-cons, length-tag-keys, first-placed, place_inside}
+use Rattle.search.specs.Places.{tag_key, tag_keys_from, place_from, place_in, keys_per_tag}
+use Rattle.search.proofs.PlaceLaws.{tag-keys-nil, tag-keys-cons, length-tag-keys, place-among, first-placed, place_inside}
 use Rattle.ledger.specs.Index.{name_keys, all_points, points_in_range, IsIndex}
 
 abbrev ledger_tags : List Ledger → List CountryTag
@@ -168,7 +168,7 @@ module _ {c : Ledgers} {left : List Ledger} {cells count first : ℕ} {keys₀ k
 -- ## A tag's points
 
 module _ {c : Ledgers} {keys : List ℕ} {places : List (Range ℕ)} (x : IsIndex c keys places) (tag : CountryTag) (r : code.Option ℕ)
-    (told : (ts : List CountryTag) → length ts ≤ keys_per_tag → keys ≡ sort_by leb (tag_keys_from 0 ts) → option_of r ≡ place_from 0 tag ts) where
+    (told : option_of r ≡ place_in keys tag) where
   abbrev names : List Ledger
   names = ledgers_left c
 
@@ -176,7 +176,7 @@ module _ {c : Ledgers} {keys : List ℕ} {places : List (Range ℕ)} (x : IsInde
   no_name = record { tag = tag; points = [] }
 
   place-told : option_of r ≡ place_from 0 tag (ledger_tags names)
-  place-told = told (ledger_tags names) (omega (arith, length-map names (λ (l : Ledger). l.tag), x.few)) x.sorted
+  place-told = told ∙ place-among tag (ledger_tags names) (omega (arith, length-map names (λ (l : Ledger). l.tag), x.few)) keys x.sorted
 
   first-told : first_that (λ l. same_tag l.tag tag) names ≡ Option.map (λ i. get_or names i no_name) (option_of r)
   first-told = first-placed (λ (l : Ledger). l.tag) tag no_name names ∙ ap (Option.map (λ i. get_or names i no_name)) (sym place-told)

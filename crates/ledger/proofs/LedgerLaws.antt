@@ -14,29 +14,29 @@ use Rattle.format.specs.Tags.{same_tag}
 use Rattle.format.specs.Campaign.{Ledger}
 use Rattle.record.specs.Cursors.{Points, points_left}
 use Rattle.rules.specs.Lent.{written}
-use Rattle.rules.specs.Ledger.{LedgerPoint, row_points, span_points, point_rows, ledger_width}
-use Rattle.spans.specs.declared.walk.Span.{Span}
-use Rattle.spans.specs.SpanSteps.{span_in}
-use Rattle.span_points.specs.PointSteps.{span_filled, FillsSpan}
-use Rattle.span_points.proofs.FillsLaws.{FillingRows, fills-done}
+use Rattle.format.specs.declared.values.LedgerPoint.{LedgerPoint}
+use Rattle.format.specs.declared.values.Span.{Span}
+use Rattle.rules.specs.Ledger.{row_points, span_points, point_rows, ledger_width}
+use Rattle.ledger.specs.PointSteps.{span_filled, FillsSpan}
+use Rattle.ledger.proofs.FillsLaws.{FillingRows, fills-done}
 
 -- ## One span
 
 module _ (ls : List Ledger) (sp : Span) {r : code.Option Points}
     (told : map points_left (option_of r) ≡ map (λ l. l.points) (first_that (λ l. same_tag l.tag sp.tag) ls)) where
-  pub points-found : (c : Points) → r ≡ Some c → span_filled c sp ≡ span_points ls (span_in sp)
+  pub points-found : (c : Points) → r ≡ Some c → span_filled c sp ≡ span_points ls sp
   unfolding span_points row_points
   points-found c e = go (first_that (λ l. same_tag l.tag sp.tag) ls) (sym (ap (λ (o : code.Option Points). map points_left (option_of o)) e) ∙ told)
     where
-      go : (o : Option Ledger) → some (points_left c) ≡ map (λ l. l.points) o → span_filled c sp ≡ row_points (span_in sp) o
+      go : (o : Option Ledger) → some (points_left c) ≡ map (λ l. l.points) o → span_filled c sp ≡ row_points sp o
       go none h = absurd (none-ne-some (points_left c) (sym h))
       go (some l) h = rw (some-injective (points_left c) l.points h)
 
-  pub points_none : r ≡ None → span_points ls (span_in sp) ≡ []
+  pub points_none : r ≡ None → span_points ls sp ≡ []
   unfolding span_points row_points
   points_none e = go (first_that (λ l. same_tag l.tag sp.tag) ls) (sym (ap (λ (o : code.Option Points). map points_left (option_of o)) e) ∙ told)
     where
-      go : (o : Option Ledger) → none ≡ map (λ l. l.points) o → row_points (span_in sp) o ≡ []
+      go : (o : Option Ledger) → none ≡ map (λ l. l.points) o → row_points sp o ≡ []
       go none h = refl
       go (some l) h = absurd (none-ne-some l.points h)
 

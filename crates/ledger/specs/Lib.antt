@@ -1,4 +1,7 @@
 pub mod Asked
-pub mod Cases
 pub mod Index
-pub mod Ledgers
+pub mod LentSlices
+pub mod PointSteps
+pub mod RowLedgers
+pub mod RowOutcomes
+pub mod SpanSteps

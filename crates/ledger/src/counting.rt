@@ -1,22 +1,20 @@
-// How many points a span gives, a nation, and all nations. A count stops at what is left of the most that is asked for: so no sum passes
-// that.
+//! How many points a span gives, a nation, and all nations. A count stops at what is left of the most that is asked for: so no sum passes
+//! that.
 ghost use Rattle.std.specs.Prelude.{◌≡◌, min, length};
 ghost use Rattle.rules.specs.Ledger.{span_points};
-ghost use Rattle.chronicle_rows.specs.Cases.{nation_told};
 ghost use Rattle.record.specs.Cursors.{ledgers_left};
-ghost use Rattle.spans.specs.SpanSteps.{span_in};
-ghost use Rattle.ledger.specs.Ledgers.{row_ledger, row_ledgers};
+ghost use Rattle.ledger.specs.RowLedgers.{row_ledger, row_ledgers};
 
 use crate::index::LedgerIndex;
-use chronicle_rows::{Chronicle, NationRow, Nations};
-use span_points::count_span;
-use spans::{Span, Spans};
+use crate::point_counts::count_span;
+use crate::spans::Spans;
+use format::{NationRow, Span};
+use rows::{Chronicle, Nations};
 
 impl LedgerIndex<'_, '_> {
-    // How many points a span gives, at most so many. Beside `write_points`, since `count_span` and `write_span` are two: one function over both would
-    // need a trait and two types for its two lines.
+    // How many points a span gives, at most so many.
     fn count_points(&self, span: Span, most: usize) -> usize
-        ensures { result ≡ min (length (span_points (ledgers_left self.now.frame.ledgers) (span_in span))) most }
+        ensures { result ≡ min (length (span_points (ledgers_left self.now.opened.ledgers) span)) most }
     {
         match self.points_of(span.tag) {
             Some(points) => count_span(points, span, most),
@@ -24,12 +22,12 @@ impl LedgerIndex<'_, '_> {
         }
     }
 
-    // How many points a nation has, at most so many. Not one loop with `write`: this one stops as soon as the most is reached.
+    // How many points a nation has, at most so many: it stops as soon as these are reached.
     pub(crate) fn count(&self, entries: &[u32], nation: NationRow, most: usize) -> usize
-        ensures { result ≡ min (length (row_ledger self.now.frame entries.now (nation_told nation))) most }
+        ensures { result ≡ min (length (row_ledger self.now.opened entries.now nation)) most }
     {
         let mut n = 0;
-        for span in Spans::of(entries, nation, self.frame.start, self.frame.current) {
+        for span in Spans::new(entries, nation, self.opened.start, self.opened.current) {
             n += self.count_points(span, most - n);
             if n == most {
                 return n;
@@ -38,12 +36,13 @@ impl LedgerIndex<'_, '_> {
         n
     }
 
-    // How many points all nations have, at most so many. Not one loop with `write_all`, which goes over the counts that it writes.
+    // How many points all nations have, at most so many.
     pub(crate) fn count_all(&self, chronicle: Chronicle<'_>, most: usize) -> usize
-        ensures { result ≡ min (length (row_ledgers self.now.frame chronicle.entry.nations.now chronicle.entry.entries.now)) most }
+        ensures { result
+            ≡ min (length (row_ledgers self.now.opened chronicle.entry.nations.now chronicle.entry.entries.now)) most }
     {
         let mut n = 0;
-        for nation in Nations::of(chronicle.nations) {
+        for nation in Nations::new(chronicle.nations) {
             n += self.count(chronicle.entries, nation, most - n);
         }
         n

@@ -1,13 +1,9 @@
-// The answers to a vector, held against the stored ones.
+//! The answers to a vector, held against the stored ones.
 use crate::asked::{Asked, Besides};
 use crate::single::is_answered_singly;
 use crate::vector::Vector;
-use bookings::BOOKING_WIDTH;
-use chronicle::{CountryTag, HistoryCounts, Refusal};
-use history_rows::HISTORY_WIDTH;
-use players::PLAYER_WIDTH;
-use questions::QUESTION_WIDTH;
-use span_points::LEDGER_WIDTH;
+use format::{CountryTag, HistoryCounts, Refusal};
+use rows::{BOOKING_WIDTH, HISTORY_WIDTH, LEDGER_WIDTH, PLAYER_WIDTH, QUESTION_WIDTH};
 use std::iter;
 use stored_input::Counts;
 
@@ -68,7 +64,9 @@ impl<'a> Vector<'a> {
     fn starts(&self, histories: &[u32]) -> bool {
         let told = chronicle::starting_country(histories, self.nations, self.entries);
         let words = self.words();
-        let tag = words.first().map(|word| CountryTag::kept(*word));
+        let tag = words
+            .first()
+            .map(|word| CountryTag::from_word_unchecked(*word));
         words.len() <= 1 && told.map_err(Refusal::number) == self.answer.map(|_| tag)
     }
 

@@ -1,4 +1,4 @@
-// What a vector asks, by its kind, with the words that it has besides.
+//! What a vector asks, by its kind, with the words that it has besides.
 use stored_input::{BrokenOff, stored_answer};
 
 #[derive(Clone, Copy)]
@@ -31,7 +31,7 @@ pub(crate) struct Besides<'a> {
 }
 
 impl LedgerCount {
-    fn of(words: &[u32]) -> Result<LedgerCount, BrokenOff> {
+    fn new(words: &[u32]) -> Result<LedgerCount, BrokenOff> {
         let [nation, most, number, rows] = *words.as_array::<4>().ok_or(BrokenOff)?;
         Ok(LedgerCount {
             nation: nation as usize,
@@ -42,7 +42,7 @@ impl LedgerCount {
 }
 
 impl<'a> Besides<'a> {
-    fn of(words: &'a [u32]) -> Result<Besides<'a>, BrokenOff> {
+    fn new(words: &'a [u32]) -> Result<Besides<'a>, BrokenOff> {
         let (room, words) = words.split_first().ok_or(BrokenOff)?;
         Ok(Besides {
             room: *room as usize,
@@ -53,14 +53,14 @@ impl<'a> Besides<'a> {
 
 impl<'a> Asked<'a> {
     // By the number of a kind.
-    pub(crate) fn of(kind: u32, words: &'a [u32]) -> Result<Asked<'a>, BrokenOff> {
+    pub(crate) fn new(kind: u32, words: &'a [u32]) -> Result<Asked<'a>, BrokenOff> {
         match kind {
             0 => Ok(Asked::Questions(words)),
             1 => Ok(Asked::Bookings),
-            2 => Ok(Asked::NationLedger(LedgerCount::of(words)?)),
-            3 => Ok(Asked::AllLedgers(Besides::of(words)?)),
+            2 => Ok(Asked::NationLedger(LedgerCount::new(words)?)),
+            3 => Ok(Asked::AllLedgers(Besides::new(words)?)),
             4 => Ok(Asked::Players),
-            5 => Ok(Asked::Histories(Besides::of(words)?)),
+            5 => Ok(Asked::Histories(Besides::new(words)?)),
             6 => Ok(Asked::StartingCountry(words)),
             _ => Err(BrokenOff),
         }

@@ -1,17 +1,17 @@
-// Replays what lent.bin has stored about lent chronicles: what the Rust answers to questions, one at a time and many at once, which wars it
-// books, its ledgers, players, histories and starting countries, with what is refused. Counts the wrong answers, and those that were
-// falsified in the list and noticed. The list is made by host/oracle's lent_vectors; its numbers take 32 bits each, low byte first. A vector
-// has the count of its numbers, then its head: its kind, whether an answer is falsified, how many words of nations and of entries, questions
-// asked one at a time, words besides, cells lent for the answer, the number of its refusal or 0, words of the answer, and bytes of the
-// record; then these. By kind:
-// 0 questions; the words besides are those asked at once. One asked at a time has seven: form, day, tag, date, refusal's number or 0,
-//   current, stored.
-// 1 war bookings.
-// 2 a nation's ledger; besides: its number, how many rows to count at most, and what counting them gives, a refusal's number or 0 and rows.
-// 3 the ledgers of all nations; besides: cells lent for counts, then the counts.
-// 4 players.
-// 5 histories; besides: cells lent for names, then the names.
-// 6 a starting country; besides: the history words.
+//! Replays what lent.bin has stored about lent chronicles: what the Rust answers to questions, one at a time and many at once, which wars it
+//! books, its ledgers, players, histories and starting countries, with what is refused. Counts the wrong answers, and those that were
+//! falsified in the list and noticed. The list is made by host/oracle's lent_vectors; its numbers take 32 bits each, low byte first. A vector
+//! has the count of its numbers, then its head: its kind, whether an answer is falsified, how many words of nations and of entries, questions
+//! asked one at a time, words besides, cells lent for the answer, the number of its refusal or 0, words of the answer, and bytes of the
+//! record; then these. By kind:
+//! 0 questions; the words besides are those asked at once. One asked at a time has seven: form, day, tag, date, refusal's number or 0,
+//!   current, stored.
+//! 1 war bookings.
+//! 2 a nation's ledger; besides: its number, how many rows to count at most, and what counting them gives, a refusal's number or 0 and rows.
+//! 3 the ledgers of all nations; besides: cells lent for counts, then the counts.
+//! 4 players.
+//! 5 histories; besides: cells lent for names, then the names.
+//! 6 a starting country; besides: the history words.
 #![tactic(auto)]
 
 mod answers;
@@ -48,7 +48,7 @@ impl Replay for Vectors {
         let numbers = read_part(list, n, &mut self.numbers)?;
         let [.., bytes] = head;
         let record = read_part(list, bytes as usize, &mut self.record)?;
-        Ok(Vector::of(head, numbers, record)?.replayed())
+        Ok(Vector::new(head, numbers, record)?.replayed())
     }
 }
 

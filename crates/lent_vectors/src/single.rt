@@ -1,5 +1,5 @@
-// Questions about a lent chronicle, asked one at a time.
-use chronicle::{CountryTag, Eu4Date, Refusal, TagData};
+//! Questions about a lent chronicle, asked one at a time.
+use format::{CountryTag, Eu4Date, Refusal, TagData};
 use stored_input::{BrokenOff, stored_answer};
 
 // How many numbers a question has, with its answer.
@@ -36,9 +36,9 @@ pub(crate) fn is_answered_singly(
     question: &[u32; SINGLE_WIDTH],
 ) -> bool {
     let [form, day, tag, date, number, current, stored] = *question;
-    let dated = chronicle::at(Eu4Date::kept(day));
-    let tag = CountryTag::kept(tag);
-    let date = Eu4Date::kept(date);
+    let dated = chronicle::at(Eu4Date::from_word_unchecked(day));
+    let tag = CountryTag::from_word_unchecked(tag);
+    let date = Eu4Date::from_word_unchecked(date);
     let answer = match Form::try_from(form) {
         Ok(Form::Resolve) => chronicle::resolve(nations, entries, tag, date),
         Ok(Form::Initial) => chronicle::initial(nations, entries, tag),
@@ -47,8 +47,8 @@ pub(crate) fn is_answered_singly(
         Err(BrokenOff) => return false,
     };
     let found = (current != 0).then_some(TagData {
-        current: CountryTag::kept(current),
-        stored: CountryTag::kept(stored),
+        current: CountryTag::from_word_unchecked(current),
+        stored: CountryTag::from_word_unchecked(stored),
     });
     answer.map_err(Refusal::number) == stored_answer(number, found)
 }

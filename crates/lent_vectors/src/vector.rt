@@ -1,4 +1,4 @@
-// A stored vector: a record, a chronicle that is lent, what is asked about them, and the answer.
+//! A stored vector: a record, a chronicle that is lent, what is asked about them, and the answer.
 use crate::asked::Asked;
 use crate::single::SINGLE_WIDTH;
 use stored_input::{BrokenOff, stored_answer, take_part};
@@ -24,7 +24,7 @@ pub(crate) struct Vector<'a> {
 
 impl<'a> Vector<'a> {
     // The vector of a head, of the numbers behind it, which it tells how to part, and of a record.
-    pub(crate) fn of(
+    pub(crate) fn new(
         head: [u32; HEAD],
         numbers: &'a [u32],
         record: &'a [u8],
@@ -55,7 +55,7 @@ impl<'a> Vector<'a> {
             nations,
             entries,
             questions: questions.as_chunks().0,
-            asked: Asked::of(kind, besides)?,
+            asked: Asked::new(kind, besides)?,
             room: room as usize,
             answer: stored_answer(number, answer),
             is_falsified: falsified != 0,

@@ -1,4 +1,4 @@
--- General functions on lists. They render no rule of 01: the definitions above are written with them.
+-- General functions on lists. They render no rule: the definitions above are written with them.
 use Rattle.std.specs.Prelude.{Bool, true, false, cond, ◌||◌, ◌&&◌, List, [], ◌∷◌, ◌++◌, ℕ, zero, suc, ◌+◌, ◌/◌, ◌%◌, leb, eqb, length, take, drop}
 use Rattle.std.proofs.Math.Option.{Option, none, some}
 

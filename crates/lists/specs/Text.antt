@@ -1,4 +1,4 @@
--- A text in ASCII, as its bytes. It renders no rule of 01: the definitions above write 01's words with it.
+-- A text in ASCII, as its bytes. It renders no rule: the definitions above write the words of a page with it.
 use mathlib.Core.List as L
 use Rattle.std.specs.Prelude.{ℕ}
 use Prim.Native.Char.{code}

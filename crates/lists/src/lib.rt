@@ -1,3 +1,3 @@
-// Definitions and laws on lists, which every crate above cites. It has no code.
+//! Definitions and laws on lists, which every crate above cites. It has no code.
 
 #![tactic(auto)]

@@ -1,5 +1,4 @@
--- Tables of the countries, and keys by which a country's row is found. No call of 01 is promised by these: they are how the nations are
--- computed. A row is a country's number in the record, from 0.
+-- Tables of the countries, and keys by which a country's row is found. Inner: these are how the nations are computed. A row is a country's number in the record, from 0.
 use Rattle.std.specs.Prelude.{◌≡◌, Bool, true, cond, ◌&&◌, List, [], ◌∷◌, ◌++◌, map, ℕ, suc, ◌+◌, ◌*◌, ◌≤◌, ◌<◌, eqb, leb, ltb, length, take, drop}
 use Rattle.std.proofs.Math.Option
 use Rattle.std.proofs.Math.Option.{Option}
@@ -120,6 +119,10 @@ pub record OwnLast (ks : List Country) : Type 0 where
   pub dates : All (λ k. All (λ x. x.date.0 < last_date) k.switches) ks
 
 -- ## What the functions leave
+
+-- Room for the tag of each country, and for the word of its initial.
+abbrev pub TagsRoom : List Country → List CountryTag → List ℕ → Type 0
+TagsRoom ks tags₀ initials₀ = (length ks ≤ length tags₀) × (length ks ≤ length initials₀)
 
 -- The countries' tags, and the words of their initials.
 pub record Tabled (ks : List Country) (tags₀ tags₁ : List CountryTag) (initials₀ initials₁ : List ℕ) : Type 0 where

@@ -1,30 +1,26 @@
--- The tables gathered one after the other: conditions and answers of the steps, and what all tables together say of a campaign. No promise of
--- a call of 01 cites these: they are how the nations are computed.
-use Rattle.std.specs.Prelude as code
-use Rattle.std.specs.Prelude.{IfOk, ◌≡◌, Bool, false, ◌&&◌, List, ℕ, suc, ◌≤◌, ◌<◌, leb, length, take}
+-- The tables gathered one after the other: conditions and answers of the steps, and what all tables together say of a campaign. Inner: these
+-- are how the nations are computed.
+use Rattle.std.specs.Prelude.{◌≡◌, false, List, ℕ, suc, ◌≤◌, ◌<◌, leb, length, take}
 use Rattle.lists.specs.Lists.{twice}
 use Rattle.sorting.specs.Sort.{sort_by}
 use Rattle.format.specs.declared.tag.CountryTag.{CountryTag}
 use Rattle.format.specs.declared.date.Eu4Date.{Eu4Date}
 use Rattle.format.specs.Sound.{Sound}
-use Rattle.format.specs.Refusal.{refusal}
+use Rattle.format.specs.RecordNumber.{refusal}
 use Rattle.format.specs.Campaign.{Campaign, Country, campaign_of}
-use Rattle.record.specs.declared.provinces.Provinces.{Provinces}
-use Rattle.format.specs.declared.refused.Refusal.{Refusal}
-use Rattle.format.specs.Refused.{number_of}
-use Rattle.record.specs.declared.opened.Record.{Record}
-use Rattle.record.specs.Cursors.{countries_left}
 use Rattle.rules.specs.Changes.{changes_of}
 use Rattle.rules.specs.Nations.{holders_of}
-use Rattle.change_keys.specs.ChangeSteps.{entered, most_changes, change_keys_from, AtFirstProvince}
+use Rattle.owner_changes.specs.ChangeSteps.{entered, most_changes, change_keys_from}
 use Rattle.nation_tables.specs.declared.gathering.Sizes.{Sizes}
 use Rattle.nation_tables.specs.declared.gathering.TableSizes.{TableSizes}
-use Rattle.nation_tables.specs.declared.gathering.TablesGathered.{TablesGathered}
+use Rattle.nation_tables.specs.declared.gathering.TableCells.{TableCells}
+use Rattle.record.specs.declared.opened.Record.{Record}
+use Rattle.record.specs.Cursors.{countries_left}
 use Rattle.nation_tables.specs.Layout.{most_countries, most_switches, most_settling, most_slots, rows_within}
 use Rattle.nation_tables.specs.Countries.{country_tags, words_of_tags, initial_words, row_keys, switch_keys_from, settling_keys_from, settling_keys, Keyed}
 use Rattle.nation_tables.specs.declared.layout.LossGain.{LossGain}
 use Rattle.nation_tables.specs.Turning.{losses, gains, Linked, TurnsLinked, Rowed, row_turns_of}
-use Rattle.nation_tables.specs.Holders.{started_of, slot_cells}
+use Rattle.nation_tables.specs.Holders.{started_of, slot_cells, Held}
 use Rattle.nation_tables.specs.Switches.{run_keys, target_words}
 
 -- ## Steps
@@ -49,9 +45,9 @@ pub record SwitchesRoom (ks : List Country) (runs₀ targets₀ : List ℕ) : Ty
   pub runs : length (switch_keys_from 0 ks) ≤ length runs₀
   pub targets : length (switch_keys_from 0 ks) ≤ length targets₀
 
--- Chains of losses and gains, and the keys and targets of switches at the front of their cells.
-pub record Arranged (ks : List Country) (turns₀ turns₁ firsts₁ : List LossGain) (runs₁ targets₁ : List ℕ) : Type 0 where
-  pub linked : TurnsLinked turns₀ turns₁ firsts₁
+-- Chains of the losses and gains of so many changes, and the keys and targets of switches at the front of their cells.
+pub record Arranged (ks : List Country) (n : ℕ) (turns₀ turns₁ firsts₁ : List LossGain) (runs₁ targets₁ : List ℕ) : Type 0 where
+  pub linked : TurnsLinked (take n turns₀) (take n turns₁) firsts₁
   pub runs : take (length (switch_keys_from 0 ks)) runs₁ ≡ run_keys ks
   pub targets : take (length (switch_keys_from 0 ks)) targets₁ ≡ target_words ks
 
@@ -119,12 +115,6 @@ pub record CampaignCells (c : Campaign) (w : Cells) : Type 0 where
 
 -- ## All of it
 
--- An accepted record with its start date, and iterators at its first country and its first province.
-pub record Begun (xs : List ℕ) (from : Record) : Type 0 where
-  pub ready : AtFirstProvince xs from.provinces
-  pub countries : countries_left from.countries ≡ (campaign_of xs).countries
-  pub start : from.start ≡ (campaign_of xs).start
-
 -- So many countries, slots, keys that changes settle by, and changes suffice for any record of so many bytes.
 pub record TableRoom (bytes c p m n : ℕ) : Type 0 where
   pub countries : rows_within most_countries bytes ≤ c
@@ -132,27 +122,9 @@ pub record TableRoom (bytes c p m n : ℕ) : Type 0 where
   pub keys : rows_within most_settling bytes ≤ m
   pub changes : rows_within most_changes bytes ≤ n
 
--- An accepted record, and room for its tables.
-pub record FillAsked (xs : List ℕ) (from : Record) (c p m n : ℕ) : Type 0 where
-  pub begun : Begun xs from
-  pub room : TableRoom (length xs) c p m n
-
--- The same, and the tables of its countries and switches, which are filled.
-pub record ChangesAsked (xs : List ℕ) (from : Record) (c p m n : ℕ) (r : Sizes) (tags₁ : List CountryTag) (initials₁ switches₁ : List ℕ) : Type 0 where
-  pub asked : FillAsked xs from c p m n
-  pub filled : TablesFilled (countries_left from.countries) r tags₁ initials₁ switches₁
-
--- The room as it is tested.
-abbrev pub room_of : ℕ → ℕ → ℕ → ℕ → ℕ → Bool
-room_of bytes countries slots keys changes =
-    leb (rows_within most_countries bytes) countries
-    && leb (rows_within most_slots bytes) slots
-    && leb (rows_within most_settling bytes) keys
-    && leb (rows_within most_changes bytes) changes
-
 -- The tables of an accepted record at the fronts of their cells, the targets in front of those that served the sorts; and how many there are.
-pub record Gathered (xs : List ℕ) (z : TableSizes) (provinces₀ : Provinces) (tags₁ : List CountryTag) (initials₁ runs₁ keys₁ targets₁ slots₁ started₁ : List ℕ) (turns₁ firsts₁ : List LossGain) : Type 0 where
-  pub ready : AtFirstProvince xs provinces₀
+pub record Gathered (xs : List ℕ) (z : TableSizes) (tags₁ : List CountryTag) (initials₁ runs₁ keys₁ targets₁ slots₁ started₁ : List ℕ) (turns₁ firsts₁ : List LossGain) : Type 0 where
+  pub accepted : refusal xs ≡ 0
   pub start : z.start ≡ (campaign_of xs).start
   pub countries : z.countries ≡ length (campaign_of xs).countries
   pub changes : z.changes ≡ length (changes_of (campaign_of xs))
@@ -162,7 +134,14 @@ pub record Gathered (xs : List ℕ) (z : TableSizes) (provinces₀ : Provinces) 
   pub sorted : take z.changes keys₁ ≡ sort_by leb (change_keys_from 0 (entered xs))
   pub slots : take z.slots slots₁ ≡ slot_cells (campaign_of xs) (holders_of (campaign_of xs))
 
--- What is gathered of any bytes: the tables, or the number by which they are refused.
-pub record RightlyGathered (xs : List ℕ) (r : code.Result TablesGathered Refusal) (tags₁ : List CountryTag) (initials₁ runs₁ keys₁ targets₁ slots₁ started₁ : List ℕ) (turns₁ firsts₁ : List LossGain) : Type 0 where
-  pub number : number_of r ≡ refusal xs
-  pub tables : IfOk r (λ t. Gathered xs t.sizes t.provinces tags₁ initials₁ runs₁ keys₁ targets₁ slots₁ started₁ turns₁ firsts₁)
+-- The same of a record's tables.
+abbrev pub GatheredIn : {k p m n : ℕ} → List ℕ → TableSizes → TableCells k p m n → Type 0
+GatheredIn xs z t = Gathered xs z t.tags t.initial_keys t.runs t.keys t.cells t.slots t.started t.turns t.firsts
+
+-- The tables of countries, the keys of their initials and those that changes settle by are filled.
+abbrev pub CountriesIn : {k p m n : ℕ} → Record → Sizes → TableCells k p m n → Type 0
+CountriesIn r z t = TablesFilled (countries_left r.countries) z t.tags t.initial_keys t.runs
+
+-- All changes are settled.
+abbrev pub HeldIn : {k p m n : ℕ} → List ℕ → ℕ → TableCells k p m n → Type 0
+HeldIn xs count t = Held xs count t.keys t.slots t.started t.turns

@@ -1,17 +1,16 @@
--- Who holds each slot, change by change, by rows. No call of 01 is promised by these: they are how the nations are computed.
-use Rattle.std.specs.Prelude.{◌≡◌, false, List, [], ◌∷◌, map, ℕ, suc, ◌+◌, ◌*◌, ◌/◌, ◌%◌, ◌≤◌, ◌<◌, leb, eqb, length, get_or, set, take}
+-- Who holds each slot, change by change, by rows. Inner: these are how the nations are computed.
+use Rattle.std.specs.Prelude.{◌≡◌, false, List, [], ◌∷◌, map, ℕ, suc, ◌+◌, ◌*◌, ◌/◌, ◌%◌, ◌≤◌, ◌<◌, leb, eqb, min, length, get_or, set, take}
 use Rattle.std.proofs.Math.Option.{Option, none, some}
 use Rattle.lists.specs.Lists.{count_of, numbers_from, twice}
 use Rattle.sorting.specs.Sort.{sort_by}
 use Rattle.format.specs.declared.tag.CountryTag.{CountryTag}
 use Rattle.format.specs.declared.date.Eu4Date.{Eu4Date}
 use Rattle.format.specs.Campaign.{Campaign, Country, campaign_of}
-use Rattle.record.specs.declared.provinces.Provinces.{Provinces}
-use Rattle.rules.specs.Chronicle.{Change}
+use Rattle.format.specs.declared.values.OwnerChange.{OwnerChange}
 use Rattle.rules.specs.Lent.{written}
 use Rattle.rules.specs.Changes.{changes_of}
 use Rattle.rules.specs.Nations.{matches, start_holders, all_switches, settles, holders_of}
-use Rattle.change_keys.specs.ChangeSteps.{entered, per_id, change_keys_from, AtFirstProvince}
+use Rattle.owner_changes.specs.ChangeSteps.{entered, per_id, change_keys_from}
 use Rattle.nation_tables.specs.Layout.{most_slots, word_span, key_dates, key_tags, cell_rows, nobody_cell}
 use Rattle.nation_tables.specs.Countries.{country_tags, words_of_tags, initial_words, row_keys, settling_keys, Keyed, OwnLast}
 use Rattle.nation_tables.specs.declared.layout.LossGain as code
@@ -27,10 +26,11 @@ pub record Settler (ks : List Country) (ts : List CountryTag) (ss : List ℕ) : 
   pub tags : ts ≡ country_tags ks
   pub keys : ss ≡ settling_keys ks
 
--- And the keys of initials.
+-- The countries' tags by row, the keys of their initials, and the keys that changes settle by.
 pub record CountryTables (ks : List Country) (ts : List CountryTag) (is ss : List ℕ) : Type 0 where
-  pub settler : Settler ks ts ss
+  pub tags : ts ≡ country_tags ks
   pub initials : is ≡ row_keys (initial_words ks)
+  pub keys : ss ≡ settling_keys ks
 
 -- ## Rows of slots
 
@@ -62,7 +62,7 @@ abbrev pub cell_word : ℕ → ℕ
 cell_word cell = cell / cell_rows % word_span
 
 -- The cell of whom a change settles to.
-unfoldable pub holder_cell : List Country → Change → ℕ
+unfoldable pub holder_cell : List Country → OwnerChange → ℕ
 holder_cell ks x = slot_cell (words_of_tags ks) (some (settles (all_switches ks) x))
 
 -- ## The pass
@@ -108,38 +108,27 @@ pub record Passed (keys cells slots₀ slots₁ : List ℕ) (turns₁ : List cod
 -- ## All of it
 
 -- A change whose date and tag have room in the keys of switches.
-pub record Small (x : Change) : Type 0 where
+pub record Small (x : OwnerChange) : Type 0 where
   pub date : x.date.0 < key_dates
   pub to : x.to.0 < key_tags
 
--- What is asked for the start: an accepted record at its first province, its tables, a cell for each slot and one for each country.
-pub record StartAsked (xs : List ℕ) (provinces : Provinces) (ts : List CountryTag) (is slots₀ started₀ : List ℕ) : Type 0 where
-  pub ready : AtFirstProvince xs provinces
-  pub tags : ts ≡ country_tags (campaign_of xs).countries
-  pub initials : is ≡ row_keys (initial_words (campaign_of xs).countries)
-  pub slots : length slots₀ ≡ suc (length (campaign_of xs).provinces)
-  pub started : length started₀ ≡ length (campaign_of xs).countries
+-- A cell for each slot, and one for each country.
+pub record StartRoom (c : Campaign) (slots₀ started₀ : List ℕ) : Type 0 where
+  pub slots : length slots₀ ≡ suc (length c.provinces)
+  pub started : length started₀ ≡ length c.countries
 
--- For the changes: its tables, and room for every change.
-pub record StepsAsked (xs : List ℕ) (provinces : Provinces) (ts : List CountryTag) (ss keys₀ cells₀ : List ℕ) : Type 0 where
-  pub ready : AtFirstProvince xs provinces
-  pub settler : Settler (campaign_of xs).countries ts ss
+-- Room for every change.
+pub record StepsRoom (xs keys₀ cells₀ : List ℕ) : Type 0 where
   pub keys : length (entered xs) ≤ length keys₀
   pub cells : length (entered xs) ≤ length cells₀
 
--- Room for every change, a cell for each slot, and one for each country.
+-- Room for every change, slot and country.
 pub record HoldingRoom (xs keys₀ cells₀ slots₀ started₀ : List ℕ) (turns₀ : List code.LossGain) : Type 0 where
   pub keys : length (entered xs) ≤ length keys₀
   pub cells : length (entered xs) ≤ length cells₀
   pub turns : length (entered xs) ≤ length turns₀
-  pub slots : length slots₀ ≡ suc (length (campaign_of xs).provinces)
-  pub started : length started₀ ≡ length (campaign_of xs).countries
-
--- For all of it: an accepted record at its first province, its tables, and room.
-pub record HoldingAsked (xs : List ℕ) (provinces : Provinces) (ts : List CountryTag) (is ss keys₀ cells₀ slots₀ started₀ : List ℕ) (turns₀ : List code.LossGain) : Type 0 where
-  pub ready : AtFirstProvince xs provinces
-  pub tables : CountryTables (campaign_of xs).countries ts is ss
-  pub room : HoldingRoom xs keys₀ cells₀ slots₀ started₀ turns₀
+  pub slots : suc (length (campaign_of xs).provinces) ≤ length slots₀
+  pub started : length (campaign_of xs).countries ≤ length started₀
 
 -- The slots that each country holds at the start.
 abbrev pub started_of : Campaign → List ℕ
@@ -154,22 +143,26 @@ pub record Began (c : Campaign) (slots₁ started₁ : List ℕ) : Type 0 where
   pub slots : slots₁ ≡ slot_cells c (start_holders c)
   pub started : started₁ ≡ started_of c
 
--- The keys of so many changes in order, and the cell of each change at its number.
+-- The cell of each change at its number.
+abbrev pub holder_cells : List ℕ → List ℕ
+holder_cells xs = map (holder_cell (campaign_of xs).countries) (entered xs)
+
+-- The keys of so many changes in order, and the cells of all changes.
 pub record Stepped (xs : List ℕ) (n : ℕ) (keys cells : List ℕ) : Type 0 where
   pub counted : n ≡ length (entered xs)
   pub sorted : take n keys ≡ sort_by leb (change_keys_from 0 (entered xs))
-  pub filled : take n cells ≡ map (holder_cell (campaign_of xs).countries) (entered xs)
+  pub filled : take n cells ≡ holder_cells xs
 
--- The keys of all changes in order, the row of the old and of the new holder of each, the cell of each slot after the last change, and how
--- many slots each country holds at the start.
+-- The keys of all changes in order, the row of the old and of the new holder of each, and in front of their cells the cell of each slot after the last change,
+-- and how many slots each country holds at the start.
 pub record Held (xs : List ℕ) (n : ℕ) (keys slots₁ started₁ : List ℕ) (turns : List code.LossGain) : Type 0 where
   pub counted : n ≡ length (changes_of (campaign_of xs))
   pub sorted : take n keys ≡ sort_by leb (change_keys_from 0 (entered xs))
   pub rowed : Rowed (take n keys) (losses (take n turns)) (gains (take n turns)) (row_turns_of (campaign_of xs))
-  pub slots : slots₁ ≡ slot_cells (campaign_of xs) (holders_of (campaign_of xs))
-  pub started : started₁ ≡ started_of (campaign_of xs)
+  pub slots : take (suc (length (campaign_of xs).provinces)) slots₁ ≡ slot_cells (campaign_of xs) (holders_of (campaign_of xs))
+  pub started : take (length (campaign_of xs).countries) started₁ ≡ started_of (campaign_of xs)
 
--- Room for the holder of each slot and for the slots held by each of so many countries.
+-- Room for the holder of each slot and for the slots held by each of so many countries, of no more slots than a record has.
 pub record SlotsRoom (slots : List ℕ) (n : ℕ) (holders₀ held₀ : List ℕ) : Type 0 where
   pub holders : length slots ≤ length holders₀
   pub held : n ≤ length held₀
@@ -179,3 +172,8 @@ pub record SlotsRoom (slots : List ℕ) (n : ℕ) (holders₀ held₀ : List ℕ
 pub record SlotsPut (slots : List ℕ) (n : ℕ) (holders₀ holders₁ held₀ held₁ : List ℕ) : Type 0 where
   pub holders : holders₁ ≡ written (map cell_word slots) holders₀
   pub held : held₁ ≡ written (slot_counts (rows_in_cells slots) n) held₀
+
+-- As many of them as find room: of the first slots, no more than a record has, the holders in front, and of the first countries what they hold.
+pub record SlotsWritten (slots : List ℕ) (n : ℕ) (holders₀ holders₁ held₀ held₁ : List ℕ) : Type 0 where
+  pub holders : holders₁ ≡ written (map cell_word (take (length holders₀) (take most_slots slots))) holders₀
+  pub held : held₁ ≡ written (slot_counts (rows_in_cells (take most_slots slots)) (min n (length held₀))) held₀

@@ -1,4 +1,4 @@
--- Sort keys. No call of 01 is promised by these: they are how the nations are computed. A row is a country's number in the record,
+-- Sort keys. Inner: these are how the nations are computed. A row is a country's number in the record,
 -- from 0.
 use Rattle.std.specs.Prelude.{ℕ, ◌+◌, ◌*◌, ◌/◌, ◌%◌}
 use Rattle.nation_tables.specs.Layout.{key_rows, key_dates, key_numbers}

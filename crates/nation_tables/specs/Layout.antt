@@ -1,5 +1,4 @@
--- How numbers share keys and cells, and how many of each a record has at most. No call of 01 is promised by these: they are how the nations are
--- computed. A key of 64 bits has room for a row of 11 bits, a date of 27 and the number of a switch of 15, or for a tag of 24, a date and a
+-- How numbers share keys and cells, and how many of each a record has at most. Inner: these are how the nations are computed. A key of 64 bits has room for a row of 11 bits, a date of 27 and the number of a switch of 15, or for a tag of 24, a date and a
 -- row.
 use Rattle.std.specs.Prelude.{ℕ, ◌/◌, min}
 use Rattle.std.proofs.Math.Option.{Option, none, some}

@@ -1,4 +1,4 @@
--- Keys of country rows and how they are looked up. No call of 01 is promised by these: they are how the nations are computed.
+-- Keys of country rows and how they are looked up. Inner: these are how the nations are computed.
 -- A key ends with the row of a country.
 use Rattle.std.specs.Prelude.{Bool, ◌&&◌, List, map, ℕ, leb, ltb}
 use Rattle.std.proofs.Math.Option.{Option}

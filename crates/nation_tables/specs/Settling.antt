@@ -1,10 +1,10 @@
--- Whom a change settles to, by rows. No call of 01 is promised by these: they are how the nations are computed.
+-- Whom a change settles to, by rows. Inner: these are how the nations are computed.
 use Rattle.std.specs.Prelude.{◌≡◌, List, ℕ, ◌+◌, ◌<◌, length}
 use Rattle.std.proofs.Math.Option.{Option, none, some}
 use Rattle.format.specs.declared.tag.CountryTag.{CountryTag}
 use Rattle.format.specs.declared.date.Eu4Date.{Eu4Date}
 use Rattle.format.specs.Campaign.{Country}
-use Rattle.rules.specs.Chronicle.{Change}
+use Rattle.format.specs.declared.values.OwnerChange.{OwnerChange}
 use Rattle.rules.specs.Nations.{all_switches, settles}
 use Rattle.nation_tables.specs.Layout.{no_row, row_number}
 use Rattle.nation_tables.specs.Lookup.{first_within}
@@ -25,6 +25,6 @@ abbrev pub settled_row : List Country → CountryTag → Eu4Date → ℕ
 settled_row ks to date = row_number (settling_row (switch_keys ks) to date)
 
 -- The change settles to the country in the row, or where there is none to its `to`; a row that is there is a country's.
-pub record Settled (ks : List Country) (x : Change) (row : ℕ) : Type 0 where
+pub record Settled (ks : List Country) (x : OwnerChange) (row : ℕ) : Type 0 where
   pub holder : settles (all_switches ks) x ≡ or_tag x.to (tag_at_row ks row)
   pub inside : (row ≡ no_row → ⊥) → row < length ks

@@ -1,4 +1,4 @@
--- The holders of the slots at the start, by rows. No call of 01 is promised by these: they are how the nations are computed.
+-- The holders of the slots at the start, by rows. Inner: these are how the nations are computed.
 use Rattle.std.specs.Prelude.{◌≡◌, true, false, List, [], ◌∷◌, map, ℕ, suc, ◌≤◌, ltb, length, set}
 use Rattle.lists.specs.Lists.{keep, all_of, first_or, numbers_from, twice}
 use Rattle.format.specs.declared.tag.CountryTag.{CountryTag}

@@ -1,16 +1,17 @@
--- The switches of each country by date, and their targets. No call of 01 is promised by these: they are how the nations are computed.
-use Rattle.std.specs.Prelude.{List, [], ◌∷◌, ◌++◌, map, ℕ, suc, ◌+◌, ◌*◌, ◌%◌, ◌<◌, leb, ltb, length, get_or}
-use Rattle.lists.specs.Lists.{count_of, join_of}
+-- The switches of each country by date, and their targets. Inner: these are how the nations are computed.
+use Rattle.std.specs.Prelude.{List, [], ◌∷◌, ◌++◌, map, ℕ, suc, ◌+◌, ◌*◌, ◌%◌, ◌≤◌, ◌<◌, leb, ltb, length, get_or}
+use Rattle.lists.specs.Lists.{All, count_of, join_of}
 use Rattle.sorting.specs.Sort.{sort_by}
 use Rattle.format.specs.declared.tag.CountryTag.{CountryTag}
 use Rattle.format.specs.declared.rows.Switch.{Switch}
 use Rattle.format.specs.Campaign.{Country}
-use Rattle.rules.specs.Chronicle.{switch, Entry}
+use Rattle.format.specs.declared.values.Entry.{Entry}
+use Rattle.format.specs.declared.values.EntryKind.TheVariants.{TagSwitch}
 use Rattle.rules.specs.Nations.{last_target, switch_chain}
 use Rattle.rules.specs.NationRows.{target_word}
 pub use Rattle.nation_tables.specs.Keys.{run_key, date_in}
 use Rattle.nation_tables.specs.Keys.{settling_key, number_in}
-use Rattle.nation_tables.specs.Layout.{key_numbers, key_tags, word_span, row_span}
+use Rattle.nation_tables.specs.Layout.{key_rows, key_numbers, key_tags, word_span, row_span}
 
 -- ## The switches of all countries
 
@@ -49,6 +50,14 @@ place_key x = run_key x.row x.made.date.0 x.number
 abbrev pub NumberFits : PlacedSwitch → Type 0
 NumberFits x = x.number < key_numbers
 
+-- The keys of one country's switches, by what a switch has for its key.
+abbrev pub own_keys_from : (PlacedSwitch → ℕ) → ℕ → ℕ → List Switch → List ℕ
+own_keys_from key_of row at xs = map key_of (own_placed row at xs)
+
+-- What is asked for them: that each has room, and finds a cell.
+abbrev pub OwnAsked : (PlacedSwitch → Type 0) → ℕ → ℕ → List Switch → List ℕ → Type 0
+OwnAsked fits row at xs cells₀ = (row < key_rows) × (at + length xs ≤ length cells₀) × All fits (own_placed row at xs)
+
 -- The keys of all switches by row, country by country, rows and switches counted from numbers on.
 unfoldable pub runs_from : ℕ → ℕ → List Country → List ℕ
 runs_from row k ks = map place_key (all_placed row k ks)
@@ -81,4 +90,4 @@ target_in words key = get_or words (number_in key) 0 % word_span
 
 -- The entry of a switch, by its key and the words of all targets.
 abbrev pub switch_in : List ℕ → ℕ → Entry
-switch_in words key = record { date = record { 0 = date_in key }; kind = switch (record { 0 = target_in words key }) }
+switch_in words key = record { date = record { 0 = date_in key }; kind = TagSwitch (record { 0 = target_in words key }) }

@@ -1,14 +1,14 @@
--- Turns by country rows, and the chain of changes at which a row loses or gains a slot. No promise of a call of 01 cites these: they are
--- how the nations are computed.
+-- Turns by country rows, and the chain of changes at which a row loses or gains a slot. Inner: these
+-- are how the nations are computed.
 use Rattle.std.specs.Prelude.{◌≡◌, Bool, cond, List, [], ◌∷◌, ◌++◌, map, ℕ, suc, ◌/◌, ◌<◌, ltb, eqb, length, get_or, set}
 use Rattle.std.proofs.Math.Option.{Option, none, some}
 use Rattle.format.specs.declared.tag.CountryTag.{CountryTag}
 use Rattle.format.specs.declared.date.Eu4Date.{Eu4Date}
 use Rattle.format.specs.Dates.{not_after}
 use Rattle.format.specs.Campaign.{Campaign}
-use Rattle.rules.specs.Chronicle.{Entry}
+use Rattle.format.specs.declared.values.Entry.{Entry}
 use Rattle.rules.specs.Nations.{Turn, turns_of, turn_entries, turn_count}
-use Rattle.change_keys.specs.ChangeSteps.{per_date}
+use Rattle.owner_changes.specs.ChangeSteps.{per_date}
 use Rattle.nation_tables.specs.declared.layout.LossGain as code
 use Rattle.nation_tables.specs.Layout.{no_change, no_row}
 use Rattle.nation_tables.specs.Countries.{words_of_tags}

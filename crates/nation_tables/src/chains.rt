@@ -1,5 +1,5 @@
-// Chains of changes: for each country row the changes at which it loses a slot, and those at which it gains one, in rising order.
-// A chain is a first change and at each change a link to the next; NO_CHANGE ends it.
+//! Chains of changes: for each country row the changes at which it loses a slot, and those at which it gains one, in rising order.
+//! A chain is a first change and at each change a link to the next; NO_CHANGE ends it.
 ghost use Rattle.std.specs.Prelude.{◌≤◌, length};
 ghost use Rattle.nation_tables.specs.Layout.{no_change};
 ghost use Rattle.nation_tables.specs.Turning.{losses, gains, Fresh, TurnsLinked, LossPushed, GainPushed};
@@ -7,9 +7,8 @@ ghost use Rattle.nation_tables.specs.Turning.{losses, gains, Fresh, TurnsLinked,
 use crate::layout::{LossGain, NO_CHANGE};
 use std::mem;
 
-// Puts change k before the losses of a row, and returns the one that was first there. Of `get_mut` a proof knows no cell afterwards: so the
-// row is tested, here and below. Both answer NO_CHANGE where there is no row: their answer is written into a link. Two functions: one for both would take
-// a closure that lends the one half or the other, which is longer than either.
+// Puts change k before the losses of a row, and returns the one that was first there; NO_CHANGE where there is no row, for the answer is written into a
+// link. By index, here and below: no cell is known behind `get_mut`.
 fn push_loss(firsts: &mut [LossGain], row: u16, k: u16) -> u16
     ensures { LossPushed firsts.old row k result firsts.new }
 {

@@ -1,16 +1,17 @@
-// Tables of the countries: tags in row order, and keys in order by which a country's row is found.
+//! Tables of the countries: tags in row order, and keys in order by which a country's row is found.
 ghost use Rattle.std.specs.Prelude.{◌≤◌, ◌≡◌, map, length};
 ghost use Rattle.lists.specs.Options.{option_of};
 ghost use Rattle.record.specs.Cursors.{countries_left};
 ghost use Rattle.rules.specs.Lent.{written};
 ghost use Rattle.nation_tables.specs.Layout.{most_countries, most_switches, key_rows};
-ghost use Rattle.nation_tables.specs.Countries.{Keyed, with_own, switch_keys_from, Tabled, row_keys, initial_row};
+ghost use Rattle.nation_tables.specs.Countries.{Keyed, with_own, switch_keys_from, TagsRoom, Tabled, row_keys, initial_row};
 
 use crate::keys::row_key;
 use crate::layout::KEY_ROWS;
 use crate::lookup;
 use crate::switches::first_tag;
-use record::{Countries, CountryTag};
+use format::CountryTag;
+use record::Countries;
 use search::SortedKeys;
 
 // Countries of a record. They and their switches have room in keys, each country with a switch more, from its own tag and behind every date.
@@ -29,7 +30,7 @@ pub(crate) fn fill_tags_and_initials(
     tags: &mut [CountryTag],
     initials: &mut [u32],
 )
-    requires { (length (countries_left countries) ≤ length tags.old) × (length (countries_left countries) ≤ length initials.old) }
+    requires { TagsRoom (countries_left countries) tags.old initials.old }
     ensures { Tabled (countries_left countries.entry) tags.old tags.new initials.old initials.new }
 {
     for (row, country) in countries.enumerate() {
@@ -38,19 +39,19 @@ pub(crate) fn fill_tags_and_initials(
     }
 }
 
-// Writes the keys of words, in order: each word with its row below it. By index: a proof knows no cell that is written through a `zip` with `iter_mut`.
+// Writes the keys of words, in order: each word with its row below it. By index: no cell is known behind a `zip` with `iter_mut`.
 // No word is tested again. The scratch is to have room for as many keys.
 pub(crate) fn row_keys(words: &[u32], keys: &mut [u64], scratch: &mut [u64])
     requires { (length words.now ≤ key_rows) × (length words.now ≤ length keys.old) }
     ensures { keys.new ≡ written (row_keys words.now) keys.old }
 {
     for (i, word) in words.iter().enumerate() {
-        keys[i] = row_key(CountryTag::kept(*word), i as u64);
+        keys[i] = row_key(CountryTag::from_word_unchecked(*word), i as u64);
     }
     sorting::sort_keys(&mut keys[..words.len()], scratch);
 }
 
-// The last row of a country with an initial, by the keys of initials: the country that the initial maps to.
+/// The last row of a country with an initial, by the keys of initials: the country that the initial maps to.
 pub fn mapped_row(initials: SortedKeys<'_>, tag: CountryTag) -> Option<u16>
     ensures { option_of result ≡ initial_row initials.entry.keys.now tag }
 {

@@ -1,16 +1,15 @@
-// The tables of the countries, the chains of changes, and the switches of each country: all that nations are read from.
-ghost use Rattle.std.specs.Prelude.{◌≡◌, List, ℕ, ◌+◌, ◌≤◌, length, take};
-ghost use Rattle.record.specs.Cursors.{countries_left, provinces_left};
+//! The tables of the countries, the chains of changes, and the switches of each country: all that nations are read from.
+ghost use Rattle.std.specs.Prelude.{◌≡◌, ◌≤◌, length};
+ghost use Rattle.record.specs.Cursors.{countries_left};
 ghost use Rattle.nation_tables.specs.Layout.{no_change};
-ghost use Rattle.nation_tables.specs.Holders.{Held};
-ghost use Rattle.nation_tables.specs.Gathering.{TablesRoom, TablesFilled, SwitchesRoom, Arranged, TableRoom, room_of, FillAsked, ChangesAsked, Gathered, RightlyGathered};
+ghost use Rattle.nation_tables.specs.Gathering.{TablesRoom, TablesFilled, SwitchesRoom, Arranged, CountriesIn, HeldIn, GatheredIn};
 
 use crate::countries::KeyedCountries;
-use crate::layout::{LossGain, MOST_SETTLING, MOST_SLOTS, rows_within};
+use crate::fitting::FittingRecord;
+use crate::holders::TabledRecord;
+use crate::layout::LossGain;
 use crate::{chains, countries, holders, switches};
-use change_keys::MOST_CHANGES;
-use format::MOST_COUNTRIES;
-use record::{CountryTag, Eu4Date, Provinces, Record, Refusal};
+use format::{CountryTag, Eu4Date};
 use search::SortedKeys;
 
 // How many countries there are, and keys that changes settle by: of each switch and of each country.
@@ -44,8 +43,7 @@ fn fill_tables(
 }
 
 // Turns the rows of holders of n changes into chains, with the first ones for each row, and writes the keys of switches by country and
-// the targets. Until the targets stand in their cells, these serve the sort as scratch. Four arrays of `TableCells`, lent one by one: of the whole it would
-// have to be promised that all others stay.
+// the targets. Until the targets stand in their cells, these serve the sort as scratch. Four arrays, lent one by one, so that the others stay.
 fn arrange(
     all: KeyedCountries<'_>,
     n: usize,
@@ -57,7 +55,7 @@ fn arrange(
     requires switches_room { SwitchesRoom (countries_left all.countries) runs.old targets.old }
     requires turns_inside { n ≤ length turns.old }
     requires turns_len_bound { n ≤ no_change }
-    ensures { Arranged (countries_left all.entry.countries) (take n turns.old) (take n turns.new) firsts.new runs.new targets.new }
+    ensures { Arranged (countries_left all.entry.countries) n turns.old turns.new firsts.new runs.new targets.new }
 {
     firsts.fill(LossGain::NONE);
     chains::link(&mut turns[..n], firsts);
@@ -65,7 +63,7 @@ fn arrange(
     switches::fill_targets(all.countries, targets);
 }
 
-// How many countries, switches, slots and changes the tables have, and the start date of the record.
+/// How many countries, switches, slots and changes the tables have, and the start date of the record.
 #[derive(Clone, Copy, Debug, PartialEq, Eq)]
 pub struct TableSizes {
     pub start: Eu4Date,
@@ -75,15 +73,8 @@ pub struct TableSizes {
     pub changes: usize,
 }
 
-// The sizes of the tables, which are filled, and the provinces.
-#[derive(Clone, Copy)]
-pub struct TablesGathered<'a> {
-    pub sizes: TableSizes,
-    pub provinces: Provinces<'a>,
-}
-
-// The tables that nations are read from: room for any record with at most so many countries, slots, keys that changes settle by, and changes. Arrays, for
-// of slices in a struct a caller knows nothing after a call. Made where it stays and lent: by value some 1.5 MB would be copied.
+/// The tables that nations are read from: room for any record with at most so many countries, slots, keys that changes settle by, and changes.
+/// Arrays, for of slices in a struct a caller knows nothing after a call. Made where it stays and lent: by value some 1.5 MB would be copied.
 #[derive(Drop)]
 pub struct TableCells<
     const COUNTRIES: usize,
@@ -105,39 +96,37 @@ pub struct TableCells<
     pub firsts: [LossGain; COUNTRIES],
 }
 
-// Whether so many cells suffice for any record of so many bytes.
-fn has_cells(bytes: usize, countries: usize, slots: usize, keys: usize, changes: usize) -> bool
-    ensures { result ≡ room_of bytes countries slots keys changes }
-{
-    (rows_within(MOST_COUNTRIES, bytes) <= countries)
-        & (rows_within(MOST_SLOTS, bytes) <= slots)
-        & (rows_within(MOST_SETTLING, bytes) <= keys)
-        & (rows_within(MOST_CHANGES, bytes) <= changes)
-}
-
-// Fills the tables of slots and changes of an accepted record, by those of its countries and switches, and returns how many changes there are. Most are
-// lent by a whole slice: from that a proof knows how many cells they have, which else it knows of the first four arrays alone.
+// Fills the tables of slots and changes, by those of countries and switches, and returns how many changes there are. Most are lent by a whole slice: that
+// tells their lengths.
 fn fill_changes<
     const COUNTRIES: usize,
     const SLOTS: usize,
     const KEYS: usize,
     const CHANGES: usize,
->(opened: Record, sizes: Sizes, tables: &mut TableCells<COUNTRIES, SLOTS, KEYS, CHANGES>) -> usize
-    requires { (xs : List ℕ) × ChangesAsked xs opened COUNTRIES SLOTS KEYS CHANGES sizes tables.old.tags tables.old.initial_keys tables.old.runs }
+>(
+    fitting: FittingRecord<'_, COUNTRIES, SLOTS, KEYS, CHANGES>,
+    sizes: Sizes,
+    tables: &mut TableCells<COUNTRIES, SLOTS, KEYS, CHANGES>,
+) -> usize
+    requires { CountriesIn fitting.opened sizes tables.old }
     ensures kept { (tables.new.tags ≡ tables.old.tags) × (tables.new.initial_keys ≡ tables.old.initial_keys) }
-    ensures held { (xs : List ℕ) → ChangesAsked xs opened.entry COUNTRIES SLOTS KEYS CHANGES sizes tables.old.tags tables.old.initial_keys tables.old.runs → Held xs result tables.new.keys (take (length (provinces_left opened.entry.provinces) + 1) tables.new.slots) (take sizes.countries tables.new.started) tables.new.turns }
+    ensures held { HeldIn fitting.entry.opened.bytes.now result tables.new }
 {
-    let c = sizes.countries;
-    let m = sizes.settling;
+    let opened = fitting.opened;
+    let initials = SortedKeys {
+        keys: &tables.initial_keys[..sizes.countries],
+    };
+    let settling = SortedKeys {
+        keys: &tables.runs[..sizes.settling],
+    };
+    let tabled = TabledRecord {
+        opened,
+        tags: &tables.tags[..sizes.countries],
+        initials,
+        settling,
+    };
     holders::hold_slots(
-        opened.provinces,
-        &tables.tags[..c],
-        SortedKeys {
-            keys: &tables.initial_keys[..c],
-        },
-        SortedKeys {
-            keys: &tables.runs[..m],
-        },
+        tabled,
         &mut tables.keys,
         &mut tables.cells[..],
         &mut tables.slots[..],
@@ -146,19 +135,23 @@ fn fill_changes<
     )
 }
 
-// Fills all tables of an accepted record: first the tags and keys of its countries, and the keys that changes settle by; then slots and changes, by those;
-// then the chains of changes, and in place of the keys that changes settle by the switches by country. `fill_changes` takes most tables and is lent all.
-fn fill_all<const COUNTRIES: usize, const SLOTS: usize, const KEYS: usize, const CHANGES: usize>(
-    opened: Record,
+/// Fills the tables of a record, each at the front of its array, whatever stood there: first the tags and keys of its countries, and the keys that changes
+/// settle by; then slots and changes, by those; then the chains of changes, and in place of the keys that changes settle by the switches by country.
+pub fn gather_tables<
+    const COUNTRIES: usize,
+    const SLOTS: usize,
+    const KEYS: usize,
+    const CHANGES: usize,
+>(
+    fitting: FittingRecord<'_, COUNTRIES, SLOTS, KEYS, CHANGES>,
     tables: &mut TableCells<COUNTRIES, SLOTS, KEYS, CHANGES>,
 ) -> TableSizes
-    requires { (xs : List ℕ) × FillAsked xs opened COUNTRIES SLOTS KEYS CHANGES }
-    ensures { (xs : List ℕ) → FillAsked xs opened.entry COUNTRIES SLOTS KEYS CHANGES → Gathered xs result opened.entry.provinces tables.new.tags tables.new.initial_keys tables.new.runs tables.new.keys tables.new.cells tables.new.slots tables.new.started tables.new.turns tables.new.firsts }
+    ensures { GatheredIn fitting.entry.opened.bytes.now result tables.new }
 {
+    let opened = fitting.opened;
     let all = KeyedCountries {
         countries: opened.countries,
     };
-    let p = opened.provinces.len() + 1;
     let sizes = fill_tables(
         all,
         &mut tables.tags,
@@ -167,8 +160,7 @@ fn fill_all<const COUNTRIES: usize, const SLOTS: usize, const KEYS: usize, const
         &mut tables.runs,
         &mut tables.cells[..],
     );
-    let n = fill_changes(opened, sizes, tables);
-    let c = sizes.countries;
+    let n = fill_changes(fitting, sizes, tables);
     arrange(
         all,
         n,
@@ -179,34 +171,9 @@ fn fill_all<const COUNTRIES: usize, const SLOTS: usize, const KEYS: usize, const
     );
     TableSizes {
         start: opened.start,
-        countries: c,
-        switches: sizes.settling - c,
-        slots: p,
+        countries: sizes.countries,
+        switches: sizes.settling - sizes.countries,
+        slots: opened.provinces.len() + 1,
         changes: n,
     }
-}
-
-// Fills the tables of a record, each at the front of its array, whatever stood there. A bad record is refused by its refusal.
-// Promised where there are enough cells for any record of as many bytes.
-pub fn gather_tables<
-    'a,
-    const COUNTRIES: usize,
-    const SLOTS: usize,
-    const KEYS: usize,
-    const CHANGES: usize,
->(
-    s: &'a [u8],
-    tables: &mut TableCells<COUNTRIES, SLOTS, KEYS, CHANGES>,
-) -> Result<TablesGathered<'a>, Refusal>
-    ensures { TableRoom (length s.now) COUNTRIES SLOTS KEYS CHANGES → RightlyGathered s.now result tables.new.tags tables.new.initial_keys tables.new.runs tables.new.keys tables.new.cells tables.new.slots tables.new.started tables.new.turns tables.new.firsts }
-{
-    if !has_cells(s.len(), COUNTRIES, SLOTS, KEYS, CHANGES) {
-        return Err(Refusal::NoRoom);
-    }
-    let opened = record::open_record(s)?;
-    let sizes = fill_all(opened, tables);
-    Ok(TablesGathered {
-        sizes,
-        provinces: opened.provinces,
-    })
 }

@@ -1,10 +1,10 @@
-// Sort keys, made of parts from high to low. A row is a number with a condition and no type of its own: loops count it and put it into a key at once.
+//! Sort keys, made of parts from high to low. A row is a number with a condition and no type of its own: loops count it and put it into a key at once.
 ghost use Rattle.std.specs.Prelude.{◌<◌, ◌≡◌};
 ghost use Rattle.nation_tables.specs.Layout.{key_rows, key_numbers, key_tags};
 ghost use Rattle.nation_tables.specs.Keys.{row_key, row_in, settling_key, run_key};
 
 use crate::layout::{KEY_DATES, KEY_NUMBERS, KEY_ROWS};
-use record::{CountryTag, Eu4Date};
+use format::{CountryTag, Eu4Date};
 
 // The key of a tag that a country has, or had first, and of the country's row.
 pub(crate) fn row_key(tag: CountryTag, row: u64) -> u64
@@ -14,7 +14,7 @@ pub(crate) fn row_key(tag: CountryTag, row: u64) -> u64
     u64::from(u32::from(tag)) * KEY_ROWS + row
 }
 
-// The row in a key that ends with one.
+/// The row in a key that ends with one.
 pub fn row_in(key: u64) -> u16
     ensures { result ≡ row_in key }
 {

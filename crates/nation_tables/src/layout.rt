@@ -1,32 +1,20 @@
-// How numbers share keys and cells, and how many of each a record has at most. A key is made of parts from high to low, and keys compare part
-// by part: a row of countries takes 11 bits of it, a date 27 and the number of a switch 15, a tag 24. So the keys fit 64 bits.
-ghost use Rattle.std.specs.Prelude.{◌≡◌};
-ghost use Rattle.nation_tables.specs.Layout.{rows_within};
-
+//! How numbers share keys and cells, and how many of each a record has at most. A key is made of parts from high to low, and keys compare part
+//! by part: a row of countries takes 11 bits of it, a date 27 and the number of a switch 15, a tag 24. So the keys fit 64 bits.
 use format::{MOST_COUNTRIES, MOST_PROVINCES, MOST_SWITCHES};
-use record::ROW_BYTES;
 
-// How many slots: one more than provinces.
+/// How many slots a record has at most: one more than provinces.
 pub const MOST_SLOTS: usize = MOST_PROVINCES + 1;
 
-// Changes settle by a key of each switch and one of each country.
+/// How many keys changes settle by at most: one of each switch, and one of each country.
 pub const MOST_SETTLING: usize = MOST_SWITCHES + MOST_COUNTRIES;
 
-// How many rows of provinces, of owner events, or of switches and countries a record of so many bytes has at most, where no record has more than `most`.
-// The head takes more than a row, for the slot that there is beside the provinces.
-pub(crate) fn rows_within(most: usize, bytes: usize) -> usize
-    ensures { result ≡ rows_within most bytes }
-{
-    most.min(bytes / ROW_BYTES)
-}
-
-// Rows of countries are below this.
+/// Rows of countries in a key are below this.
 pub const KEY_ROWS: u64 = 1 << 11;
 
-// Words of dates are below this.
+/// Words of dates in a key are below this.
 pub const KEY_DATES: u64 = 1 << 27;
 
-// Numbers of switches are below this.
+/// Numbers of switches in a key are below this.
 pub const KEY_NUMBERS: u64 = 1 << 15;
 
 // Behind every date: no date that is good is as large, and it has room in a key. A number, for a part of a key is one.
@@ -35,27 +23,28 @@ pub(crate) const LAST_DATE: u32 = KEY_DATES as u32 - 1;
 // How many numbers a byte holds: each is below this.
 pub(crate) const BYTE_SPAN: u64 = 1 << 8;
 
-// How many numbers 16 bits hold.
+/// How many numbers 16 bits hold: each is below this.
 pub const SHORT_SPAN: u64 = 1 << 16;
 
-// How many numbers a word of 32 bits holds.
+/// How many numbers a word of 32 bits holds: each is below this.
 pub const WORD_SPAN: u64 = 1 << 32;
 
-// The key of any word with a row is below this.
+/// The key of any word with a row is below this.
 pub const ROW_KEY_SPAN: u64 = WORD_SPAN * KEY_ROWS;
 
 // So many numbers lie between the settling keys of one tag and those of the next.
 pub(crate) const TAG_SPAN: u64 = KEY_DATES * KEY_ROWS;
 
-// So many lie between the run keys of one row and those of the next.
+/// So many lie between the run keys of one row and those of the next.
 pub const ROW_SPAN: u64 = KEY_DATES * KEY_NUMBERS;
 
-// Ends a chain of changes. A number and no Option, which would take another 16 bits for each link.
+/// Ends a chain of changes.
+/// A number and no Option, which would take another 16 bits for each link.
 pub const NO_CHANGE: u16 = u16::MAX;
 
-// Of a change the rows of the country that loses the slot and of the one that gains it, and later the numbers of the next changes at which
-// they lose and gain one. Of a row the numbers of its first loss and of its first gain. One type for all: links come to stand in the cells of rows, as
-// there is no heap for more.
+/// Of a change the rows of the country that loses the slot and of the one that gains it, and later the numbers of the next changes at which
+/// they lose and gain one. Of a row the numbers of its first loss and of its first gain.
+/// One type for all: links come to stand in the cells of rows, as there is no heap for more.
 #[derive(Clone, Copy, Debug, PartialEq, Eq)]
 pub struct LossGain {
     pub loss: u16,
@@ -63,7 +52,7 @@ pub struct LossGain {
 }
 
 impl LossGain {
-    // Neither a loss nor a gain.
+    /// Neither a loss nor a gain.
     pub const NONE: LossGain = LossGain {
         loss: NO_CHANGE,
         gain: NO_CHANGE,

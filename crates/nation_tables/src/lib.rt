@@ -1,10 +1,10 @@
-// The tables that nations are read from: of countries, switches, changes and slots. Each is an array of its own: keys are sorted as words, and a step is
-// lent only the tables that it reads or writes, one by one, for each takes others of them. The bytes `xs` of contracts are those of the accepted record at
-// hand: what is promised is about its campaign, which no value of the code holds, so no ghost field can say it.
+//! The tables that nations are read from: of countries, switches, changes and slots, all gathered from an opened record (`gather_tables`). Each is an array of
+//! its own: keys are sorted as words, and a step is lent only the tables that it reads or writes, for each takes others of them.
 #![tactic(auto)]
 
 mod chains;
 mod countries;
+mod fitting;
 mod gathering;
 mod holders;
 mod keys;
@@ -15,7 +15,8 @@ mod starting;
 mod switches;
 
 pub use countries::mapped_row;
-pub use gathering::{TableCells, TableSizes, TablesGathered, gather_tables};
+pub use fitting::FittingRecord;
+pub use gathering::{TableCells, TableSizes, gather_tables};
 pub use holders::write_slots;
 pub use keys::row_in;
 pub use layout::{

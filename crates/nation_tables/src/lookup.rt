@@ -1,4 +1,4 @@
-// Keys in order, looked up by crate search. A key ends with the row of a country.
+//! Keys in order, looked up by crate search. A key ends with the row of a country.
 ghost use Rattle.std.specs.Prelude.{◌≡◌, ◌*◌, ◌/◌, get_or};
 ghost use Rattle.lists.specs.Options.{option_of};
 ghost use Rattle.nation_tables.specs.Lookup.{first_within, last_within};
@@ -21,7 +21,7 @@ pub(crate) fn first_within(
     (key < high).then_some(row_in(key))
 }
 
-// The row in the last of the keys that is below `high`, an even number, if that key is not below `low`.
+/// The row in the last of the keys that is below `high`, an even number, if that key is not below `low`.
 pub fn last_within(sorted: SortedKeys<'_>, low: u64, high: u64) -> Option<u16>
     ensures { option_of result ≡ last_within low (high / 2 * 2) sorted.entry.keys.now }
 {
@@ -29,7 +29,7 @@ pub fn last_within(sorted: SortedKeys<'_>, low: u64, high: u64) -> Option<u16>
     (low <= key).then_some(row_in(key))
 }
 
-// The cell at a number, 0 past the end.
+/// The cell at a number, 0 past the end.
 pub fn cell_at(cells: &[u64], i: usize) -> u64
     ensures { result ≡ get_or cells.now i 0 }
 {

@@ -1,4 +1,4 @@
-// Whom a change settles to, by the rows of countries.
+//! Whom a change settles to, by the rows of countries.
 ghost use Rattle.std.specs.Prelude.{◌≡◌, ◌<◌};
 ghost use Rattle.lists.specs.Options.{option_of};
 ghost use Rattle.nation_tables.specs.Layout.{short_span, key_tags};
@@ -6,7 +6,7 @@ ghost use Rattle.nation_tables.specs.Settling.{settling_row};
 
 use crate::layout::{BYTE_SPAN, SHORT_SPAN, TAG_SPAN};
 use crate::{keys, lookup};
-use record::{CountryTag, Eu4Date};
+use format::{CountryTag, Eu4Date};
 use search::SortedKeys;
 
 // The table of hints has a cell for each two bytes that a tag may begin with: for each first byte so many cells, one for each second byte. So many numbers
@@ -39,7 +39,7 @@ fn start_cell(tag: CountryTag) -> usize
 // Notes behind each cell where the keys of its tags end. Of what the table holds nothing is promised: it is hints. A tag out of a key is not tested again.
 fn note_ends(keys: &[u64], starts: &mut [u16]) {
     for (i, key) in keys.iter().enumerate() {
-        let tag = CountryTag::kept((*key / TAG_SPAN) as u32);
+        let tag = CountryTag::from_word_unchecked((*key / TAG_SPAN) as u32);
         if let Some(start) = starts.get_mut(start_cell(tag) + 1) {
             *start = ((i + 1) % SHORT_SPAN as usize) as u16;
         }

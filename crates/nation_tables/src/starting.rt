@@ -1,4 +1,4 @@
-// The holders of the slots at the start, by the rows of countries.
+//! The holders of the slots at the start, by the rows of countries.
 ghost use Rattle.std.specs.Prelude.{◌≡◌, true, ltb, length};
 ghost use Rattle.lists.specs.Lists.{all_of};
 ghost use Rattle.lists.specs.Options.{option_of};
@@ -9,7 +9,8 @@ ghost use Rattle.nation_tables.specs.Starting.{put_owners, Slotted, Started};
 
 use crate::countries;
 use crate::layout::NO_ROW;
-use record::{CountryTag, Provinces};
+use format::CountryTag;
+use record::Provinces;
 use search::SortedKeys;
 
 // The number of a row in a cell, or that of none.

@@ -1,18 +1,18 @@
-// The keys of all switches, by either order, and the targets of the switches.
-ghost use Rattle.std.specs.Prelude.{◌≡◌, ℕ, map, ◌+◌, ◌≤◌, ◌<◌, length};
-ghost use Rattle.lists.specs.Lists.{All};
+//! The keys of all switches, by either order, and the targets of the switches.
+ghost use Rattle.std.specs.Prelude.{◌≡◌, ℕ, ◌+◌, ◌≤◌, ◌<◌, length};
 ghost use Rattle.record.specs.Cursors.{country_of, countries_left, switches_left};
 ghost use Rattle.rules.specs.Lent.{written};
 ghost use Rattle.rules.specs.Nations.{initial_of};
 ghost use Rattle.nation_tables.specs.Layout.{key_rows};
 ghost use Rattle.nation_tables.specs.Countries.{settling_keys_from, settling_keys, Filled, FilledFrom};
-ghost use Rattle.nation_tables.specs.Switches.{PlacedSwitch, placed, own_placed, from_key, FromFits, place_key, NumberFits};
+ghost use Rattle.nation_tables.specs.Switches.{PlacedSwitch, placed, own_keys_from, OwnAsked, from_key, FromFits, place_key, NumberFits};
 ghost use Rattle.nation_tables.specs.Switches.{runs_from, run_keys, own_targets, target_words};
 
 use crate::countries::KeyedCountries;
 use crate::keys;
 use crate::layout::LAST_DATE;
-use record::{Countries, CountryRow, CountryTag, Eu4Date, Switch, Switches};
+use format::{CountryTag, Eu4Date, Switch};
+use record::{Countries, CountryRow, Switches};
 
 // What the keys of switches are in order by.
 trait SwitchOrder {
@@ -55,8 +55,8 @@ impl SwitchOrder for ByRow {
 // Writes the keys of one country's switches from a place on, which is the number of the first, and returns the place behind them: so it is
 // counted by hand, here and below.
 fn own_keys<K: SwitchOrder>(switches: Switches, row: u64, cells: &mut [u64], at: usize) -> usize
-    requires { (row < key_rows) × (at + length (switches_left switches) ≤ length cells.old) × All K.fits (own_placed row at (switches_left switches)) }
-    ensures { FilledFrom (map K.key_of (own_placed row at (switches_left switches.entry))) at result cells.old cells.new }
+    requires { OwnAsked K.fits row at (switches_left switches) cells.old }
+    ensures { FilledFrom (own_keys_from K.key_of row at (switches_left switches.entry)) at result cells.old cells.new }
 {
     let mut k = at;
     for x in switches {
@@ -75,7 +75,11 @@ fn all_settling_keys(all: KeyedCountries<'_>, cells: &mut [u64]) -> usize
     let mut k = 0;
     for (row, country) in all.countries.enumerate() {
         k = own_keys::<ByFrom>(country.switches, row as u64, cells, k);
-        cells[k] = keys::settling_key(country.tag, Eu4Date::kept(LAST_DATE), row as u64);
+        cells[k] = keys::settling_key(
+            country.tag,
+            Eu4Date::from_word_unchecked(LAST_DATE),
+            row as u64,
+        );
         k += 1;
     }
     k
@@ -91,7 +95,7 @@ pub(crate) fn settling_keys(
     ensures { Filled (settling_keys (countries_left all.entry.countries)) result cells.old cells.new }
 {
     let n = all_settling_keys(all, cells);
-    spreading::spread_sort(&mut cells[..n], scratch);
+    sorting::spread_sort(&mut cells[..n], scratch);
     n
 }
 
@@ -115,7 +119,7 @@ pub(crate) fn run_keys(all: KeyedCountries<'_>, keys: &mut [u64], scratch: &mut 
     ensures { Filled (run_keys (countries_left all.entry.countries)) result keys.old keys.new }
 {
     let n = all_run_keys(all, keys);
-    spreading::spread_sort(&mut keys[..n], scratch);
+    sorting::spread_sort(&mut keys[..n], scratch);
     n
 }
 

@@ -1,2 +1,9 @@
+pub mod Tables
+pub mod Walks
+pub mod CountryLives
+pub mod CountryEntries
+pub mod ListedNations
+pub mod Reading
+pub mod WrittenNations
 pub mod NationSteps
-pub mod Cases
+pub mod LentCells

@@ -1,20 +1,19 @@
-// Nations: who lived, under which tags.
-ghost use Rattle.std.specs.Prelude.{◌≡◌, ◌≤◌, length};
+//! Nations: who lived, under which tags.
+ghost use Rattle.std.specs.Prelude.{◌≡◌, ◌≤◌};
 ghost use Rattle.rules.specs.Outcomes.{call_nation_events};
-ghost use Rattle.nations.specs.Cases.{nation_cells, nations_outcome};
-ghost use Rattle.change_keys.specs.ChangeSteps.{most_changes};
+ghost use Rattle.rules.specs.Lent.{outcome_of};
+ghost use Rattle.nations.specs.LentCells.{nation_cells};
+ghost use Rattle.owner_changes.specs.ChangeSteps.{most_changes};
 ghost use Rattle.nation_tables.specs.Layout.{most_countries, most_slots, most_settling};
-ghost use Rattle.nation_tables.specs.Gathering.{TableRoom};
 ghost use Rattle.nations.specs.NationSteps.{counts_from};
 
-use crate::writing::RestCells;
-use crate::{telling, writing};
-use change_keys::MOST_CHANGES;
-use chronicle_rows::NationCounts;
-use format::MOST_COUNTRIES;
-use nation_listing::Listed;
-use nation_tables::{LossGain, MOST_SETTLING, MOST_SLOTS, TableCells, TableSizes};
-use record::{CountryTag, ROW_BYTES, Refusal};
+use crate::gathered_nations::tell_nations;
+use crate::slots_and_changes::{RestCells, write_rest};
+use crate::written_nations::Listed;
+use format::{CountryTag, MOST_COUNTRIES, NationCounts, Refusal};
+use nation_tables::{FittingRecord, LossGain, MOST_SETTLING, MOST_SLOTS, TableCells, TableSizes};
+use owner_changes::MOST_CHANGES;
+use record::{ROW_BYTES, Record};
 
 // Records of no more bytes are small, or of middle size: their tables take less time to clear.
 const SMALL_RECORD: usize = 2048;
@@ -47,19 +46,18 @@ fn answer_sized<
     const KEYS: usize,
     const CHANGES: usize,
 >(
-    s: &[u8],
+    fitting: FittingRecord<'_, COUNTRIES, SLOTS, KEYS, CHANGES>,
     nations: &mut [u32],
     entries: &mut [u32],
     holders: &mut [u32],
     held: &mut [u32],
     changes: &mut [u32],
 ) -> Result<NationCounts, Refusal>
-    requires room { TableRoom (length s.now) COUNTRIES SLOTS KEYS CHANGES }
-    requires possible { (COUNTRIES ≤ most_countries) × (SLOTS ≤ most_slots) × (KEYS ≤ most_settling) × (CHANGES ≤ most_changes) }
-    ensures { nations_outcome result nations.new entries.new holders.new held.new changes.new ≡ call_nation_events s.now (nation_cells nations.old entries.old holders.old held.old changes.old) }
+    requires { (COUNTRIES ≤ most_countries) × (SLOTS ≤ most_slots) × (KEYS ≤ most_settling) × (CHANGES ≤ most_changes) }
+    ensures { outcome_of (λ n. n) result (nation_cells nations.new entries.new holders.new held.new changes.new) ≡ call_nation_events fitting.entry.opened.bytes.now (nation_cells nations.old entries.old holders.old held.old changes.old) }
 {
     let mut tables = TableCells::<COUNTRIES, SLOTS, KEYS, CHANGES> {
-        tags: [CountryTag::kept(0); COUNTRIES],
+        tags: [CountryTag::from_word_unchecked(0); COUNTRIES],
         initial_keys: [0; COUNTRIES],
         runs: [0; KEYS],
         keys: [0; CHANGES],
@@ -74,15 +72,47 @@ fn answer_sized<
         held: held.len(),
         changes: changes.len(),
     };
-    let told = telling::tell_nations(s, &mut tables, nations, entries, room)?;
+    let Some(told) = tell_nations(fitting, &mut tables, nations, entries, room) else {
+        return Err(Refusal::NoRoom);
+    };
     let sizes = told.sizes;
-    writing::write_rest(told.provinces, sizes, &mut tables, holders, held, changes);
+    write_rest(fitting.opened, sizes, &mut tables, holders, held, changes);
     let counts = counts_from(sizes, told.listed);
     Ok(counts)
 }
 
-// The listed nations with their entries, the holder of each slot and the slots held by each country after the last change, and the owner
-// changes. Refused are a bad record, by its refusal, and by `NoRoom` a slice that is too short. The five slices are those of the interface for C.
+/// Writes the nations of an opened record, five slices of cells: a row of five words for each listed nation, and one of three for each of their entries; the
+/// tag's word of the holder of each slot after the last change, 0 for nobody; how many slots each country holds then; and a row of four words for each owner
+/// change. Answers how many rows, or cells, there are of each. Refused by `NoRoom` is a slice that is too short; then all are left as they were.
+pub fn nation_events_of(
+    opened: Record<'_>,
+    nations: &mut [u32],
+    entries: &mut [u32],
+    holders: &mut [u32],
+    held: &mut [u32],
+    changes: &mut [u32],
+) -> Result<NationCounts, Refusal>
+    ensures { outcome_of (λ n. n) result (nation_cells nations.new entries.new holders.new held.new changes.new) ≡ call_nation_events opened.entry.bytes.now (nation_cells nations.old entries.old holders.old held.old changes.old) }
+{
+    let bytes = opened.bytes.len();
+    if bytes <= SMALL_RECORD {
+        let fitting = FittingRecord::<FEW_ROWS, FEW_ROWS, FEW_ROWS, FEW_ROWS> { opened };
+        return answer_sized(fitting, nations, entries, holders, held, changes);
+    }
+    if bytes <= MIDDLE_RECORD {
+        let fitting = FittingRecord::<MOST_COUNTRIES, SOME_ROWS, SOME_ROWS, SOME_ROWS> { opened };
+        return answer_sized(fitting, nations, entries, holders, held, changes);
+    }
+    let fitting = FittingRecord::<MOST_COUNTRIES, MOST_SLOTS, MOST_SETTLING, MOST_CHANGES> {
+        opened,
+    };
+    answer_sized(fitting, nations, entries, holders, held, changes)
+}
+
+/// Writes the nations of the record of these bytes, as `nation_events_of` does. A bad record is refused by its own refusal, all else as there.
+///
+/// # Source
+/// `nation_events` of query.rs.
 pub fn nation_events(
     s: &[u8],
     nations: &mut [u32],
@@ -91,19 +121,8 @@ pub fn nation_events(
     held: &mut [u32],
     changes: &mut [u32],
 ) -> Result<NationCounts, Refusal>
-    ensures { nations_outcome result nations.new entries.new holders.new held.new changes.new ≡ call_nation_events s.now (nation_cells nations.old entries.old holders.old held.old changes.old) }
+    ensures { outcome_of (λ n. n) result (nation_cells nations.new entries.new holders.new held.new changes.new) ≡ call_nation_events s.now (nation_cells nations.old entries.old holders.old held.old changes.old) }
 {
-    if s.len() <= SMALL_RECORD {
-        return answer_sized::<FEW_ROWS, FEW_ROWS, FEW_ROWS, FEW_ROWS>(
-            s, nations, entries, holders, held, changes,
-        );
-    }
-    if s.len() <= MIDDLE_RECORD {
-        return answer_sized::<MOST_COUNTRIES, SOME_ROWS, SOME_ROWS, SOME_ROWS>(
-            s, nations, entries, holders, held, changes,
-        );
-    }
-    answer_sized::<MOST_COUNTRIES, MOST_SLOTS, MOST_SETTLING, MOST_CHANGES>(
-        s, nations, entries, holders, held, changes,
-    )
+    let opened = Record::open(s)?;
+    nation_events_of(opened, nations, entries, holders, held, changes)
 }

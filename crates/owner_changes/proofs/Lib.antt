@@ -1,2 +1,16 @@
+pub mod ChangeLaws
+pub mod ChangeKeyLaws
+pub mod EnteringLaws
+pub mod RoomLaws
+pub mod WrittenLaws
+pub mod WrittenRowLaws
+pub mod ReadRowLaws
+pub mod RowTurnLaws
+pub mod EnterRowLaws
+pub mod AheadLaws
+pub mod RowOrderLaws
+pub mod RowPartLaws
+pub mod MergeRowLaws
+pub mod RunLaws
 pub mod CountLaws
 pub mod OutcomeLaws

@@ -1,1 +1,3 @@
-pub mod Cases
+pub mod ChangeSteps
+pub mod Giving
+pub mod RowSteps

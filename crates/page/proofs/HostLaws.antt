@@ -15,14 +15,13 @@ use Rattle.std.specs.Prelude as code
 use Rattle.std.specs.Prelude.{Ok, Err}
 use Rattle.format.specs.declared.refused.Refusal.{Refusal}
 use Rattle.format.specs.Campaign.{campaign_of}
-use Rattle.format.specs.Refusal.{refusal, first_of}
-use Rattle.chronicle_rows.specs.declared.counts.NationCounts as code_counts
+use Rattle.format.specs.RecordNumber.{refusal, first_of}
+use Rattle.format.specs.declared.values.NationCounts.{NationCounts}
 use Rattle.rules.specs.Lent.{Answer, refused, gives, answer_of, written, fits, room_number, Outcome, outcome, outcome_of}
-use Rattle.rules.specs.Outcomes.{answers_of, NationCells, cells_of, all_fit, all_written, NationCounts, counts_of, call_nation_events}
-use Rattle.chronicle_rows.specs.Cases.{counts_in}
+use Rattle.rules.specs.Outcomes.{answers_of, NationCells, cells_of, all_fit, all_written, counts_of, call_nation_events}
 use Rattle.nations.proofs.answer.NationOutcomeLaws.{SmallCounts, nations-given}
-use Rattle.host_answers.specs.Host.{returned, most_returned, Returns, word_cells, count_words, NationSlices, nation_slices, with_counts, call_nation_events_cells, number_of_counts}
-use Rattle.host_answers.specs.Inner.{low_counts}
+use Rattle.page.specs.Host.{returned, most_returned, Returns, word_cells, count_words, NationSlices, nation_slices, with_counts, call_nation_events_cells, number_of_counts}
+use Rattle.page.specs.Inner.{low_counts}
 
 -- ## The number
 
@@ -63,7 +62,7 @@ module _ (values : NationCounts) (after : NationCells) (before : NationSlices) (
   short-counts (suc m) fit n e = rw e
 
 -- Counts so small are told by their lowest 32 bits.
-low-same : (r : code_counts.NationCounts) → SmallCounts (counts_in r) → low_counts r ≡ count_words (counts_in r)
+low-same : (r : NationCounts) → SmallCounts r → low_counts r ≡ count_words r
 low-same r small =
     let a : r.nations % 4294967296 ≡ r.nations = omega (arith, small.nations) in
     let b : r.entries % 4294967296 ≡ r.entries = omega (arith, small.entries) in
@@ -91,11 +90,11 @@ module _ (xs : List ℕ) (before : NationSlices) where
       (simp room) ∙ ap (λ (o : Outcome NationCounts NationCells). with_counts o.answer o.memory before) e
 
   -- So the counts that were put are the call's.
-  pub slices-put : number_of_counts ≤ length before.counts → (r : code_counts.NationCounts) (after : NationCells)
-      → record { answer = gives (counts_in r); memory = after } ≡ call_nation_events xs before.cells
+  pub slices-put : number_of_counts ≤ length before.counts → (r : NationCounts) (after : NationCells)
+      → record { answer = gives r; memory = after } ≡ call_nation_events xs before.cells
       → (i : ℤ) (counts : List ℕ) → Returns (word_cells (low_counts r) before.counts) i counts → Returns (call_nation_events_cells xs before) i (nation_slices after counts)
   slices-put h r after e i counts put =
-      let same = low-same r (nations-given xs before.cells (counts_in r) (ap (λ (o : Outcome NationCounts NationCells). o.answer) e)) in
-      let room : fits (count_words (counts_in r)) before.counts ≡ true = le-leb number_of_counts (length before.counts) h in
+      let same = low-same r (nations-given xs before.cells r (ap (λ (o : Outcome NationCounts NationCells). o.answer) e)) in
+      let room : fits (count_words r) before.counts ≡ true = le-leb number_of_counts (length before.counts) h in
       let told = rw room at (subst (λ (ws : List ℕ). Returns (word_cells ws before.counts) i counts) same put) in
-      rw told.cells (returns_of (slices-given h (counts_in r) after e) told.answer)
+      rw told.cells (returns_of (slices-given h r after e) told.answer)

@@ -10,16 +10,16 @@ use lib.ListN.{length, get_elem?}
 use Rattle.lists.specs.Lists.{join_of}
 use Rattle.lists.proofs.BoolLaws.{and_left}
 use Rattle.format.specs.Campaign.{campaign_of}
-use Rattle.format.specs.Refusal.{refusal, first_of}
+use Rattle.format.specs.RecordNumber.{refusal, first_of}
 use Rattle.format.proofs.FirstLaws.{all-zero}
 use Rattle.rules.specs.Lent.{gives, fits, room_number}
 use Rattle.rules.specs.NationRows.{nations_in}
 use Rattle.rules.specs.Ledger.{nation_ledger, point_rows, ledger_width}
-use Rattle.rules.specs.Refusals.{chronicle_number, asked_nation_number}
+use Rattle.rules.specs.CallNumbers.{chronicle_number, asked_nation_number}
 use Rattle.rules.specs.Outcomes.{asked_points, LedgerCells, ledger_cells_of, call_nation_ledger, call_nation_ledger_rows, call_nation_ledgers}
 use Rattle.rules.proofs.LentLaws.{answered-given}
-use Rattle.span_points.proofs.FillsLaws.{rows-length}
-use Rattle.host_answers.specs.Host.{most_returned}
+use Rattle.ledger.proofs.FillsLaws.{rows-length}
+use Rattle.page.specs.Host.{most_returned}
 use Rattle.page.proofs.HostLaws.{room-true}
 
 pub ledger-given : (xs ws es : List ℕ) (number : ℕ) (before : List ℕ) (n : ℕ) → gives n ≡ (call_nation_ledger xs ws es number before).answer

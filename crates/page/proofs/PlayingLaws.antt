@@ -8,18 +8,19 @@ use lib.ListN.{length}
 use Rattle.lists.specs.Lists.{join_of}
 use Rattle.lists.proofs.BoolLaws.{and_left}
 use Rattle.format.specs.Campaign.{campaign_of}
-use Rattle.format.specs.Refusal.{refusal, first_of}
+use Rattle.format.specs.RecordNumber.{refusal, first_of}
 use Rattle.format.proofs.FirstLaws.{first-zero, all-zero}
 use Rattle.rules.specs.Lent.{Answer, refused, gives, fits, room_number}
 use Rattle.rules.specs.NationRows.{nations_in}
 use Rattle.rules.specs.Players.{players_of, player_rows}
 use Rattle.rules.specs.Histories.{History, histories_of}
 use Rattle.rules.specs.HistoryRows.{history_width, history_row_words, history_rows_from, history_words}
-use Rattle.rules.specs.Refusals.{chronicle_number, numbered_number}
-use Rattle.rules.specs.PlayerOutcomes.{HistoryCells, HistoryCounts, history_cells_of, history_counts_of, both_fit, call_players, call_player_histories}
+use Rattle.rules.specs.CallNumbers.{chronicle_number, numbered_number}
+use Rattle.format.specs.declared.values.HistoryCounts.{HistoryCounts}
+use Rattle.rules.specs.PlayerOutcomes.{HistoryCells, history_cells_of, history_counts_of, both_fit, call_players, call_player_histories}
 use Rattle.rules.proofs.LentLaws.{answered-given}
 use Rattle.players.proofs.PlayerLaws.{players-few}
-use Rattle.host_answers.specs.Playing.{histories_given, call_player_histories_given}
+use Rattle.page.specs.Playing.{histories_given, call_player_histories_given}
 use Rattle.page.proofs.HostLaws.{room-true}
 
 -- The number of players is small.

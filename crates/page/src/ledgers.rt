@@ -1,13 +1,13 @@
-// What C calls of the ledger. A nation is asked for by its number, from 0, among the lent nation words.
+//! What C calls of the ledger. A nation is asked for by its number, from 0, among the lent nation words.
 ghost use Rattle.std.specs.Prelude.{◌≡◌, min};
 ghost use Rattle.rules.specs.Outcomes.{call_nation_ledger, call_nation_ledger_rows, call_nation_ledgers};
-ghost use Rattle.ledger.specs.Cases.{ledger_cells};
-ghost use Rattle.host_answers.specs.Host.{returned, Returns, most_returned};
+ghost use Rattle.ledger.specs.LentSlices.{ledger_cells};
+ghost use Rattle.page.specs.Host.{returned, Returns, most_returned};
 
-use host_answers::{can_return, returned};
+use crate::numbers::{can_return, returned};
 
-// Writes a nation's ledger, three words each: tag, year and value in two's complement. Gives the number of rows, or minus the refusal
-// number: 13 for a number that is no nation's.
+/// Writes a nation's ledger, three words each: tag, year and value in two's complement. Gives the number of rows, or minus the refusal
+/// number: 13 for a number that is no nation's.
 pub fn nation_ledger(
     s: &[u8],
     nations: &[u32],
@@ -20,8 +20,8 @@ pub fn nation_ledger(
     returned(chronicle::nation_ledger(s, nations, entries, nation, out))
 }
 
-// How many rows `nation_ledger` has to write, or `most` if there are more; else minus the refusal number. A `most` above
-// 9223372036854775807 counts as that, so that the number can be returned.
+/// How many rows `nation_ledger` has to write, or `most` if there are more; else minus the refusal number. A `most` above
+/// 9223372036854775807 counts as that, so that the number can be returned.
 pub fn nation_ledger_rows(
     s: &[u8],
     nations: &[u32],
@@ -35,8 +35,8 @@ pub fn nation_ledger_rows(
     returned(chronicle::nation_ledger_rows(s, nations, entries, nation, most))
 }
 
-// Writes the ledgers of all nations, one behind the other, and into `counts` the number of rows of each. Gives the number of all rows, or
-// minus the refusal number: 10 where either slice is too short.
+/// Writes the ledgers of all nations, one behind the other, and into `counts` the number of rows of each. Gives the number of all rows, or
+/// minus the refusal number: 10 where either slice is too short.
 pub fn nation_ledgers(
     s: &[u8],
     nations: &[u32],

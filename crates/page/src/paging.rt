@@ -1,11 +1,11 @@
-// What C calls of the page.
+//! What C calls of the page.
 ghost use Rattle.rules.specs.PageOutcomes.{call_page};
-ghost use Rattle.host_answers.specs.Host.{Returns};
+ghost use Rattle.page.specs.Host.{Returns};
 
-use host_answers::returned;
+use crate::numbers::returned;
 
-// Writes the page of a record for a selection of stored tags, each followed by a line feed. Gives the number of bytes, or minus the
-// refusal number.
+/// Writes the page of a record for a selection of stored tags, each followed by a line feed. Gives the number of bytes, or minus the
+/// refusal number.
 pub fn page(s: &[u8], selection: &[u8], out: &mut [u8]) -> i64
     ensures { Returns (call_page s.now selection.now out.old) result out.new }
 {

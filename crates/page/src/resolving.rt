@@ -1,14 +1,15 @@
-// What C calls of the resolver. A tag, a date and a day are words, which the calls test, each in its turn; each is lent nation words and
-// entry words.
+//! What C calls of the resolver. A tag, a date and a day are words, which the calls test, each in its turn; each is lent nation words and
+//! entry words.
 ghost use Rattle.rules.specs.Outcomes.{call_resolve, call_initial, call_resolve_on, call_initial_on};
 ghost use Rattle.rules.specs.Questions.{call_resolve_each};
-ghost use Rattle.host_answers.specs.Host.{Returns};
-ghost use Rattle.host_answers.specs.Resolving.{data_cells};
+ghost use Rattle.page.specs.Host.{Returns};
+ghost use Rattle.page.specs.Resolving.{data_cells};
 
-use host_answers::{put_data, returned};
-use record::{CountryTag, Eu4Date};
+use crate::found::put_data;
+use crate::numbers::returned;
+use format::{CountryTag, Eu4Date};
 
-// `resolve`.
+/// `resolve`.
 pub fn resolver_resolve(
     nations: &[u32],
     entries: &[u32],
@@ -18,20 +19,20 @@ pub fn resolver_resolve(
 ) -> i64
     ensures { Returns (data_cells (call_resolve nations.now entries.now tag date) out.old) result out.new }
 {
-    let tag = CountryTag::kept(tag);
-    let date = Eu4Date::kept(date);
+    let tag = CountryTag::from_word_unchecked(tag);
+    let date = Eu4Date::from_word_unchecked(date);
     put_data(chronicle::resolve(nations, entries, tag, date), out)
 }
 
-// `initial`.
+/// `initial`.
 pub fn resolver_initial(nations: &[u32], entries: &[u32], tag: u32, out: &mut [u32]) -> i64
     ensures { Returns (data_cells (call_initial nations.now entries.now tag) out.old) result out.new }
 {
-    let tag = CountryTag::kept(tag);
+    let tag = CountryTag::from_word_unchecked(tag);
     put_data(chronicle::initial(nations, entries, tag), out)
 }
 
-// `resolve`, set to a day.
+/// `resolve`, set to a day.
 pub fn resolver_resolve_at(
     nations: &[u32],
     entries: &[u32],
@@ -42,13 +43,13 @@ pub fn resolver_resolve_at(
 ) -> i64
     ensures { Returns (data_cells (call_resolve_on nations.now entries.now day tag date) out.old) result out.new }
 {
-    let dated = chronicle::at(Eu4Date::kept(day));
-    let tag = CountryTag::kept(tag);
-    let date = Eu4Date::kept(date);
+    let dated = chronicle::at(Eu4Date::from_word_unchecked(day));
+    let tag = CountryTag::from_word_unchecked(tag);
+    let date = Eu4Date::from_word_unchecked(date);
     put_data(dated.resolve_at(nations, entries, tag, date), out)
 }
 
-// `initial`, set to a day.
+/// `initial`, set to a day.
 pub fn resolver_initial_at(
     nations: &[u32],
     entries: &[u32],
@@ -58,12 +59,12 @@ pub fn resolver_initial_at(
 ) -> i64
     ensures { Returns (data_cells (call_initial_on nations.now entries.now day tag) out.old) result out.new }
 {
-    let dated = chronicle::at(Eu4Date::kept(day));
-    let tag = CountryTag::kept(tag);
+    let dated = chronicle::at(Eu4Date::from_word_unchecked(day));
+    let tag = CountryTag::from_word_unchecked(tag);
     put_data(dated.initial_at(nations, entries, tag), out)
 }
 
-// `resolve_each`: the number of rows, two words each, or minus the refusal number.
+/// `resolve_each`: the number of rows, two words each, or minus the refusal number.
 pub fn resolver_resolve_each(
     nations: &[u32],
     entries: &[u32],

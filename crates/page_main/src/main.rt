@@ -1,4 +1,4 @@
-// The program page: it reads campaign.atl and, from standard input, a selection, and prints the page or the line of its refusal.
+//! The program page: it reads campaign.atl and, from standard input, a selection, and prints the page or the line of its refusal.
 #![tactic(auto)]
 
 use pages::{MOST_BYTES, PRINTED_BYTES, print_page};
@@ -25,6 +25,18 @@ fn write_out(rt: &(impl Print + Eprint), text: &[u8]) {
     }
 }
 
+// Says on standard error what a reader of the page cannot see: that no record was read, and why a selection is none.
+fn remark(rt: &impl Eprint, campaign: Option<&[u8]>, selection: &[u8]) {
+    if campaign.is_none() {
+        let _ = rt.eprintln("page: campaign.atl cannot be read, and counts as empty");
+    }
+    if selection.contains(&b'\r') {
+        let _ = rt.eprintln(
+            "page: the selection has a carriage return: a line feed alone ends each tag",
+        );
+    }
+}
+
 // Prints what the bytes read of both come to.
 fn print(rt: &(impl Print + Eprint), campaign: Option<&[u8]>, selection: &[u8]) {
     let mut out = [0u8; PRINTED_BYTES];
@@ -39,5 +51,6 @@ fn main(rt: HostRuntime) {
     let mut s = [0u8; MOST_READ];
     let selection = read_input(&rt, &mut input);
     let campaign = read_file(&rt, "campaign.atl", &mut s);
+    remark(&rt, campaign, selection);
     print(&rt, campaign, selection);
 }

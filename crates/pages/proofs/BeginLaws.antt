@@ -6,7 +6,7 @@ use Prim.Native.Nat.{ℕ}
 use lib.Dec.{ltb}
 use lib.ListN.{length}
 use Rattle.rules.specs.PageOutcomes.{bytes_number}
-use Rattle.page_text.proofs.OutcomeLaws.{either-past, neither-past}
+use Rattle.pages.proofs.OutcomeLaws.{either-past, neither-past}
 
 module _ (xs selection : List ℕ) where
   pub bytes-many : (ltb 65536 (length xs) || ltb 65536 (length selection)) ≡ true → bytes_number xs selection ≡ 10

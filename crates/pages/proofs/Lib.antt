@@ -1,8 +1,16 @@
+pub mod DecimalLaws
+pub mod LengthLaws
+pub mod SelectionLaws
+pub mod StatusLaws
+pub mod StoredLaws
+pub mod PageLaws
+pub mod OutcomeLaws
+pub mod PutLaws
 pub mod AnswerLaws
 pub mod BeginLaws
 pub mod CutLaws
 pub mod LivingCellLaws
-pub mod PageLaws
+pub mod PagingLaws
 pub mod PrintLaws
 pub mod RoomLaws
 pub mod SizeLaws

@@ -9,13 +9,13 @@ use lib.Seq.{take_at}
 use Rattle.std.specs.Simd.{first_chunks}
 use Rattle.lists.specs.Lists.{numbers_from}
 use Rattle.lists.proofs.ListLaws.{map-then}
-use Rattle.rules.specs.NationRows.{NationRow, nation_width, nation_rows_in, nations_in, well_shaped}
+use Rattle.format.specs.declared.values.NationRow.{NationRow}
+use Rattle.rules.specs.NationRows.{nation_width, nation_rows_in, nations_in, well_shaped, nation_row_of}
 use Rattle.rules.specs.Page.{is_living}
-use Rattle.chronicle_rows.specs.Cases.{nation_told, nation_in}
-use Rattle.chronicle_rows.specs.RowAt.{nation_row_at, nation_numbered}
-use Rattle.chronicle_rows.proofs.NumberedLaws.{nations-numbered}
-use Rattle.page_text.specs.Status.{nation_with}
-use Rattle.page_text.proofs.StoredLaws.{rows-left, rows-numbered}
+use Rattle.rows.specs.RowAt.{nation_row_at, nation_numbered}
+use Rattle.rows.proofs.NumberedLaws.{nations-numbered}
+use Rattle.pages.specs.Status.{nation_with}
+use Rattle.pages.proofs.StoredLaws.{rows-left, rows-numbered}
 use Rattle.pages.specs.LivingCells.{living_cells}
 
 module _ (ws es : List ℕ) where
@@ -29,8 +29,8 @@ module _ (ws es : List ℕ) where
   length-living = length-map (nation_rows_in ws) lives
 
   -- As an iterator over all rows gives them.
-  pub living-left : (xs : List (List ℕ)) → map nation_in xs ≡ map nation_in (first_chunks nation_width (length ws / nation_width) ws)
-      → map lives (map nation_told (map nation_in xs)) ≡ living_cells ws es
+  pub living-left : (xs : List (List ℕ)) → map nation_row_of xs ≡ map nation_row_of (first_chunks nation_width (length ws / nation_width) ws)
+      → map lives (map nation_row_of xs) ≡ living_cells ws es
   living-left xs all = ap (map lives) (rows-left ws xs all)
 
   module _ (cells₀ cells : List Bool) (w : cells ≡ living_cells ws es ++ drop (length (living_cells ws es)) cells₀) where

@@ -9,20 +9,30 @@ use lib.Dec.{leb}
 use lib.ListN.{length, drop, length-append}
 use Rattle.lists.proofs.BoolLaws.{cases}
 use Rattle.format.specs.Campaign.{campaign_of}
-use Rattle.format.specs.Refusal.{refusal}
+use Rattle.std.specs.Prelude as code
+use Rattle.std.specs.Prelude.{Ok, Err, Some, None, IsSome}
+use Rattle.std.proofs.Common.{rules}
+use Rattle.format.specs.declared.refused.Refusal.{Refusal}
+use Rattle.format.specs.declared.refused.Refusal.TheVariants.{NotARecord, UnknownVersion, SizesDisagree, BadTag, BadDate, UndefinedFlag, Repeated, DatesReversed, LedgerYear, NoRoom, NotWellShaped, BadQuestion, NoSuchNation}
+use Rattle.format.specs.RefusalNumber.{refusal_number}
+use Rattle.format.specs.RecordNumber.{refusal}
+use Rattle.record.proofs.ToldLaws.{refusal_above}
 use Rattle.format.proofs.FirstLaws.{first-zero, first_one}
 use Rattle.rules.specs.Lent.{refused, gives, answered, written, room_number}
-use Rattle.rules.specs.Page.{selection_of}
+use Rattle.rules.specs.Page.{selection_of, line, digits}
 use Rattle.rules.specs.PageOutcomes.{bytes_number, selection_number, limits_number, page_number, page_of, call_page, refused_line, printed, call_program}
 use Rattle.rules.proofs.LentLaws.{outcome-refused, outcome-gives}
+use Rattle.pages.proofs.AnswerLaws.{not-refused, same_gives}
+use Rattle.pages.proofs.OutcomeLaws.{lines-short, lines-written}
+use Rattle.pages.specs.Texts.{call_lines}
+use Rattle.pages.specs.Steps.{Paged}
 use Rattle.pages.specs.Printing.{most_printed, call_print}
-use Rattle.pages.proofs.AnswerLaws.{not-refused, same_gives, same-refused}
-use Rattle.pages.proofs.PageLaws.{refused-by, given_by, short-by}
+use Rattle.pages.proofs.PagingLaws.{refused-by, number_passed, given_by, short-by}
 use Rattle.pages.proofs.SizeLaws.{page-length}
 
 module _ (xs selection : List ℕ) where
   -- A page without a number is not too long.
-  page-within : page_number xs selection ≡ 0 → length (page_of xs selection) ≤ most_printed
+  pub page-within : page_number xs selection ≡ 0 → length (page_of xs selection) ≤ most_printed
   unfolding page_number
   page-within z =
       let a = first-zero (bytes_number xs selection) (refusal xs ∷ selection_number (selection_of selection) ∷ limits_number (campaign_of xs) ∷ []) z in
@@ -56,63 +66,56 @@ module _ (xs selection : List ℕ) where
   prints-number zero p e = absurd (omega arith)
   prints-number (suc n) p e = ap (λ m. printed (answered m (page_of xs selection))) e
 
-  module _ (before : List ℕ) (room : most_printed ≤ length before) where
-    -- Where the call gives bytes, they are what is printed.
-    given-case : (m : ℕ) → page_number xs selection ≡ m → (n : ℕ) (after : List ℕ) → record { answer = gives n; memory = after } ≡ call_page xs selection before
-        → (n ≡ length (call_program (some xs) selection)) × (after ≡ written (call_program (some xs) selection) before)
-    given-case zero z n after e =
-        let told = e ∙ sym (given_by xs selection before z (omega (arith, room, page-within z))) in
-        let same = sym (prints-page z) in
-        (same_gives _ _ (ap (λ o. o.answer) told) ∙ ap length same, ap (λ o. o.memory) told ∙ ap (λ t. written t before) same)
-    given-case (suc m) z n after e =
-        absurd (not-refused _ _ (sym (ap (λ o. o.answer) (e ∙ sym (refused-by xs selection before (suc m) (omega arith) z)))))
+-- A refused page prints its line, a page that was written or has no room its text.
+module _ (xs selection before : List ℕ) where
+  pub printed-page : page_number xs selection ≡ 0 → call_lines (call_program (some xs) selection) before ≡ call_page xs selection before
+  printed-page z = ap (λ t. call_lines t before) (prints-page xs selection z) ∙ number_passed xs selection before z
 
-    pub prints-given : (n : ℕ) (after : List ℕ) → record { answer = gives n; memory = after } ≡ call_page xs selection before
-        → (n ≡ length (call_program (some xs) selection)) × (after ≡ written (call_program (some xs) selection) before)
-    prints-given = given-case (page_number xs selection) refl
+  -- With room for every page there is room for this one.
+  pub page-given : (r : code.Option ℕ) (after : List ℕ) → Paged xs selection before (Ok r) after → most_printed ≤ length before → IsSome r
+  page-given (Some n) after p h = search rules
+  page-given None after p h =
+      let z = sym p.number in
+      let given = given_by xs selection before z (omega (arith, h, page-within xs selection z)) in
+      absurd (not-refused _ _ (ap (λ o. o.answer) (p.outcome ∙ sym given)))
 
-    -- Where it refuses, nothing is written yet, and the line of its number is to be printed.
-    refused-case : (m : ℕ) → page_number xs selection ≡ m → (n : ℕ) (after : List ℕ) → record { answer = refused n; memory = after } ≡ call_page xs selection before
-        → (call_program (some xs) selection ≡ refused_line n) × (after ≡ before)
-    refused-case zero z n after e =
-        absurd (not-refused _ _ (ap (λ o. o.answer) (e ∙ sym (given_by xs selection before z (omega (arith, room, page-within z))))))
-    refused-case (suc m) z n after e =
-        let told = e ∙ sym (refused-by xs selection before (suc m) (omega arith) z) in
-        (prints-number (suc m) (omega arith) z ∙ ap refused_line (sym (same-refused _ _ (ap (λ o. o.answer) told))), ap (λ o. o.memory) told)
+  -- The line of a refusal stands where nothing was written.
+  pub printed-line : (e : Refusal) (after : List ℕ) → Paged xs selection before (Err e) after
+      → call_lines (refused_line (refusal_number e)) after ≡ call_lines (call_program (some xs) selection) before
+  printed-line e after p =
+      let told = p.outcome ∙ sym (refused-by xs selection before (refusal_number e) (refusal_above e) (sym p.number)) in
+      ap (call_lines (refused_line (refusal_number e))) (ap (λ o. o.memory) told)
+      ∙ ap (λ t. call_lines t before) (sym (prints-number xs selection (refusal_number e) (refusal_above e) (sym p.number)))
 
-    pub prints-refused : (n : ℕ) (after : List ℕ) → record { answer = refused n; memory = after } ≡ call_page xs selection before
-        → (call_program (some xs) selection ≡ refused_line n) × (after ≡ before)
-    prints-refused = refused-case (page_number xs selection) refl
+-- The line of a refusal is short.
+pub line-short : (e : Refusal) → length (refused_line (refusal_number e)) ≤ most_printed
+unfolding line digits
+line-short NotARecord = omega arith
+line-short UnknownVersion = omega arith
+line-short SizesDisagree = omega arith
+line-short BadTag = omega arith
+line-short BadDate = omega arith
+line-short UndefinedFlag = omega arith
+line-short Repeated = omega arith
+line-short DatesReversed = omega arith
+line-short LedgerYear = omega arith
+line-short NoRoom = omega arith
+line-short NotWellShaped = omega arith
+line-short BadQuestion = omega arith
+line-short NoSuchNation = omega arith
 
--- ## The outcome, by case
-
-module _ (file : Option (List ℕ)) (selection before : List ℕ) where
-  pub print-short : length before < most_printed → record { answer = refused 10; memory = before } ≡ call_print file selection before
-  unfolding call_print
-  print-short h =
-      sym
-      (rw (lt-leb most_printed (length before) h)
-      (outcome-refused 10 (length (call_program file selection)) (written (call_program file selection) before) before (omega arith)))
-
-  pub print-done : most_printed ≤ length before → (n : ℕ) (after : List ℕ) → n ≡ length (call_program file selection)
-      → after ≡ written (call_program file selection) before → record { answer = gives n; memory = after } ≡ call_print file selection before
-  unfolding call_print
-  print-done h n after c e =
-      sym
-      (rw (c, e)
-      (outcome-gives (room_number (leb most_printed (length before))) (length (call_program file selection)) (written (call_program file selection) before) before
-      (ap room_number (le-leb most_printed (length before) h))))
-
-  -- What is counted stands in the slice.
-  pub print-inside : (n : ℕ) (after : List ℕ) → record { answer = gives n; memory = after } ≡ call_print file selection before → n ≤ length after
-  print-inside n after e =
-      let text = call_program file selection in
-      cases (leb most_printed (length before))
-      (λ t.
-      let told = e ∙ sym (print-done (leb-true most_printed (length before) t) (length text) (written text before) refl refl) in
-      let long = ap (λ o. length o.memory) told ∙ length-append text (drop (length text) before) in
-      omega (arith, long, same_gives _ _ (ap (λ o. o.answer) told)))
-      (λ f. absurd (not-refused _ _ (ap (λ o. o.answer) (print-short (leb-false most_printed (length before) f) ∙ sym e))))
+-- What is counted stands in the slice.
+pub print-inside : (file : Option (List ℕ)) (selection before : List ℕ) (n : ℕ) (after : List ℕ)
+    → record { answer = gives n; memory = after } ≡ call_print file selection before → n ≤ length after
+unfolding call_print
+print-inside file selection before n after e =
+    let text = call_program file selection in
+    cases (leb (length text) (length before))
+    (λ t.
+    let told = e ∙ sym (lines-written text before (length text) (written text before) (leb-true (length text) (length before) t) refl refl) in
+    let long = ap (λ o. length o.memory) told ∙ length-append text (drop (length text) before) in
+    omega (arith, long, same_gives _ _ (ap (λ o. o.answer) told)))
+    (λ f. absurd (not-refused _ _ (ap (λ o. o.answer) (lines-short text before (leb-false (length text) (length before) f) ∙ sym e))))
 
 -- A file that cannot be read counts as one without bytes.
 pub prints-unread : (selection : List ℕ) → call_program none selection ≡ call_program (some []) selection

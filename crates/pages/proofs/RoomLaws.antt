@@ -11,13 +11,14 @@ use lib.Seq.{take_at}
 use Rattle.lists.specs.Lists.{join_of}
 use Rattle.lists.proofs.BoolLaws.{cases, clash}
 use Rattle.format.specs.Campaign.{Campaign, campaign_of}
-use Rattle.format.specs.Refusal.{refusal}
+use Rattle.format.specs.RecordNumber.{refusal}
 use Rattle.rules.specs.Chronicle.{Nation}
 use Rattle.rules.specs.Lent.{refused, gives, written}
 use Rattle.rules.specs.Changes.{changes_of, change_rows, change_width}
 use Rattle.rules.specs.Nations.{nations_of, holders_of, held_of}
 use Rattle.rules.specs.NationRows.{nation_width, entry_width, nation_words, entry_words, holder_word}
-use Rattle.rules.specs.Outcomes.{answers_of, NationCells, cells_of, all_fit, all_written, NationCounts, counts_of, call_nation_events}
+use Rattle.format.specs.declared.values.NationCounts.{NationCounts}
+use Rattle.rules.specs.Outcomes.{answers_of, NationCells, cells_of, all_fit, all_written, counts_of, call_nation_events}
 use Rattle.rules.specs.PageOutcomes.{limits_number}
 use Rattle.rules.proofs.RowLaws.{length-nation_words, length-entry_words, length-change_rows}
 use Rattle.nation_tables.specs.Layout.{most_countries, most_slots}

@@ -21,8 +21,8 @@ use Rattle.rules.specs.Changes.{changes_of}
 use Rattle.rules.specs.Nations.{nations_of}
 use Rattle.rules.specs.Page.{one_more, selection_of, tags_read, digits, decimal, tag_text, line, is_living, tag_line, page_text}
 use Rattle.rules.specs.PageOutcomes.{bytes_number, limits_number, page_of}
-use Rattle.page_lines.specs.declared.lines.TheConstants.{SHORT_LINE}
-use Rattle.page_lines.specs.declared.selection.TheConstants.{TAG_LINE}
+use Rattle.pages.specs.declared.lines.TheConstants.{SHORT_LINE}
+use Rattle.pages.specs.declared.selection.TheConstants.{TAG_LINE}
 use Rattle.pages.specs.Printing.{most_printed}
 
 -- ## Digits

@@ -1,4 +1,8 @@
-pub mod Cases
+pub mod Selecting
+pub mod Lines
+pub mod Status
+pub mod Stored
+pub mod Texts
 pub mod Listing
 pub mod LivingCells
 pub mod Printing

@@ -1,17 +1,30 @@
-// Which nations are living.
-ghost use Rattle.std.specs.Prelude.{◌≡◌, ◌++◌, ◌≤◌, length, drop};
-ghost use Rattle.rules.specs.NationRows.{nation_rows_in};
-ghost use Rattle.pages.specs.LivingCells.{living_cells};
+//! Whether a nation is living.
+ghost use Rattle.std.specs.Prelude.{◌≡◌};
+ghost use Rattle.rules.specs.Page.{is_living};
+ghost use Rattle.pages.specs.Status.{lives_on, nation_with};
 
-use chronicle_rows::Nations;
-use page_text::is_living;
+use format::{EntryKind, NationRow};
+use rows::NationEntries;
 
-// Marks the nations that are living, a cell for each row: by index, since a proof knows no cell that is written through a `zip` with `iter_mut`.
-pub(crate) fn fill_living(nations: &[u32], entries: &[u32], cells: &mut [bool])
-    requires { length (nation_rows_in nations.now) ≤ length cells.old }
-    ensures { cells.new ≡ living_cells nations.now entries.now ++ drop (length (living_cells nations.now entries.now)) cells.old }
+// Whether it lives on behind an entry of this kind: a switch changes nothing.
+fn lives_on(living: bool, kind: EntryKind) -> bool
+    ensures { result ≡ lives_on living kind }
 {
-    for (i, nation) in Nations::of(nations).enumerate() {
-        cells[i] = is_living(entries, nation);
+    match kind {
+        EntryKind::TagSwitch(_) => living,
+        EntryKind::Appeared => true,
+        EntryKind::Annexed => false,
     }
+}
+
+// Whether a nation is living: unless Annexed came last of what is no switch.
+#[tactic(auto, using(crate::proofs::StatusLaws::living_along))]
+pub(crate) fn is_living(entries: &[u32], nation: NationRow) -> bool
+    ensures { result ≡ is_living (nation_with entries.now nation) }
+{
+    let mut living = true;
+    for entry in NationEntries::new(nation, entries) {
+        living = lives_on(living, entry.kind);
+    }
+    living
 }

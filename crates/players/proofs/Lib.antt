@@ -1,3 +1,15 @@
+pub mod PutLaws
+pub mod DraftLaws
+pub mod ArrangeStepLaws
+pub mod ArrangeLaws
+pub mod MarkLaws
+pub mod PlayerKeyLaws
+pub mod DraftingLaws
+pub mod NameLaws
+pub mod HistoryDraftLaws
+pub mod ArrangedLaws
+pub mod HistoryOutcomeLaws
+pub mod LackLaws
 pub mod PairLaws
 pub mod PlayerLaws
 pub mod WalkLaws

@@ -17,22 +17,21 @@ use Rattle.lists.proofs.WriteLaws.{Writing, behind, writing_more}
 use Rattle.format.specs.declared.tag.CountryTag.{CountryTag}
 use Rattle.format.specs.Tags.{created}
 use Rattle.format.specs.Campaign.{campaign_of}
-use Rattle.format.specs.Refusal.{refusal, first_of}
-use Rattle.format.specs.Refused.{refusal_number}
+use Rattle.format.specs.RecordNumber.{refusal, first_of}
+use Rattle.format.specs.RefusalNumber.{refusal_number}
 use Rattle.format.specs.declared.refused.Refusal.{Refusal}
 use Rattle.format.specs.declared.refused.Refusal.TheVariants.{NoRoom}
 use Rattle.format.proofs.FirstLaws.{first-stop, first-pass, first_one}
 use Rattle.format.proofs.SoundLaws.{sound}
 use Rattle.record.specs.declared.opened.Record.{Record}
-use Rattle.record.specs.Opened.{RightlyOpened}
-use Rattle.format.proofs.RefusedLaws.{refuses}
+use Rattle.format.proofs.RefusalNumberLaws.{refuses}
 use Rattle.record.specs.Cursors.{strings_left}
-use Rattle.rules.specs.Lent.{written, fits, room_number}
-use Rattle.rules.specs.Players.{Pair, pairs_from, Player, is_anonymous, tagged_player, player_of, players_of, player_words, player_rows, player_width}
+use Rattle.rules.specs.Lent.{outcome_of, written, fits, room_number}
+use Rattle.format.specs.declared.values.Player.{Player}
+use Rattle.rules.specs.Players.{Pair, pairs_from, is_anonymous, tagged_player, player_of, players_of, player_words, player_rows, player_width}
 use Rattle.rules.specs.PlayerOutcomes.{call_players}
 use Rattle.rules.proofs.LentLaws.{outcome-refused, outcome-gives}
-use Rattle.chronicle_rows.specs.RowAt.{row_put}
-use Rattle.players.specs.Cases.{players_outcome}
+use Rattle.rows.specs.RowAt.{row_put}
 
 -- ## How many players
 
@@ -107,12 +106,11 @@ pub record PlayersTold (xs : List ℕ) (left : List Player) : Type 0 where
   pub all : left ≡ players_of (campaign_of xs)
   pub few : length left ≤ 1000
 
-pub players-told : (xs : List ℕ) (r : Record) (left : List Player) → RightlyOpened xs (Ok r)
-    → left ≡ join_of (player_of r.multiplayer) (pairs_from 0 (strings_left r.strings)) → PlayersTold xs left
+pub players-told : (r : Record) (left : List Player) → left ≡ join_of (player_of r.multiplayer) (pairs_from 0 (strings_left r.strings)) → PlayersTold r.bytes.now left
 unfolding players_of
-players-told xs r left o e =
-    let all : left ≡ players_of (campaign_of xs) = e ∙ rw (o.rows.multiplayer, o.rows.strings) in
-    record { accepted = sym o.number; all = all; few = omega (arith, ap length all, players-few xs (sym o.number)) }
+players-told r left e =
+    let all : left ≡ players_of (campaign_of r.bytes.now) = e ∙ rw (r.told.multiplayer, r.told.strings) in
+    record { accepted = r.accepted; all = all; few = omega (arith, ap length all, players-few r.bytes.now r.accepted) }
 
 module _ (xs before : List ℕ) where
   players : List Player
@@ -126,7 +124,7 @@ module _ (xs before : List ℕ) where
   unfolding rows players
   number = first_of (refusal xs ∷ room_number (fits rows before) ∷ [])
 
-  pub players_refused : (e : Refusal) → refusal_number e ≡ refusal xs → players_outcome (Err e) before ≡ call_players xs before
+  pub players_refused : (e : Refusal) → refusal_number e ≡ refusal xs → outcome_of (λ (m : ℕ). m) (Err e) before ≡ call_players xs before
   unfolding call_players number rows players
   players_refused e t =
       let above = refuses e in
@@ -137,14 +135,14 @@ module _ (xs before : List ℕ) where
     size : n ≡ length (players_of (campaign_of xs))
     size = counted ∙ ap length told.all
 
-    pub players_short : length before < player_width * n → players_outcome (Err NoRoom) before ≡ call_players xs before
+    pub players_short : length before < player_width * n → outcome_of (λ (m : ℕ). m) (Err NoRoom) before ≡ call_players xs before
     unfolding call_players number rows players
     players_short h =
         let short : fits rows before ≡ false = lt-leb (length rows) (length before) (omega (arith, length-player_rows players, size)) in
         let first : number ≡ 10 = first-pass (refusal xs) _ told.accepted ∙ first_one _ ∙ ap room_number short in
         sym (rw first (outcome-refused 10 (length players) (written rows before) before (omega arith)))
 
-    pub players_rows : (after : List ℕ) → player_width * n ≤ length before → after ≡ written (player_rows left) before → players_outcome (Ok n) after ≡ call_players xs before
+    pub players_rows : (after : List ℕ) → player_width * n ≤ length before → after ≡ written (player_rows left) before → outcome_of (λ (m : ℕ). m) (Ok n) after ≡ call_players xs before
     unfolding call_players number rows players
     players_rows after h e =
         let room : fits rows before ≡ true = le-leb (length rows) (length before) (omega (arith, length-player_rows players, size)) in

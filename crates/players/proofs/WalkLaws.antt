@@ -7,16 +7,15 @@ use denote.Param.Members.{Mut, Called}
 use Rattle.std.specs.Prelude as code
 use Rattle.std.specs.Prelude.{Some, None, IfSome, IsTrue, MatchOption, slice_get}
 use Rattle.std.specs.List.{FoldsTo}
-use Rattle.std.specs.Iterator.{YieldsFirstBy, Yields}
+use Rattle.std.specs.Iterator.{YieldsFirst, YieldsFirstBy, Yields}
 use Rattle.std.specs.Iterator.Runs.{Run, YieldsRun, SomeRun, AllItemsGive}
 use Rattle.lists.specs.Lists.{join_of}
-use Rattle.rules.specs.Players as R
 use Rattle.rules.specs.Players.{player_of}
 use Rattle.players.specs.declared.pairs.Pair.{Pair}
 use Rattle.players.specs.declared.pairs.Pairs.{Pairs}
-use Rattle.players.specs.declared.walk.Player.{Player}
+use Rattle.format.specs.declared.values.Player.{Player}
 use Rattle.players.specs.PairSteps.{pair_of, pairs_left}
-use Rattle.players.specs.PlayerSteps.{player_in, players_made}
+use Rattle.players.specs.PlayerSteps.{players_made}
 
 abbrev pair_steps : Pairs → code.Option Pair → Pairs → Type 0
 pair_steps = YieldsFirstBy pair_of pairs_left
@@ -24,7 +23,7 @@ pair_steps = YieldsFirstBy pair_of pairs_left
 -- The closure gives the player of a pair, and stays as it was.
 module _ {F : Type 0} (g : Mut F (Pair × Unit {0}) (code.Option Player)) (multiplayer : Bool) (f : F)
     (called : (x : Pair) (r : code.Option Player) (q : F) → Called g f (x, tt) r q → (q ≡ f) × (players_made r ≡ player_of multiplayer (pair_of x))) where
-  abbrev told : Pairs → List R.Player
+  abbrev told : Pairs → List Player
   told it = join_of (player_of multiplayer) (pairs_left it)
 
   pair-goes : (x : Pair) (r : code.Option Player) (q : F) (s t : Pairs) → Called g f (x, tt) r q → pairs_left s ≡ pair_of x ∷ pairs_left t → told s ≡ players_made r ++ told t
@@ -56,10 +55,10 @@ module _ {F : Type 0} (g : Mut F (Pair × Unit {0}) (code.Option Player)) (multi
   pub player-found : (xs : List Pair) (o : code.Option Pair) (q : F) (s t u : Pairs) (r : code.Option Player) (Q : Run pair_steps → Player → Type 0)
       → Yields pair_steps s xs t → pair_steps t o u → FoldsTo (λ a x b. Called g a (x, tt) None b) f xs q
       → MatchOption o (r ≡ None) (λ x. (h : F) × Called g q (x, tt) r h) → SomeRun pair_steps s (λ run. MatchOption r (IsTrue run.whole × AllItemsGive run g f None) (Q run))
-      → YieldsFirstBy player_in (λ (ps : List R.Player). ps) (told s) r (told u)
+      → YieldsFirst (λ (ps : List Player). ps) (told s) r (told u)
   player-found xs None q s t u r Q y e z d w =
       let p = passed xs s t f q refl y z in
-      subst (λ (o : code.Option Player). YieldsFirstBy player_in (λ (ps : List R.Player). ps) (told s) o (told u)) (sym d)
+      subst (λ (o : code.Option Player). YieldsFirst (λ (ps : List Player). ps) (told s) o (told u)) (sym d)
       (p.0 ∙ ap (join_of (player_of multiplayer)) e.0, ap (join_of (player_of multiplayer)) e.1)
   player-found xs (Some x) q s t u None Q y e z d w =
       let p = passed xs s t f q refl y z in

@@ -1,3 +1,10 @@
-pub mod Cases
+pub mod ArrangedDrafts
+pub mod CountryDrafts
+pub mod DraftParts
+pub mod Drafts
+pub mod LackSteps
+pub mod LentSlices
+pub mod Marks
 pub mod PairSteps
 pub mod PlayerSteps
+pub mod TagTables

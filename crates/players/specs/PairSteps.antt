@@ -1,4 +1,4 @@
--- How the code walks strings in pairs: inner steps, which no promise of a call of 01 cites.
+-- How the code walks strings in pairs: inner steps.
 use Rattle.std.specs.Prelude.{List}
 use Rattle.record.specs.Cursors.{strings_left}
 use Rattle.rules.specs.Players as R

@@ -1,4 +1,4 @@
-// Strings in pairs: the name of a player, and behind it a text that may be a tag.
+//! Strings in pairs: the name of a player, and behind it a text that may be a tag.
 ghost use Rattle.std.specs.Prelude.{◌+◌, ◌≤◌, length};
 ghost use Rattle.record.specs.Cursors.{strings_left};
 
@@ -30,7 +30,7 @@ impl<'a> Pairs<'a> {
     ghost use Rattle.players.specs.PairSteps.{pairs_left};
 
     // The pairs of all these strings.
-    pub(crate) fn of(strings: Strings<'a>) -> Self
+    pub(crate) fn new(strings: Strings<'a>) -> Self
         ensures { pairs_left result ≡ pairs_from 0 (strings_left strings.entry) }
     {
         Pairs { number: 0, strings }

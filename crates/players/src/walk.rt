@@ -1,26 +1,20 @@
-// A walk over the players of a campaign: the pairs that name somebody and a tag.
+//! A walk over the players of a campaign: the pairs that name somebody and a tag.
 ghost use Rattle.std.specs.Prelude.{◌≡◌};
-ghost use Rattle.std.specs.Iterator.{YieldsFirstBy, item_count};
+ghost use Rattle.std.specs.Iterator.{YieldsFirst, item_count};
 ghost use Rattle.lists.specs.Lists.{same_numbers, join_of};
 ghost use Rattle.lists.specs.Text.{ascii};
 ghost use Rattle.record.specs.Cursors.{strings_left};
 ghost use Rattle.rules.specs.Players.{pairs_from, player_of};
 ghost use Rattle.players.specs.PairSteps.{pair_of};
-ghost use Rattle.players.specs.PlayerSteps.{player_in, players_made, players_left};
+ghost use Rattle.players.specs.PlayerSteps.{players_made, players_left};
 
 use crate::pairs::{Pair, Pairs};
-use record::{CountryTag, Strings};
-
-// A player: the string number of the name, and the tag.
-#[derive(Clone, Copy, Debug, PartialEq, Eq)]
-pub struct Player {
-    pub name: u32,
-    pub tag: CountryTag,
-}
+use format::{CountryTag, Player};
+use record::Strings;
 
 // An iterator over players, in string order.
 #[derive(Clone, Copy)]
-pub struct PlayersOf<'a> {
+pub(crate) struct PlayersOf<'a> {
     pairs: Pairs<'a>,
     multiplayer: bool,
 }
@@ -49,12 +43,12 @@ fn player_of(pair: Pair, multiplayer: bool) -> Option<Player>
 }
 
 impl<'a> PlayersOf<'a> {
-    // The players that these strings tell.
-    pub fn of(strings: Strings<'a>, multiplayer: bool) -> Self
+    /// The players that these strings tell.
+    pub fn new(strings: Strings<'a>, multiplayer: bool) -> Self
         ensures { players_left result ≡ join_of (player_of multiplayer) (pairs_from 0 (strings_left strings.entry)) }
     {
         PlayersOf {
-            pairs: Pairs::of(strings),
+            pairs: Pairs::new(strings),
             multiplayer,
         }
     }
@@ -63,7 +57,7 @@ impl<'a> PlayersOf<'a> {
 impl Iterator for PlayersOf<'_> {
     type Item = Player;
 
-    ghost next_gives = { YieldsFirstBy player_in players_left };
+    ghost next_gives = { YieldsFirst players_left };
 
     ghost remaining = { item_count players_left };
 

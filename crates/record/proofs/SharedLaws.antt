@@ -17,7 +17,7 @@ use Rattle.format.specs.declared.packed.PackedLedger.{PackedLedger}
 use Rattle.format.specs.Head.{head_of, within_limits, events_at, points_at, owner_event_bytes, point_bytes}
 use Rattle.format.specs.Rows.{owner_event_at, point_at}
 use Rattle.format.specs.Campaign.{country_rows, province_rows, war_rows, ledger_rows, owner_events, points, group_provinces, group_ledgers}
-use Rattle.format.specs.Refusal.{refusal, totals_agree, length_agrees, sizes_agree}
+use Rattle.format.specs.RecordNumber.{refusal, totals_agree, length_agrees, sizes_agree}
 use Rattle.format.proofs.AcceptLaws.{accepted, accepted-laid}
 use Rattle.format.proofs.RowLaws.{rows_all}
 

@@ -8,7 +8,7 @@ use Rattle.lists.specs.Lists.{join_of, sum_of}
 use Rattle.format.specs.Head.{head_of, provinces_at, province_bytes}
 use Rattle.format.specs.Rows.{province_at}
 use Rattle.format.specs.Campaign.{province_rows, owner_events, campaign_of}
-use Rattle.format.specs.Refusal.{refusal}
+use Rattle.format.specs.RecordNumber.{refusal}
 use Rattle.format.proofs.AcceptLaws.{accepted, accepted-laid}
 use Rattle.format.proofs.BoundLaws.{events-bytes, switches-bytes}
 use Rattle.format.proofs.CampaignLaws.{provinces-length}

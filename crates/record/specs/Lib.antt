@@ -1,4 +1,5 @@
 pub mod Narrow
 pub mod Width
 pub mod Cursors
+pub mod Told
 pub mod Opened

@@ -1,15 +1,15 @@
-// Iterators over the rows of a record that own others. Such a row comes with an iterator over what it owns. Four types and no generic one: countries
-// share two kinds of rows, provinces have facts beside them, a war is its events alone, and ledgers tell points by number; what is the same is two
-// lines of each `next`, and the one line of `len`, which wars do without.
+//! Iterators over the rows of a record that own others. Such a row comes with an iterator over what it owns. Four types and no generic one: countries
+//! share two kinds of rows, provinces have facts beside them, a war is its events alone, and ledgers tell points by number; what is the same is two
+//! lines of each `next`, and the one line of `len`, which wars do without.
 ghost use Rattle.std.specs.Prelude.{◌≡◌, length};
 ghost use Rattle.std.specs.Iterator.{YieldsFirstBy, item_count};
 ghost use Rattle.record.specs.Cursors.{country_of, countries_left, war_events_left, wars_left};
 
 use crate::rows::{PreviousTags, Rows, Switches, WarEvents};
 use format::{CountryTag, PackedCountry};
-use record_head::bit;
+use record_check::bit;
 
-// A country's row, with what it owns.
+/// A country's row, with what it owns.
 #[derive(Clone, Copy)]
 pub struct CountryRow<'a> {
     pub tag: CountryTag,
@@ -21,7 +21,7 @@ pub struct CountryRow<'a> {
     pub switches: Switches<'a>,
 }
 
-// The countries left, and the previous tags and the switches that they share.
+/// The countries left, and the previous tags and the switches that they share.
 #[derive(Clone, Copy)]
 pub struct Countries<'a> {
     pub(crate) rows: Rows<'a, PackedCountry, 12>,
@@ -31,7 +31,7 @@ pub struct Countries<'a> {
 
 #[tactic(auto, using(crate::proofs::CountLaws::counts))]
 impl Countries<'_> {
-    // How many country rows are left.
+    /// How many country rows are left.
     pub fn len(&self) -> usize
         ensures { result ≡ length (countries_left self.now) }
     {
@@ -63,7 +63,7 @@ impl<'a> Iterator for Countries<'a> {
     }
 }
 
-// The wars left, each told by its events, and the events that they share.
+/// The wars left, each told by its events, and the events that they share.
 #[derive(Clone, Copy)]
 pub struct Wars<'a> {
     pub(crate) rows: Rows<'a, u32, 2>,

@@ -1,4 +1,4 @@
-// An iterator over the ledger names, each with its points.
+//! An iterator over the ledger names, each with its points.
 ghost use Rattle.std.specs.Prelude.{◌≡◌, map, length};
 ghost use Rattle.lists.specs.Lists.{sum_of};
 ghost use Rattle.format.specs.Rows.{ledger_at, point_at};
@@ -6,14 +6,14 @@ ghost use Rattle.format.specs.Rows.{ledger_at, point_at};
 use crate::rows::{Points, Rows};
 use format::{CountryTag, PackedLedger};
 
-// A ledger name's row, with its points.
+/// A ledger name's row, with its points.
 #[derive(Clone, Copy)]
 pub struct LedgerRow<'a> {
     pub tag: CountryTag,
     pub points: Points<'a>,
 }
 
-// The ledger names left, and the points that they share, of which there are as many as the names count.
+/// The ledger names left, and the points that they share, of which there are as many as the names count.
 #[derive(Clone, Copy)]
 pub struct Ledgers<'a> {
     pub(crate) rows: Rows<'a, PackedLedger, 5>,
@@ -27,14 +27,14 @@ impl<'a> Ledgers<'a> {
     ghost use Rattle.lists.specs.Lists.{join_of};
     ghost use Rattle.record.specs.Cursors.{ledgers_left, points_left};
 
-    // How many ledger names are left.
+    /// How many ledger names are left.
     pub fn len(&self) -> usize
         ensures { result ≡ length (ledgers_left self.now) }
     {
         self.rows.len()
     }
 
-    // So many of the points of all names left, one name's behind the other's, from a number on; as far as there are any.
+    /// So many of the points of all names left, one name's behind the other's, from a number on; as far as there are any.
     pub fn points_from(&self, first: usize, n: usize) -> Points<'a>
         ensures { points_left result ≡ take n (drop first (join_of (λ l. l.points) (ledgers_left self.now))) }
     {

@@ -1,5 +1,4 @@
-// The packed record of a campaign: its check, and its rows for the layer above. Crates format, record_head, record_fields and record_check
-// have its types, its head, the tests of its fields, and the check.
+//! The packed record of a campaign: its check, and its rows for the layer above. Crate format has its types, and record_check its check.
 #![tactic(auto)]
 
 mod cursors;
@@ -15,7 +14,7 @@ pub use format::{
     WarEvent,
 };
 pub use ledger::{LedgerRow, Ledgers};
-pub use opened::{Record, open_record};
+pub use opened::Record;
 pub use provinces::{ProvinceRow, Provinces};
 pub use record_check::check;
 pub use rows::{OwnerEvents, Points, PreviousTags, ROW_BYTES, Rows, Switches, WarEvents};

@@ -1,4 +1,4 @@
-// An iterator over the provinces, each with its owner events.
+//! An iterator over the provinces, each with its owner events.
 ghost use Rattle.std.specs.Prelude.{◌≡◌, true, map, length};
 ghost use Rattle.lists.specs.Lists.{all_of, sum_of};
 ghost use Rattle.format.specs.Rows.{province_at, owner_event_at};
@@ -7,7 +7,7 @@ ghost use Rattle.record.specs.Narrow.{narrow_id, narrow_tag};
 use crate::rows::{OwnerEvents, ROW_BYTES, Rows};
 use format::{CountryTag, PackedProvince, ProvinceId};
 
-// A province's row, with its owner events.
+/// A province's row, with its owner events.
 #[derive(Clone, Copy)]
 pub struct ProvinceRow<'a> {
     pub id: ProvinceId,
@@ -15,8 +15,8 @@ pub struct ProvinceRow<'a> {
     pub events: OwnerEvents<'a>,
 }
 
-// The provinces left, and the owner events that they share, of which there are as many as the provinces count; their ids and tags are as small as
-// their bytes allow.
+/// The provinces left, and the owner events that they share, of which there are as many as the provinces count; their ids and tags are as small as
+/// their bytes allow.
 #[derive(Clone, Copy)]
 pub struct Provinces<'a> {
     pub(crate) rows: Rows<'a, PackedProvince, ROW_BYTES>,
@@ -30,14 +30,14 @@ pub struct Provinces<'a> {
 impl Provinces<'_> {
     ghost use Rattle.record.specs.Cursors.{provinces_left};
 
-    // How many province rows are left.
+    /// How many province rows are left.
     pub fn len(&self) -> usize
         ensures { result ≡ length (provinces_left self.now) }
     {
         self.rows.len()
     }
 
-    // How many owner events the provinces left have.
+    /// How many owner events the provinces left have.
     pub fn events_left(&self) -> usize
         ensures { result ≡ sum_of (λ p. length p.events) (provinces_left self.now) }
     {

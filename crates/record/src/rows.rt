@@ -1,38 +1,38 @@
-// Rows of one width that own nothing, one by one in their order.
+//! Rows of one width that own nothing, one by one in their order.
 ghost use Rattle.std.specs.Prelude.{◌≡◌, length, map, take, drop};
 ghost use Rattle.std.specs.Iterator.{YieldsFirst, item_count};
 
 use format::{CountryTag, OwnerEvent, Packed, Point, Switch, WarEvent};
 use std::marker::PhantomData;
 
-// An iterator over rows, which are read as they are asked for.
+/// An iterator over rows, which are read as they are asked for.
 #[derive(Clone, Copy)]
 pub struct Rows<'a, R, const WIDTH: usize> {
     pub(crate) packed: &'a [[u8; WIDTH]],
     pub(crate) told: PhantomData<R>,
 }
 
-// How many bytes a row of a switch, of an owner event or of a province takes. One of a country takes more, and so does the head.
+/// How many bytes a row of a switch, of an owner event or of a province takes. One of a country takes more, and so does the head.
 pub const ROW_BYTES: usize = 7;
 
-// A country's previous tags.
+/// A country's previous tags.
 pub type PreviousTags<'a> = Rows<'a, CountryTag, 3>;
 
-// A country's switches.
+/// A country's switches.
 pub type Switches<'a> = Rows<'a, Switch, ROW_BYTES>;
 
-// A province's owner events.
+/// A province's owner events.
 pub type OwnerEvents<'a> = Rows<'a, OwnerEvent, ROW_BYTES>;
 
-// A war's events.
+/// A war's events.
 pub type WarEvents<'a> = Rows<'a, WarEvent, 8>;
 
-// A ledger's points.
+/// A ledger's points.
 pub type Points<'a> = Rows<'a, Point, 6>;
 
 impl<'a, R: Packed<WIDTH>, const WIDTH: usize> Rows<'a, R, WIDTH> {
     // The rows that stand so in the bytes.
-    pub(crate) fn of(packed: &'a [[u8; WIDTH]]) -> Self
+    pub(crate) fn new(packed: &'a [[u8; WIDTH]]) -> Self
         ensures { map R.unpacked result.packed.now ≡ map R.unpacked packed.now }
     {
         Rows {
@@ -41,7 +41,7 @@ impl<'a, R: Packed<WIDTH>, const WIDTH: usize> Rows<'a, R, WIDTH> {
         }
     }
 
-    // How many rows are left.
+    /// How many rows are left.
     pub fn len(&self) -> usize
         ensures { result ≡ length (map R.unpacked self.now.packed.now) }
     {
@@ -55,7 +55,7 @@ impl<'a, R: Packed<WIDTH>, const WIDTH: usize> Rows<'a, R, WIDTH> {
     {
         let (front, rest) = self.packed.split_at(n.min(self.packed.len()));
         self.packed = rest;
-        Rows::of(front)
+        Rows::new(front)
     }
 }
 

@@ -1,8 +1,8 @@
-// An iterator over the strings, which vary in width.
+//! An iterator over the strings, which vary in width.
 ghost use Rattle.std.specs.Prelude.{◌≤◌};
 
-// So many strings, and the bytes that they stand in. The number stands beside the bytes, and no fact ties the two: `next` ends where either does. That the
-// strings can be numbered in a word (players) follows from the number alone.
+/// So many strings, and the bytes that they stand in. The number stands beside the bytes, and no fact ties the two: `next` ends where either does. That the
+/// strings can be numbered in a word (players) follows from the number alone.
 #[derive(Clone, Copy)]
 pub struct Strings<'a> {
     pub(crate) bytes: &'a [u8],

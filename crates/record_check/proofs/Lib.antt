@@ -1,4 +1,10 @@
+pub mod BitsetLaws
 pub mod RepeatLaws
 pub mod TotalLaws
 pub mod StringLaws
 pub mod VerdictLaws
+pub mod DayLaws
+pub mod FirstBadLaws
+pub mod GoodLaws
+pub mod FlagLaws
+pub mod ReadLaws

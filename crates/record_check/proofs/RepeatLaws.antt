@@ -13,8 +13,8 @@ use Rattle.std.proofs.lemmas.List.{length-map, at_drop_more}
 use Rattle.lists.specs.Lists.{All, any_of, twice}
 use Rattle.lists.proofs.BoolLaws.{cases, clash}
 use Rattle.lists.proofs.ListLaws.{all_map, all_of_map, all_take, all-unmap, any-map, map-then}
-use Rattle.bitset.specs.Bitset.{is_marked, marking}
-use Rattle.bitset.proofs.BitsetLaws.{marked-after}
+use Rattle.record_check.specs.Bitset.{is_marked, marking}
+use Rattle.record_check.proofs.BitsetLaws.{marked-after}
 use Rattle.format.specs.declared.head.Head.{Head}
 use Rattle.format.specs.declared.packed.PackedCountry.{PackedCountry}
 use Rattle.format.specs.declared.packed.PackedProvince.{PackedProvince}
@@ -22,13 +22,13 @@ use Rattle.format.specs.Tags.{is_tag}
 use Rattle.format.specs.Head.{head_of, provinces_at, province_bytes}
 use Rattle.format.specs.Rows.{country_at, province_at}
 use Rattle.format.specs.Campaign.{country_rows, province_rows}
-use Rattle.format.specs.Refusal.{first_in, tag_number, country_number, head_number, fields_number, tag_twice, id_twice_or_above}
+use Rattle.format.specs.RecordNumber.{first_in, tag_number, country_number, head_number, fields_number, tag_twice, id_twice_or_above}
 use Rattle.format.proofs.TagLaws.{Range, Bytes, word-parts, tag-bytes}
 use Rattle.format.proofs.RowLaws.{rows_all}
 use Rattle.format.proofs.FirstLaws.{first-zero, rows-zero}
 use Rattle.format.proofs.AcceptLaws.{number-true}
-use Rattle.record_head.specs.declared.sections.Sections.{Sections}
-use Rattle.record_head.specs.Sections.{SectionsOf}
+use Rattle.record_check.specs.declared.sections.Sections.{Sections}
+use Rattle.record_check.specs.Sections.{SectionsOf}
 
 -- a number of the list is marked, or stands twice in it
 unfoldable pub repeats : (ℕ → Bool) → List ℕ → Bool

@@ -14,12 +14,12 @@ use Rattle.format.specs.declared.head.Head.{Head}
 use Rattle.format.specs.Bytes.{le16}
 use Rattle.format.specs.Head.{head_of, within_limits, countries_at, provinces_at, wars_at, ledgers_at, strings_at, country_bytes, province_bytes, war_bytes, ledger_bytes}
 use Rattle.format.specs.Rows.{rows_at, country_at, province_at, ledger_at, strings_end}
-use Rattle.format.specs.Refusal.{totals_agree, length_agrees, sizes_agree}
+use Rattle.format.specs.RecordNumber.{totals_agree, length_agrees, sizes_agree}
 use Rattle.format.proofs.RowLaws.{rows-counted}
 use Rattle.format.proofs.HeadLaws.{limits_of}
 use Rattle.format.proofs.SizeLaws.{strings-end-grows}
-use Rattle.record_head.specs.declared.sections.Sections.{Sections}
-use Rattle.record_head.specs.Sections.{SectionsOf}
+use Rattle.record_check.specs.declared.sections.Sections.{Sections}
+use Rattle.record_check.specs.Sections.{SectionsOf}
 use Rattle.record_check.specs.Few.{FewRows}
 use Rattle.record_check.proofs.StringLaws.{filled, filled-behind}
 

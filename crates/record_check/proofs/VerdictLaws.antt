@@ -6,9 +6,9 @@ use mathlib.Core.Bool.{Bool, true, false, cond}
 use mathlib.Core.List.{List}
 use Prim.Native.Nat.{ℕ}
 use Rattle.format.specs.declared.refused.Refusal.{Refusal}
-use Rattle.format.specs.Refused.{refusal_number}
-use Rattle.format.specs.Refusal.{refusal}
-use Rattle.record_head.specs.declared.parsed.Parsed.{Parsed}
+use Rattle.format.specs.RefusalNumber.{refusal_number}
+use Rattle.format.specs.RecordNumber.{refusal}
+use Rattle.record_check.specs.declared.parsed.Parsed.{Parsed}
 use Rattle.record_check.specs.Accepted.{RightlyAccepted}
 
 -- a number that stands for a test that fails, or for one that holds

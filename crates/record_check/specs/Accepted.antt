@@ -1,12 +1,12 @@
--- An accepted record: refused by its number exactly when 01 refuses it, else its head and the rows of its sections.
+-- An accepted record: refused by its number exactly when the rules refuse it, else its head and the rows of its sections.
 use Rattle.std.specs.Prelude as code
 use Rattle.std.specs.Prelude.{◌≡◌, List, ℕ, IfOk}
 use Rattle.format.specs.declared.refused.Refusal.{Refusal}
 use Rattle.format.specs.Head.{head_of}
-use Rattle.format.specs.Refused.{number_of}
-use Rattle.format.specs.Refusal.{refusal}
-use Rattle.record_head.specs.Sections.{SectionsOf}
-use Rattle.record_head.specs.declared.parsed.Parsed.{Parsed}
+use Rattle.format.specs.RefusalNumber.{number_of}
+use Rattle.format.specs.RecordNumber.{refusal}
+use Rattle.record_check.specs.Sections.{SectionsOf}
+use Rattle.record_check.specs.declared.parsed.Parsed.{Parsed}
 
 -- What `accept` promises.
 pub record RightlyAccepted (xs : List ℕ) (r : code.Result Parsed Refusal) : Type 0 where

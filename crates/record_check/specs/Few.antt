@@ -2,7 +2,7 @@
 -- No public promise cites it.
 use Rattle.std.specs.Prelude.{◌≤◌, length}
 use Rattle.format.specs.declared.limits.TheConstants.{MOST_PROVINCES}
-use Rattle.record_head.specs.declared.sections.Sections.{Sections}
+use Rattle.record_check.specs.declared.sections.Sections.{Sections}
 
 pub record FewRows (z : Sections) : Type 0 where
   pub countries : length z.countries.now ≤ MOST_PROVINCES

@@ -1,2 +1,5 @@
+pub mod Bitset
 pub mod Accepted
 pub mod Few
+pub mod Tables
+pub mod Sections

@@ -1,14 +1,15 @@
-// Number 7: a country tag or a province id twice, or an id above P. Marks find a repeat in one pass: bits for the many tags,
-// and for the few ids a whole byte each, which is quicker.
+//! Number 7: a country tag or a province id twice, or an id above P. Marks find a repeat in one pass: bits for the many tags,
+//! and for the few ids a whole byte each, which is quicker.
 ghost use Rattle.std.specs.Prelude.{◌≡◌, ◌+◌, ◌-◌, ◌*◌, ◌/◌, ◌%◌, ◌||◌, true, ltb, map, length, ◌≤◌};
 ghost use Rattle.lists.specs.Lists.{All, any_of, twice};
 ghost use Rattle.format.specs.Tags.{is_tag};
 ghost use Rattle.format.specs.Rows.{country_at, province_at};
-ghost use Rattle.format.specs.Refusal.{tag_twice, id_twice_or_above};
+ghost use Rattle.format.specs.RecordNumber.{tag_twice, id_twice_or_above};
 ghost use Rattle.record_check.specs.Few.{FewRows};
 
+use crate::bitset;
+use crate::parsed::Parsed;
 use format::{CountryTag, MOST_PROVINCES, Packed, PackedCountry, PackedProvince};
-use record_head::Parsed;
 
 // A tag's place among all tags, of 76 for each byte, where `-` is 45 and the next tag byte 48: the fewer there are, the smaller the stack that a
 // thread needs for the check. By division, as the test of a tag is: the promise is of any word.
@@ -34,10 +35,10 @@ fn tag_twice(rows: &[[u8; 12]]) -> bool
     let mut seen = [0u64; 6859];
     for row in rows {
         let p = place(PackedCountry::unpack(row).tag);
-        if bitset::marked(&seen, p) {
+        if bitset::contains(&seen, p) {
             return true;
         }
-        bitset::mark(&mut seen, p);
+        bitset::insert(&mut seen, p);
     }
     false
 }

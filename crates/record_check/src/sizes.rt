@@ -1,13 +1,14 @@
-// Number 3: limits, totals and length.
+//! Number 3: limits, totals and length.
 ghost use Rattle.std.specs.Prelude.{◌≡◌, ℕ, ◌≤◌, eqb, map, IfOk, length};
 ghost use Rattle.lists.specs.Lists.{sum_of};
 ghost use Rattle.format.specs.Rows.{strings_end};
-ghost use Rattle.format.specs.Refusal.{totals_agree, sizes_number};
-ghost use Rattle.format.specs.Refused.{number_of};
+ghost use Rattle.format.specs.RecordNumber.{totals_agree, sizes_number};
+ghost use Rattle.format.specs.RefusalNumber.{number_of};
 ghost use Rattle.record_check.specs.Few.{FewRows};
 
+use crate::parsed::Parsed;
+use crate::{opening, sections};
 use format::{MOST_PROVINCES, Packed, PackedCountry, PackedLedger, PackedProvince, Refusal};
-use record_head::Parsed;
 
 // The sum of a count in each row. No section whose rows own others may have more rows than the provinces. By a loop: of a
 // generic closure without clauses of its own a proof knows nothing, so that `sum` over `map` is not proved.
@@ -63,11 +64,11 @@ pub(crate) fn sizes_checked(s: &[u8]) -> Result<Parsed<'_>, Refusal>
     ensures number { number_of result ≡ sizes_number s.now }
     ensures bytes { IfOk result (λ p. p.bytes.now ≡ s.now) }
 {
-    let head = record_head::read_head(s);
-    if !record_head::within_limits(head) {
-        return Err(Refusal::WrongSizes);
+    let head = opening::read_head(s);
+    if !opening::within_limits(head) {
+        return Err(Refusal::SizesDisagree);
     }
-    let sections = record_head::sections_of(s, head).ok_or(Refusal::WrongSizes)?;
+    let sections = sections::sections_of(s, head).ok_or(Refusal::SizesDisagree)?;
     let parsed = Parsed {
         bytes: s,
         head,
@@ -76,6 +77,6 @@ pub(crate) fn sizes_checked(s: &[u8]) -> Result<Parsed<'_>, Refusal>
     if totals_agree(parsed) & strings_fill(sections.strings, head.strings) {
         Ok(parsed)
     } else {
-        Err(Refusal::WrongSizes)
+        Err(Refusal::SizesDisagree)
     }
 }

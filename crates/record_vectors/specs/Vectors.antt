@@ -1,7 +1,7 @@
 -- What a stored record comes to.
 use Rattle.std.specs.Prelude.{◌≡◌, ℕ, List, ◌∷◌, length, not, eqb}
 use Rattle.lists.specs.Lists.{one}
-use Rattle.format.specs.Refusal.{refusal}
+use Rattle.format.specs.RecordNumber.{refusal}
 use Rattle.stored_input.specs.declared.replay.Counts.{Counts}
 
 -- A case is a length, the number that the list has for the record, and the record. It is wrong if the record is refused by another number.

@@ -1,10 +1,10 @@
-// Replays the stored records of vectors.bin, each a length in 32 bits, its expected number and its bytes, and counts the wrong answers.
+//! Replays the stored records of vectors.bin, each a length in 32 bits, its expected number and its bytes, and counts the wrong answers.
 #![tactic(auto)]
 
 ghost use Rattle.std.specs.Prelude.{◌≡◌, not, eqb};
-ghost use Rattle.format.specs.Refusal.{refusal};
+ghost use Rattle.format.specs.RecordNumber.{refusal};
 
-use record::Refusal;
+use format::Refusal;
 use std::io;
 use std::io::Read;
 use stored_input::{BrokenOff, Counts, Replay, read_part, replay_file, stored_answer};

@@ -1,2 +1,15 @@
+pub mod ClaimLaws
+pub mod ResolvedLaws
+pub mod AskedLaws
+pub mod KeyLaws
+pub mod BlockLaws
+pub mod LookLaws
+pub mod AnsweredLaws
+pub mod PassLaws
+pub mod BestLaws
+pub mod GoodLaws
+pub mod RowsLaws
+pub mod HoldingLaws
+pub mod ResolveEachLaws
 pub mod WornLaws
 pub mod ResolverAnswerLaws

@@ -12,25 +12,25 @@ use Rattle.std.specs.List.{list_all}
 use Rattle.lists.proofs.BoolLaws.{cases}
 use Rattle.format.specs.declared.tag.CountryTag.{CountryTag}
 use Rattle.format.specs.declared.date.Eu4Date.{Eu4Date}
-use Rattle.format.specs.Refusal.{first_of}
+use Rattle.format.specs.RecordNumber.{first_of}
 use Rattle.format.specs.Tags.{is_tag}
 use Rattle.format.specs.Dates.{good_date}
 use Rattle.format.specs.declared.refused.Refusal.{Refusal}
-use Rattle.format.specs.Refused.{refusal_number}
+use Rattle.format.specs.RefusalNumber.{refusal_number}
 use Rattle.format.proofs.FirstLaws.{first-zero, first-pass, first-stop}
-use Rattle.format.proofs.RefusedLaws.{refuses}
-use Rattle.rules.specs.Lent.{refused, gives, answered}
+use Rattle.format.proofs.RefusalNumberLaws.{refuses}
+use Rattle.rules.specs.Lent.{refused, gives, answered, answer_of}
 use Rattle.rules.specs.NationRows.{well_shaped}
-use Rattle.rules.specs.Refusals.{chronicle_number, asked_tag_number, asked_date_number}
-use Rattle.rules.specs.Resolver.{TagData, plain_data, day_data, switched_data, resolve, initial, resolve_on, initial_on}
+use Rattle.rules.specs.CallNumbers.{chronicle_number, asked_tag_number, asked_date_number}
+use Rattle.format.specs.declared.values.TagData.{TagData}
+use Rattle.rules.specs.Resolver.{plain_data, day_data, switched_data, resolve, initial, resolve_on, initial_on}
 use Rattle.rules.specs.Outcomes.{call_resolve, call_initial, call_resolve_on, call_initial_on}
 use Rattle.rules.proofs.LentLaws.{answered-refused, answered-gives}
-use Rattle.claims.specs.declared.claims.Claim.{Claim}
-use Rattle.claims.specs.Claims.{initial_claims, claims_in, best_of, last_to, plain_of}
-use Rattle.resolver.specs.declared.forms.TagData as Found
-use Rattle.resolver.specs.Cases.{resolved_answer}
+use Rattle.resolver.specs.declared.claims.Claim.{Claim}
+use Rattle.resolver.specs.Claims.{initial_claims, claims_in, best_of, last_to, plain_of}
+use Rattle.lists.specs.Options.{option_of}
 use Rattle.resolver.specs.Found.{asked_number, day_of, switched_of}
-use Rattle.claims.proofs.ResolvedLaws.{claim_nation, map-twice, claim-resolved, claim-initial}
+use Rattle.resolver.proofs.ResolvedLaws.{claim_nation, map-twice, claim-resolved, claim-initial}
 
 -- ## The tests of a question
 
@@ -81,8 +81,8 @@ module _ (ws es : List ℕ) (day : Eu4Date) (tag : CountryTag) (dates : List Eu4
   day-in-front = sym (day-first (well_shaped ws es) (good_date day) (is_tag tag) (List.map (λ (d : Eu4Date). asked_date_number d.0) dates))
 
 -- What `?` returns, where a test refused.
-pub question-refused : (r : code.Result (code.Option Found.TagData) Refusal) (e : Refusal) (n : ℕ) (values : Option TagData) → IsErr r × IsErrAnd r (λ x. x ≡ e)
-    → refusal_number e ≡ n → resolved_answer r ≡ answered n values
+pub question-refused : (r : code.Result (code.Option TagData) Refusal) (e : Refusal) (n : ℕ) (values : Option TagData) → IsErr r × IsErrAnd r (λ x. x ≡ e)
+    → refusal_number e ≡ n → answer_of option_of r ≡ answered n values
 question-refused (Ok x) e n values h k = absurd h.1
 question-refused (Err x) e n values h k = rw h.1 (ap refused k ∙ sym (answered-refused n values (omega (arith, k, refuses e))))
 

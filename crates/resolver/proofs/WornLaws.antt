@@ -7,7 +7,7 @@ use Rattle.lists.specs.Lists.{leading, last_or, last, or_else}
 use Rattle.format.specs.declared.tag.CountryTag.{CountryTag}
 use Rattle.format.specs.declared.date.Eu4Date.{Eu4Date}
 use Rattle.format.specs.Dates.{not_after}
-use Rattle.rules.specs.Chronicle.{Entry}
+use Rattle.format.specs.declared.values.Entry.{Entry}
 use Rattle.rules.specs.Nations.{kind_target, targets}
 
 -- ## Entry by entry

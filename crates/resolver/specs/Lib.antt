@@ -1,2 +1,7 @@
-pub mod Cases
+pub mod Claims
+pub mod Asked
+pub mod Layout
+pub mod Keys
+pub mod Passes
+pub mod Holding
 pub mod Found

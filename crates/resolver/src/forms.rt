@@ -1,25 +1,19 @@
-// The four forms of the resolver. Each is lent nation words and entry words, and refuses a chronicle that is not well shaped, then a bad tag,
-// date or day.
+//! The four forms of the resolver. Each is lent nation words and entry words, and refuses by `NotWellShaped` a chronicle that is not well shaped, then by
+//! `BadQuestion` a bad tag, date or day. That nobody is found is no refusal.
 ghost use Rattle.std.specs.Prelude.{◌≡◌, IfOk};
 ghost use Rattle.std.proofs.Math.Option.{map};
 ghost use Rattle.lists.specs.Options.{option_of};
-ghost use Rattle.format.specs.Refused.{number_of};
+ghost use Rattle.format.specs.RefusalNumber.{number_of};
 ghost use Rattle.rules.specs.Outcomes.{call_resolve, call_initial, call_resolve_on, call_initial_on};
-ghost use Rattle.resolver.specs.Cases.{tag_data_told, resolved_answer};
-ghost use Rattle.claims.specs.Claims.{plain_of};
-ghost use Rattle.resolver.specs.Found.{asked_number, day_of, switched_of};
+ghost use Rattle.rules.specs.Lent.{answer_of};
+ghost use Rattle.resolver.specs.Claims.{plain_of};
+ghost use Rattle.resolver.specs.Found.{asked_number, day_asked, switched_asked};
 
+use crate::best::{best_claim, best_initial};
+use crate::claims::Claim;
 use crate::worn::worn_on;
-use chronicle_rows::{Chronicle, nation_row_at};
-use claims::{Claim, best_claim, best_initial};
-use format::{CountryTag, Eu4Date, Refusal};
-
-// A tag value, and the tag under which it is stored in the save.
-#[derive(Clone, Copy, Debug, PartialEq, Eq)]
-pub struct TagData {
-    pub current: CountryTag,
-    pub stored: CountryTag,
-}
+use format::{CountryTag, Eu4Date, Refusal, TagData};
+use rows::{Chronicle, nation_row_at};
 
 // The chronicle that a question is asked of. Refused are one that is not well shaped, and a question whose tag or one of whose dates is bad.
 fn open_asked<'a>(
@@ -32,7 +26,7 @@ fn open_asked<'a>(
     ensures chronicle { IfOk result (λ c. (c.nations.now ≡ nations.entry.now) × (c.entries.now ≡ entries.entry.now)) }
 {
     let chronicle = Chronicle::open(nations, entries)?;
-    if !(tag.good() & dates.iter().all(|date| date.good())) {
+    if !(tag.is_valid() & dates.iter().all(|date| date.is_valid())) {
         return Err(Refusal::BadQuestion);
     }
     Ok(chronicle)
@@ -40,7 +34,7 @@ fn open_asked<'a>(
 
 // Latest and stored tag of the nation that a claim found.
 fn plain_answer(nations: &[u32], best: Option<Claim>) -> Option<TagData>
-    ensures { map tag_data_told (option_of result) ≡ map (plain_of nations.now) (option_of best) }
+    ensures { option_of result ≡ map (plain_of nations.now) (option_of best) }
 {
     let nation = nation_row_at(nations, best?.nation);
     Some(TagData {
@@ -51,7 +45,7 @@ fn plain_answer(nations: &[u32], best: Option<Claim>) -> Option<TagData>
 
 // The tag that it wears on the day, without a switch up to then its initial.
 fn day_answer(chronicle: Chronicle<'_>, best: Option<Claim>, day: Eu4Date) -> Option<TagData>
-    ensures { map tag_data_told (option_of result) ≡ map (day_of chronicle.entry.nations.now chronicle.entry.entries.now day) (option_of best) }
+    ensures { option_of result ≡ map (day_asked chronicle.entry day) (option_of best) }
 {
     let nation = nation_row_at(chronicle.nations, best?.nation);
     let current = worn_on(chronicle.entries, nation, day).unwrap_or(nation.initial);
@@ -61,9 +55,9 @@ fn day_answer(chronicle: Chronicle<'_>, best: Option<Claim>, day: Eu4Date) -> Op
     })
 }
 
-// The same, but nothing without a switch: two functions that differ in one word, since a closure for that word would be longer than either.
+// The same, but nothing without a switch.
 fn switched_answer(chronicle: Chronicle<'_>, best: Option<Claim>, day: Eu4Date) -> Option<TagData>
-    ensures { map tag_data_told (option_of result) ≡ switched_of chronicle.entry.nations.now chronicle.entry.entries.now day (option_of best) }
+    ensures { option_of result ≡ switched_asked chronicle.entry day (option_of best) }
 {
     let nation = nation_row_at(chronicle.nations, best?.nation);
     let current = worn_on(chronicle.entries, nation, day)?;
@@ -73,41 +67,53 @@ fn switched_answer(chronicle: Chronicle<'_>, best: Option<Claim>, day: Eu4Date) 
     })
 }
 
-// The four forms are functions of their own, for each is asked for by its name; what they share stands above.
-// Where the country that went by a tag on a date is now: by its last switch to that tag up to the date, else by its initial.
+/// Where the country that went by a tag on a date is now: by its last switch to that tag up to the date, else by its initial. Asked whose Tyrone's provinces
+/// are, where TYR became IRE and then GBR, it answers GBR.
+///
+/// # Source
+/// `TagResolver::resolve` of tag_resolver.rs.
 pub fn resolve(
     nations: &[u32],
     entries: &[u32],
     tag: CountryTag,
     date: Eu4Date,
 ) -> Result<Option<TagData>, Refusal>
-    ensures { resolved_answer result ≡ call_resolve nations.now entries.now tag.0 date.0 }
+    ensures { answer_of option_of result ≡ call_resolve nations.now entries.now tag.0 date.0 }
 {
     let chronicle = open_asked(nations, entries, tag, &[date])?;
     let best = best_claim(chronicle, tag, date);
     Ok(plain_answer(chronicle.nations, best))
 }
 
-// Where the country that began as a tag is now.
+/// Where the country that began as a tag is now.
+///
+/// # Source
+/// `TagResolver::initial` of tag_resolver.rs.
 pub fn initial(
     nations: &[u32],
     entries: &[u32],
     tag: CountryTag,
 ) -> Result<Option<TagData>, Refusal>
-    ensures { resolved_answer result ≡ call_initial nations.now entries.now tag.0 }
+    ensures { answer_of option_of result ≡ call_initial nations.now entries.now tag.0 }
 {
     let chronicle = open_asked(nations, entries, tag, &[])?;
     let best = best_initial(chronicle.nations, tag);
     Ok(plain_answer(chronicle.nations, best))
 }
 
-// A resolver set to a day: of each nation it looks only at the entries before the first dated later.
+/// A resolver set to a day: of each nation it looks only at the entries before the first dated later.
+///
+/// # Source
+/// `TagResolverDated` of tag_resolver.rs.
 #[derive(Clone, Copy, Debug, PartialEq, Eq)]
 pub struct TagResolverDated {
     pub day: Eu4Date,
 }
 
-// The resolver set to a day. Whether that is a good date, each of its questions asks.
+/// The resolver set to a day. Whether that is a good date, each of its questions asks.
+///
+/// # Source
+/// `TagResolver::at` of tag_resolver.rs.
 pub fn at(day: Eu4Date) -> TagResolverDated
     ensures { result.day ≡ day }
 {
@@ -115,7 +121,10 @@ pub fn at(day: Eu4Date) -> TagResolverDated
 }
 
 impl TagResolverDated {
-    // `resolve`, with the tag that the country wore on the day in place of its latest.
+    /// `resolve`, with the tag that the country wore on the day in place of its latest.
+    ///
+    /// # Source
+    /// `TagResolverDated::resolve` of tag_resolver.rs.
     pub fn resolve_at(
         self,
         nations: &[u32],
@@ -123,21 +132,24 @@ impl TagResolverDated {
         tag: CountryTag,
         date: Eu4Date,
     ) -> Result<Option<TagData>, Refusal>
-        ensures { resolved_answer result ≡ call_resolve_on nations.now entries.now self.day.0 tag.0 date.0 }
+        ensures { answer_of option_of result ≡ call_resolve_on nations.now entries.now self.day.0 tag.0 date.0 }
     {
         let chronicle = open_asked(nations, entries, tag, &[self.day, date])?;
         let best = best_claim(chronicle, tag, date);
         Ok(day_answer(chronicle, best, self.day))
     }
 
-    // `initial`, but nothing if the country had not switched by the day.
+    /// `initial`, but nothing if the country had not switched by the day.
+    ///
+    /// # Source
+    /// `TagResolverDated::initial` of tag_resolver.rs.
     pub fn initial_at(
         self,
         nations: &[u32],
         entries: &[u32],
         tag: CountryTag,
     ) -> Result<Option<TagData>, Refusal>
-        ensures { resolved_answer result ≡ call_initial_on nations.now entries.now self.day.0 tag.0 }
+        ensures { answer_of option_of result ≡ call_initial_on nations.now entries.now self.day.0 tag.0 }
     {
         let chronicle = open_asked(nations, entries, tag, &[self.day])?;
         let best = best_initial(chronicle.nations, tag);

@@ -1,21 +1,20 @@
-// The tag that a nation wears on a day, by its own entries.
+//! The tag that a nation wears on a day, by its own entries.
 ghost use Rattle.std.specs.Prelude.{◌≡◌};
 ghost use Rattle.lists.specs.Lists.{last, or_else};
 ghost use Rattle.lists.specs.Options.{option_of};
 ghost use Rattle.rules.specs.Nations.{kind_target};
-ghost use Rattle.chronicle_rows.specs.Cases.{kind_told};
 ghost use Rattle.resolver.specs.Found.{worn_in};
 
-use chronicle_rows::{Kind, NationRow};
-use format::{CountryTag, Eu4Date};
+use format::{CountryTag, EntryKind, Eu4Date, NationRow};
+use rows::NationEntries;
 
-// The tag behind an entry: the target of a switch, else the tag worn so far. A function of its own, so that the loop's proof has one case.
-fn behind(worn: Option<CountryTag>, kind: Kind) -> Option<CountryTag>
-    ensures { option_of result ≡ or_else (last (kind_target (kind_told kind))) (option_of worn) }
+// The tag behind an entry: the target of a switch, else the tag worn so far.
+fn tag_behind(worn: Option<CountryTag>, kind: EntryKind) -> Option<CountryTag>
+    ensures { option_of result ≡ or_else (last (kind_target kind)) (option_of worn) }
 {
     match kind {
-        Kind::Switch(tag) => Some(tag),
-        Kind::Appeared | Kind::Annexed => worn,
+        EntryKind::TagSwitch(tag) => Some(tag),
+        EntryKind::Appeared | EntryKind::Annexed => worn,
     }
 }
 
@@ -25,12 +24,12 @@ pub(crate) fn worn_on(entries: &[u32], row: NationRow, day: Eu4Date) -> Option<C
     ensures { option_of result ≡ worn_in entries.now day row.first row.count }
 {
     let mut worn = None;
-    for entry in row.entries(entries) {
+    for entry in NationEntries::new(row, entries) {
         let counts = entry.date <= day;
         if !counts {
             return worn;
         }
-        worn = behind(worn, entry.kind);
+        worn = tag_behind(worn, entry.kind);
     }
     worn
 }

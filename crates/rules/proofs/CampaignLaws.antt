@@ -21,16 +21,20 @@ use Rattle.format.specs.Tags.{same_tag}
 use Rattle.format.specs.Dates.{earlier, not_after, same_date}
 use Rattle.format.specs.Campaign.{Campaign, Country, Province}
 use Rattle.format.specs.Sound.{GoodProvince, Sound}
-use Rattle.rules.specs.Chronicle.{Change, Kind, switch, is_appeared, is_annexed, Entry}
+use Rattle.format.specs.declared.values.OwnerChange.{OwnerChange}
+use Rattle.format.specs.declared.values.EntryKind.{EntryKind}
+use Rattle.format.specs.declared.values.Entry.{Entry}
+use Rattle.format.specs.declared.values.EntryKind.TheVariants.{TagSwitch}
+use Rattle.rules.specs.Chronicle.{is_appeared, is_annexed}
 use Rattle.rules.specs.Changes.{changes_from, province_changes, by_date_and_id, changes_of}
 use Rattle.rules.specs.Nations.{matches, last_target, switch_chain, switch_entries, slots_of, start_holder, start_holders, all_switches, Move, move_of, moves_of, turns_of, lives_of, entries_of, last_holder, holders_of}
 use Rattle.rules.specs.Holding.{holder_on, holds_on}
-use Rattle.rules.specs.Demand.{counted}
+use Rattle.rules.specs.Guarantee.{counted}
 use Rattle.rules.proofs.LivingLaws.{after_moves, due, length-after, at_after, last_on, in_days, balance}
 
 -- ## Changes and moves
 
-change-up : (a b : Change) → by_date_and_id a b ≡ true → a.date.0 ≤ b.date.0
+change-up : (a b : OwnerChange) → by_date_and_id a b ≡ true → a.date.0 ≤ b.date.0
 change-up a b h =
     cases (earlier a.date b.date)
     (λ l. omega (arith, ltb-true a.date.0 b.date.0 l))
@@ -38,7 +42,7 @@ change-up a b h =
     (λ e. omega (arith, eqb-true a.date.0 b.date.0 e))
     (λ e. absurd (false≢true (simp (l, e) at h))))
 
-change-down : (a b : Change) → by_date_and_id a b ≡ false → b.date.0 ≤ a.date.0
+change-down : (a b : OwnerChange) → by_date_and_id a b ≡ false → b.date.0 ≤ a.date.0
 change-down a b h =
     cases (earlier a.date b.date) (λ l. absurd (true≢false (simp l at h))) (λ l. ltb-false a.date.0 b.date.0 l)
 
@@ -50,7 +54,7 @@ moves-order c =
     (order-sort by_date_and_id (λ x. x.date.0) change-up change-down (join_of province_changes c.provinces))
 
 -- What holds of all changes of all provinces, by what holds of their events.
-module _ (P : Change → Type 0) (id : ProvinceId) where
+module _ (P : OwnerChange → Type 0) (id : ProvinceId) where
   pub all-changes : (tag : CountryTag) (es : List OwnerEvent)
       → All (λ e. (from : CountryTag) → P (record { date = e.date; id = id; from = from; to = e.tag })) es → All P (changes_from id tag es)
   unfolding changes_from
@@ -60,8 +64,8 @@ module _ (P : Change → Type 0) (id : ProvinceId) where
       (λ h. simp h (all-changes e.tag es q.1))
       (λ h. simp h (q.0 tag, all-changes e.tag es q.1))
 
-pub all-moves : (c : Campaign) (Q : Province → Type 0) (P : Change → Type 0) (R : Move → Type 0)
-    → ((p : Province) → Q p → All P (province_changes p)) → ((x : Change) → P x → R (move_of (all_switches c.countries) x))
+pub all-moves : (c : Campaign) (Q : Province → Type 0) (P : OwnerChange → Type 0) (R : Move → Type 0)
+    → ((p : Province) → Q p → All P (province_changes p)) → ((x : OwnerChange) → P x → R (move_of (all_switches c.countries) x))
     → All Q c.provinces → All R (moves_of c)
 unfolding moves_of changes_of
 all-moves c Q P R f g q =
@@ -131,7 +135,7 @@ holders-of c = after_last c (moves_of c)
 
 -- ## Entries
 
-chain-uncounted : (is : Kind → Bool) → ((t : CountryTag) → is (switch t) ≡ false) → (start day : Eu4Date) (end : CountryTag) (ss : List Switch)
+chain-uncounted : (is : EntryKind → Bool) → ((t : CountryTag) → is (TagSwitch t) ≡ false) → (start day : Eu4Date) (end : CountryTag) (ss : List Switch)
     → counted is start day (switch_chain end ss) ≡ 0
 unfolding switch_chain
 chain-uncounted is h start day end [] = refl
@@ -139,7 +143,7 @@ chain-uncounted is h start day end (s ∷ ss) =
     simp (h (first_or end (map (λ x. x.from) ss))) (chain-uncounted is h start day end ss)
 
 -- Switches are not counted.
-entries-counted : (is : Kind → Bool) → ((t : CountryTag) → is (switch t) ≡ false) → (c : Campaign) (k : Country) (start day : Eu4Date)
+entries-counted : (is : EntryKind → Bool) → ((t : CountryTag) → is (TagSwitch t) ≡ false) → (c : Campaign) (k : Country) (start day : Eu4Date)
     → counted is start day (entries_of c k) ≡ counted is start day (lives_of c k.tag)
 unfolding entries_of
 entries-counted is h c k start day =

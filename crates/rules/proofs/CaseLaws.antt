@@ -5,19 +5,20 @@ use Prim.Native.Nat.{ℕ}
 use lib.ListN.{length}
 use Rattle.lists.specs.Lists.{join_of}
 use Rattle.format.specs.Campaign.{Campaign, campaign_of}
-use Rattle.format.specs.Refusal.{refusal, first_of}
+use Rattle.format.specs.RecordNumber.{refusal, first_of}
 use Rattle.rules.specs.Chronicle.{Nation}
 use Rattle.rules.specs.Lent.{refused}
 use Rattle.rules.specs.Changes.{changes_of}
 use Rattle.rules.specs.Nations.{nations_of}
 use Rattle.rules.specs.NationRows.{nations_in}
-use Rattle.rules.specs.Refusals.{chronicle_number, numbered_number}
+use Rattle.rules.specs.CallNumbers.{chronicle_number, numbered_number}
 use Rattle.rules.specs.PlayerOutcomes.{HistoryCells, call_player_histories}
 use Rattle.rules.specs.Page.{selection_of}
 use Rattle.rules.specs.PageOutcomes.{bytes_number, selection_number, limits_number, page_number}
 use Rattle.rules.specs.cases.CaseForms.{Hold}
 use Rattle.rules.specs.cases.RecordCases.{change_cases, events_on_cases, nation_cases, holder_cases, worn_cases, day_cases, counted_cases}
 use Rattle.rules.specs.cases.LentCases.{resolve_cases, day_resolve_cases, asked_cases, shape_cases, misshapen_cases, booking_cases, ledger_cases}
+use Rattle.rules.specs.cases.FinishedCases.{finished_cases, unfinished_cases}
 use Rattle.rules.specs.cases.QuestionCases.{question_cases}
 use Rattle.rules.specs.cases.LedgerCases.{room_cases, span_cases, ledgers_cases}
 use Rattle.rules.specs.cases.PlayerCases.{player_cases, release_cases, history_cases, order_cases, starting_cases, starting_shape_cases}
@@ -51,6 +52,10 @@ bookings = (refl, (refl, (refl, (refl, (refl, tt)))))
 pub ledger : Hold ledger_cases
 unfolding computes ledger_cases
 ledger = (refl, (refl, (refl, (refl, (refl, (refl, (refl, (refl, (refl, tt)))))))))
+
+pub finished : Hold finished_cases × Hold unfinished_cases
+unfolding computes finished_cases unfinished_cases
+finished = ((refl, (refl, (refl, tt))), (refl, (refl, (refl, (refl, (refl, (refl, (refl, (refl, (refl, (refl, tt)))))))))))
 
 pub questions : Hold question_cases
 unfolding computes question_cases
@@ -89,6 +94,7 @@ pub cases :
     × (Hold shape_cases × Hold misshapen_cases)
     × Hold booking_cases
     × Hold ledger_cases
+    × (Hold finished_cases × Hold unfinished_cases)
     × Hold question_cases
     × Hold room_cases
     × (Hold span_cases × Hold ledgers_cases)
@@ -96,7 +102,7 @@ pub cases :
     × Hold order_cases
     × (Hold starting_cases × Hold starting_shape_cases)
     × (Hold page_cases × Hold decimal_cases × Hold same_stored_cases × Hold page_room_cases)
-cases = (changes, nations, days, resolver, shapes, bookings, ledger, questions, room_needed, ledgers, players, order, starting, page)
+cases = (changes, nations, days, resolver, shapes, bookings, ledger, finished, questions, room_needed, ledgers, players, order, starting, page)
 
 -- Campaigns at the page's limits are too large to compute with: these hold of any campaign of that size.
 module _ (c : Campaign) where

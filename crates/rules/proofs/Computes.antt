@@ -15,6 +15,8 @@ use Rattle.rules.specs.StartingCountry.{starting_of, starting_country}
 use Rattle.rules.specs.Outcomes.{call_province_owners, call_events_on, answers_of, cells_of, counts_of, call_nation_events, call_resolve, call_initial, call_resolve_on, call_initial_on, call_war_participants, call_nation_ledger, call_nation_ledger_rows, ledger_cells_of, call_nation_ledgers}
 use Rattle.rules.specs.Questions.{questions_in, answer_rows, call_resolve_each}
 use Rattle.rules.specs.PlayerOutcomes.{call_players, history_cells_of, history_counts_of, call_player_histories, call_starting_country}
+use Rattle.rules.specs.Readings.{lives_by_slots, said_from}
+use Rattle.rules.specs.Finished.{finished_cells_of, finished_answer_of, call_finish_chronicle}
 use Rattle.rules.specs.Page.{selection_of, digits, line, is_living, tag_line, page_text}
 use Rattle.rules.specs.PageOutcomes.{bytes_number, limits_number, page_number, page_of, call_page, call_program}
 
@@ -30,5 +32,6 @@ unfolding
     starting_of starting_country
     call_province_owners call_events_on answers_of cells_of counts_of call_nation_events call_resolve call_initial call_resolve_on call_initial_on
     call_war_participants call_nation_ledger call_nation_ledger_rows ledger_cells_of call_nation_ledgers questions_in answer_rows call_resolve_each call_players history_cells_of history_counts_of call_player_histories call_starting_country
+    lives_by_slots said_from finished_cells_of finished_answer_of call_finish_chronicle
     selection_of digits line is_living tag_line page_text bytes_number limits_number page_number page_of call_page call_program
 computes = Type 0

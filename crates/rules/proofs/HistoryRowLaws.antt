@@ -7,7 +7,8 @@ use lib.ListN.{length}
 use Rattle.lists.specs.Lists.{join_of}
 use Rattle.lists.proofs.ListLaws.{map_back, length-join, rows_join}
 use Rattle.rules.specs.Histories.{History}
-use Rattle.rules.specs.HistoryRows.{HistoryRow, history_width, history_row_words, history_row_of, history_rows_from, history_words, history_rows_in}
+use Rattle.format.specs.declared.values.HistoryRow.{HistoryRow}
+use Rattle.rules.specs.HistoryRows.{history_width, history_row_words, history_row_of, history_rows_from, history_words, history_rows_in}
 
 pub history-rows : (hs : List History) → history_rows_in (history_words hs) ≡ history_rows_from 0 hs
 unfolding history_rows_in history_words

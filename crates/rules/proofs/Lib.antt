@@ -1,11 +1,13 @@
 pub mod Computes
 pub mod LivingLaws
 pub mod CampaignLaws
+pub mod PlainLaws
 pub mod ResolverLaws
 pub mod RowLaws
 pub mod HistoryRowLaws
 pub mod ShapeLaws
-pub mod DemandLaws
+pub mod GuaranteeLaws
+pub mod FinishedLaws
 pub mod WitnessLaws
 pub mod OrderLaws
 pub mod LentLaws

@@ -18,17 +18,15 @@ use Rattle.format.specs.declared.date.Eu4Date.{Eu4Date}
 use Rattle.format.specs.declared.rows.ProvinceId.{ProvinceId}
 use Rattle.format.specs.Tags.{same_tag}
 use Rattle.format.specs.Dates.{earlier, not_after}
-use Rattle.rules.specs.Chronicle.{appeared, annexed, is_appeared, is_annexed, Entry}
+use Rattle.format.specs.declared.values.Entry.{Entry}
+use Rattle.format.specs.declared.values.EntryKind.TheVariants.{Appeared, Annexed}
+use Rattle.rules.specs.Chronicle.{is_appeared, is_annexed}
 use Rattle.format.specs.Rows.{same_id}
 use Rattle.rules.specs.Nations.{matches, Move, turns_from, turn_entries, turn_count, lives_from}
-use Rattle.rules.specs.Demand.{counted}
+use Rattle.rules.specs.Guarantee.{counted}
+pub use Rattle.rules.specs.Readings.{after_moves}
 
 -- ## Holders after moves
-
--- The holders of slots 0 to P after some moves.
-abbrev pub after_moves : List Move → List (Option CountryTag) → List (Option CountryTag)
-after_moves [] holders = holders
-after_moves (m ∷ ms) holders = after_moves ms (set holders m.slot.0 (some m.holder))
 
 -- The moves dated up to a day.
 abbrev pub due : Eu4Date → List Move → List Move
@@ -83,7 +81,7 @@ module _ (start day d : Eu4Date) (loses gains : Bool) (n : ℕ) where
   turn-appeared = go (loses && eqb (n - 1) 0) (gains && eqb (cond loses (n - 1) n) 0 && earlier start d)
     where
       go : (a b : Bool)
-          → counted is_appeared start day (cond a (record { date = d; kind = annexed } ∷ []) [] ++ cond b (record { date = d; kind = appeared } ∷ []) [])
+          → counted is_appeared start day (cond a (record { date = d; kind = Annexed } ∷ []) [] ++ cond b (record { date = d; kind = Appeared } ∷ []) [])
           ≡ one (b && in_days start day d)
       go true true = cases (in_days start day d) (λ h. simp h) (λ h. simp h)
       go true false = refl
@@ -95,7 +93,7 @@ module _ (start day d : Eu4Date) (loses gains : Bool) (n : ℕ) where
   turn-annexed = go (loses && eqb (n - 1) 0) (gains && eqb (cond loses (n - 1) n) 0 && earlier start d)
     where
       go : (a b : Bool)
-          → counted is_annexed start day (cond a (record { date = d; kind = annexed } ∷ []) [] ++ cond b (record { date = d; kind = appeared } ∷ []) [])
+          → counted is_annexed start day (cond a (record { date = d; kind = Annexed } ∷ []) [] ++ cond b (record { date = d; kind = Appeared } ∷ []) [])
           ≡ one (a && in_days start day d)
       go true true = cases (in_days start day d) (λ h. simp h) (λ h. simp h)
       go true false = cases (in_days start day d) (λ h. simp h) (λ h. simp h)

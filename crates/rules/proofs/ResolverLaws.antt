@@ -15,16 +15,19 @@ use Rattle.format.specs.declared.tag.CountryTag.{CountryTag}
 use Rattle.format.specs.declared.date.Eu4Date.{Eu4Date}
 use Rattle.format.specs.Tags.{same_tag}
 use Rattle.format.specs.Dates.{not_after}
-use Rattle.rules.specs.Chronicle.{Kind, switch, appeared, annexed, Entry, Nation}
+use Rattle.format.specs.declared.values.EntryKind.{EntryKind}
+use Rattle.format.specs.declared.values.Entry.{Entry}
+use Rattle.format.specs.declared.values.EntryKind.TheVariants.{TagSwitch, Appeared, Annexed}
+use Rattle.rules.specs.Chronicle.{Nation}
 use Rattle.rules.specs.Nations.{targets}
 use Rattle.rules.specs.Holding.{wears}
 use Rattle.rules.specs.Resolver.{is_switch_to, Hit, own_hits, hits, initial_nation, resolved_nation, walked}
-use Rattle.rules.specs.Demand.{is_named}
+use Rattle.rules.specs.Guarantee.{is_named}
 
-pub kind-cases : {C : Type 0} (k : Kind) → ((t : CountryTag) → k ≡ switch t → C) → (k ≡ appeared → C) → (k ≡ annexed → C) → C
-kind-cases (switch t) f g h = f t refl
-kind-cases appeared f g h = g refl
-kind-cases annexed f g h = h refl
+pub kind-cases : {C : Type 0} (k : EntryKind) → ((t : CountryTag) → k ≡ TagSwitch t → C) → (k ≡ Appeared → C) → (k ≡ Annexed → C) → C
+kind-cases (TagSwitch t) f g h = f t refl
+kind-cases Appeared f g h = g refl
+kind-cases Annexed f g h = h refl
 
 -- Of entries in date order, those up to the first dated later are those dated up to the day.
 pub walked-worn : (n : Nation) (day : Eu4Date) → InOrder (λ e. e.date.0) n.entries → last_or n.initial (walked day n) ≡ wears n day

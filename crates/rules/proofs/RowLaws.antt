@@ -7,11 +7,16 @@ use lib.ListN.{length, take, drop, length-append, length-map}
 use lib.Seq.{take_at, drop_at}
 use Rattle.lists.specs.Lists.{join_of}
 use Rattle.lists.proofs.ListLaws.{map_back, map-append, map-then, length-join, rows_join}
-use Rattle.rules.specs.Chronicle.{Kind, switch, appeared, annexed, Entry, Nation}
-use Rattle.rules.specs.NationRows.{NationRow, nation_width, nation_row_words, nation_row_of, nation_rows_from, EntryRow, entry_width, entry_row_words, entry_row_of, kind_word, target_word, entry_row, kind_of, entry_of, nation_words, entry_words, nation_rows_in, entry_rows_in, nation_at, nations_in}
+use Rattle.format.specs.declared.values.EntryKind.{EntryKind}
+use Rattle.format.specs.declared.values.Entry.{Entry}
+use Rattle.format.specs.declared.values.NationRow.{NationRow}
+use Rattle.format.specs.declared.values.OwnerChange.{OwnerChange}
+use Rattle.format.specs.declared.values.Booking.{Booking}
+use Rattle.format.specs.declared.values.EntryKind.TheVariants.{TagSwitch, Appeared, Annexed}
+use Rattle.rules.specs.Chronicle.{Nation}
+use Rattle.rules.specs.NationRows.{nation_width, nation_row_words, nation_row_of, nation_rows_from, EntryRow, entry_width, entry_row_words, entry_row_of, kind_word, target_word, entry_row, kind_of, entry_of, nation_words, entry_words, nation_rows_in, entry_rows_in, nation_at, nations_in}
 use Rattle.rules.specs.Changes.{change_width, change_words, change_rows}
-use Rattle.rules.specs.Chronicle.{Change}
-use Rattle.rules.specs.Bookings.{Booking, booking_width, booking_words, booking_at, booking_rows, bookings_in}
+use Rattle.rules.specs.Bookings.{booking_width, booking_words, booking_at, booking_rows, bookings_in}
 
 -- The entries of all nations, one behind the other.
 abbrev pub all_entries : List Nation → List Entry
@@ -33,7 +38,7 @@ pub length-entry_words : (ns : List Nation) → length (entry_words ns) ≡ entr
 unfolding entry_words
 length-entry_words ns = length-join entry_width (λ e. entry_row_words (entry_row e)) (λ e. refl) (all_entries ns)
 
-pub length-change_rows : (xs : List Change) → length (change_rows xs) ≡ change_width * length xs
+pub length-change_rows : (xs : List OwnerChange) → length (change_rows xs) ≡ change_width * length xs
 unfolding change_rows
 length-change_rows xs = length-join change_width change_words (λ x. refl) xs
 
@@ -67,13 +72,13 @@ bookings-in bs =
 
 -- ## Nations
 
-kind-back : (k : Kind) → kind_of (kind_word k) (target_word k) ≡ k
-kind-back (switch t) = refl
-kind-back appeared = refl
-kind-back annexed = refl
+kind-back : (k : EntryKind) → kind_of (kind_word k) (target_word k) ≡ k
+kind-back (TagSwitch t) = refl
+kind-back Appeared = refl
+kind-back Annexed = refl
 
 entry-back : (e : Entry) → entry_of (entry_row e) ≡ e
-entry-back e = ap (λ (k : Kind). record { date = e.date; kind = k }) (kind-back e.kind)
+entry-back e = ap (λ (k : EntryKind). record { date = e.date; kind = k }) (kind-back e.kind)
 
 -- Rows whose entries begin behind others' are told by those rows.
 told : (front : List EntryRow) (first : ℕ) (ns : List Nation) → length front ≡ first

@@ -17,7 +17,10 @@ use Rattle.format.specs.declared.rows.Switch.{Switch}
 use Rattle.format.specs.Dates.{earlier, not_after}
 use Rattle.format.specs.Campaign.{Campaign, Country}
 use Rattle.format.specs.Sound.{GoodTag, GoodDate, GoodSwitch, GoodCountry, GoodProvince, Sound}
-use Rattle.rules.specs.Chronicle.{Kind, switch, appeared, annexed, Entry, Nation}
+use Rattle.format.specs.declared.values.EntryKind.{EntryKind}
+use Rattle.format.specs.declared.values.Entry.{Entry}
+use Rattle.format.specs.declared.values.EntryKind.TheVariants.{TagSwitch, Appeared, Annexed}
+use Rattle.rules.specs.Chronicle.{Nation}
 use Rattle.rules.specs.Nations.{initial_from, initial_of, last_target, switch_chain, switch_entries, matches, is_mapped, start_holders, turns_from, turns_of, turn_entries, lives_from, lives_of, entries_of, kind_target, targets, nation_of, held_ever, listed_countries, nations_of, Move, moves_of}
 use Rattle.rules.specs.Holding.{wears}
 use Rattle.rules.specs.NationRows.{nation_rows_from, kind_word, target_word, entry_row, nation_words, entry_words, tags_shaped, kind_shaped, entry_shaped, without_gap, well_shaped, nation_width, entry_width}
@@ -27,10 +30,10 @@ use Rattle.rules.proofs.RowLaws.{all_entries, length-nation_words, length-entry_
 -- ## Entries
 
 -- The kind's target, if it has one, is a tag.
-abbrev GoodKind : Kind → Type 0
-GoodKind (switch t) = GoodTag t
-GoodKind appeared = Unit {0}
-GoodKind annexed = Unit {0}
+abbrev GoodKind : EntryKind → Type 0
+GoodKind (TagSwitch t) = GoodTag t
+GoodKind Appeared = Unit {0}
+GoodKind Annexed = Unit {0}
 
 pub record GoodEntry (e : Entry) : Type 0 where
   pub date : GoodDate e.date
@@ -55,7 +58,7 @@ turn-good : (start d : Eu4Date) (loses gains : Bool) (n : ℕ) → GoodDate d �
 unfolding turn_entries
 turn-good start d loses gains n h = go (loses && eqb (n - 1) 0) (gains && eqb (cond loses (n - 1) n) 0 && earlier start d)
   where
-    go : (a b : Bool) → All GoodEntry (cond a (record { date = d; kind = annexed } ∷ []) [] ++ cond b (record { date = d; kind = appeared } ∷ []) [])
+    go : (a b : Bool) → All GoodEntry (cond a (record { date = d; kind = Annexed } ∷ []) [] ++ cond b (record { date = d; kind = Appeared } ∷ []) [])
     go true true = (record { date = h; kind = tt }, (record { date = h; kind = tt }, tt))
     go true false = (record { date = h; kind = tt }, tt)
     go false true = (record { date = h; kind = tt }, tt)
@@ -87,10 +90,10 @@ entries-good c k g h =
 targets-good : (es : List Entry) → All GoodEntry es → All GoodTag (targets es)
 targets-good es q = all_join GoodTag (λ e. kind_target e.kind) (λ e h. go e.kind h.kind) es q
   where
-    go : (k : Kind) → GoodKind k → All GoodTag (kind_target k)
-    go (switch t) h = (h, tt)
-    go appeared h = tt
-    go annexed h = tt
+    go : (k : EntryKind) → GoodKind k → All GoodTag (kind_target k)
+    go (TagSwitch t) h = (h, tt)
+    go Appeared h = tt
+    go Annexed h = tt
 
 pub record GoodNation (n : Nation) : Type 0 where
   pub initial : GoodTag n.initial
@@ -142,10 +145,10 @@ entry-shaped : (e : Entry) → GoodEntry e → entry_shaped (entry_row e) ≡ tr
 unfolding kind_shaped
 entry-shaped e g = simp g.date (go e.kind g.kind)
   where
-    go : (k : Kind) → GoodKind k → kind_shaped (kind_word k) (target_word k) ≡ true
-    go (switch t) h = h
-    go appeared h = refl
-    go annexed h = refl
+    go : (k : EntryKind) → GoodKind k → kind_shaped (kind_word k) (target_word k) ≡ true
+    go (TagSwitch t) h = h
+    go Appeared h = refl
+    go Annexed h = refl
 
 entries-shaped : (es : List Entry) → All GoodEntry es → all_of entry_shaped (map entry_row es) ≡ true
 entries-shaped [] q = refl

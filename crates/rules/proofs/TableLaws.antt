@@ -1,4 +1,4 @@
--- The starred cases of 01 and the worked page hold of the definitions.
+-- The starred cases of the edges, and the worked page, hold of the definitions.
 use mathlib.Core.Path.{◌≡◌, refl}
 use mathlib.Core.List.{[], ◌∷◌, ◌++◌}
 use Rattle.rules.specs.Lent.{gives}

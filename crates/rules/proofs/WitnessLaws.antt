@@ -1,4 +1,4 @@
--- Demand 3 used on the worked record with wars in it: every premise is met there, by computation, and what it gives are true facts in numbers
+-- The guarantee used on the worked record with wars in it: every premise is met there, by computation, and what it gives are true facts in numbers
 -- and tags. They are had from its statement alone, so that one with emptier premises or a weaker sentence would not give them.
 use mathlib.Core.Path.{◌≡◌, refl}
 use mathlib.Core.List.{List, [], ◌∷◌}
@@ -9,18 +9,23 @@ use Rattle.lists.specs.Lists.{one}
 use Rattle.format.specs.declared.tag.CountryTag.{CountryTag}
 use Rattle.format.specs.declared.date.Eu4Date.{Eu4Date}
 use Rattle.format.specs.Campaign.{campaign_of}
-use Rattle.rules.specs.Chronicle.{switch, appeared, annexed, is_appeared, is_annexed, Nation}
+use Rattle.format.specs.declared.values.Booking.{Booking}
+use Rattle.format.specs.declared.values.NationCounts.{NationCounts}
+use Rattle.format.specs.declared.values.EntryKind.TheVariants.{TagSwitch, Appeared, Annexed}
+use Rattle.rules.specs.Chronicle.{is_appeared, is_annexed, Nation}
 use Rattle.rules.specs.Lent.{gives, Outcome}
 use Rattle.rules.specs.Holding.{holds_on}
 use Rattle.rules.specs.NationRows.{nations_in}
-use Rattle.rules.specs.Bookings.{Booking}
-use Rattle.rules.specs.Outcomes.{NationCells, NationCounts, call_nation_events, call_resolve_on, call_war_participants}
-use Rattle.rules.specs.Demand.{counted, nations_given, entries_given, changes_given, bookings_given, Chronicled, Demand3}
+use Rattle.rules.specs.Outcomes.{NationCells, call_nation_events, call_resolve_on, call_war_participants}
+use Rattle.rules.specs.Guarantee.{counted, nations_given, entries_given, changes_given, bookings_given, Chronicled, FinishedChronicle}
+use Rattle.rules.specs.CallNumbers.{asked_tag, asked_date}
+use Rattle.rules.specs.Finished.{LentSlices, FinishedAnswer, call_finish_chronicle, chronicle_left, nations_left, bookings_left, FinishedCells}
 use Rattle.rules.specs.cases.Worked.{ENG, GBR, FRA, dated, starts_on, worked_wars}
 use Rattle.rules.specs.Table.{sevens}
 use Rattle.rules.specs.cases.CaseForms.{change, nation, turned, came, went, rows}
 use Rattle.rules.proofs.Computes.{computes}
-use Rattle.rules.proofs.DemandLaws.{demand3}
+use Rattle.rules.proofs.GuaranteeLaws.{finished_chronicle}
+use Rattle.rules.proofs.FinishedLaws.{finished}
 
 -- ## The two nations, and the words that tell them
 
@@ -31,9 +36,9 @@ gbr =
       latest = GBR;
       stored = GBR;
       entries =
-          record { date = dated 14460101; kind = annexed }
-          ∷ record { date = dated 14470101; kind = appeared }
-          ∷ record { date = dated 14480601; kind = switch GBR }
+          record { date = dated 14460101; kind = Annexed }
+          ∷ record { date = dated 14470101; kind = Appeared }
+          ∷ record { date = dated 14480601; kind = TagSwitch GBR }
           ∷ [];
     }
 
@@ -93,14 +98,14 @@ pub record Witnessed : Type 0 where
 
 -- ## From the statement alone
 
-module _ (demand : (xs : List ℕ) → Demand3 xs) where
+module _ (finished : (xs : List ℕ) → FinishedChronicle xs) where
   chronicled : Chronicled worked_wars done
   unfolding computes
-  chronicled = (demand worked_wars).holds refl lent refl
+  chronicled = (finished worked_wars).holds refl lent refl
 
   moved : Chronicled (starts_on 14460101) (call_nation_events (starts_on 14460101) lent)
   unfolding computes
-  moved = (demand (starts_on 14460101)).holds refl lent refl
+  moved = (finished (starts_on 14460101)).holds refl lent refl
 
   witnessed : Witnessed
   unfolding computes
@@ -140,4 +145,61 @@ module _ (demand : (xs : List ℕ) → Demand3 xs) where
       }
 
 pub witness : Witnessed
-witness = witnessed demand3
+witness = witnessed finished_chronicle
+
+-- ## The one call
+
+-- On the same record it is asked for ENG on the day on which GBR, which wears it, is annexed.
+abbrev pub slices : LentSlices
+slices = record { chronicle = lent; bookings = sevens 16 }
+
+abbrev pub finished_worked : Outcome FinishedAnswer LentSlices
+finished_worked = call_finish_chronicle worked_wars ENG.0 14460101 slices
+
+abbrev pub answered_worked : FinishedAnswer
+answered_worked =
+    record {
+      counts = record { nations = 2; entries = 3; slots = 3; countries = 2; changes = 2 };
+      found = some (record { current = ENG; stored = GBR });
+      bookings = 5;
+    }
+
+-- The row of the bookings with a number, read from the cells left.
+abbrev pub LeavesBooked : ℕ → Booking → Type 0
+LeavesBooked k b = get_elem? (bookings_left answered_worked finished_worked.memory) k ≡ some b
+
+pub record FinishedWitnessed : Type 0 where
+  pub changes :
+      changes_given (chronicle_left answered_worked finished_worked.memory)
+      ≡ rows (change 14460101 1 "ENG" "FRA" ∷ change 14470101 2 "FRA" "ENG" ∷ [])
+  pub listed : nations_left answered_worked finished_worked.memory ≡ gbr ∷ fra ∷ []
+  pub gone : Balance worked_wars gbr (dated 14460101) 1 0 0 1
+  pub found : answered_worked.found ≡ some (record { current = ENG; stored = GBR })
+  -- That day, and a later one on which it goes by another tag.
+  pub booked : LeavesBooked 2 (record { war = 1; tag = ENG; stored = GBR })
+  pub booked_later : LeavesBooked 4 (record { war = 2; tag = GBR; stored = GBR })
+
+-- From the statement alone.
+module _
+    (finished :
+    (xs : List ℕ) (tag day : ℕ) (before : LentSlices) (f : FinishedAnswer)
+    → (call_finish_chronicle xs tag day before).answer ≡ gives f
+    → FinishedCells xs (asked_tag tag) (asked_date day) f (call_finish_chronicle xs tag day before).memory) where
+  cells : FinishedCells worked_wars ENG (dated 14460101) answered_worked finished_worked.memory
+  unfolding computes
+  cells = finished worked_wars ENG.0 14460101 slices answered_worked refl
+
+  finished-witnessed : FinishedWitnessed
+  unfolding computes
+  finished-witnessed =
+      record {
+        changes = cells.changes;
+        listed = cells.nations;
+        gone = (refl, refl, refl, refl, cells.living 0 gbr (dated 14460101) refl refl refl);
+        found = cells.found 0 gbr refl refl refl refl;
+        booked = cells.booked 0 gbr (dated 14460101) refl refl refl refl 2 (record { war = 1; date = dated 14460101; tag = ENG }) refl refl refl;
+        booked_later = cells.booked 0 gbr (dated 14480601) refl refl refl refl 4 (record { war = 2; date = dated 14480601; tag = GBR }) refl refl refl;
+      }
+
+pub finished-witness : FinishedWitnessed
+finished-witness = finished-witnessed finished

@@ -11,11 +11,13 @@ pub mod Players
 pub mod Histories
 pub mod HistoryRows
 pub mod StartingCountry
-pub mod Refusals
+pub mod CallNumbers
 pub mod Outcomes
 pub mod Questions
 pub mod PlayerOutcomes
-pub mod Demand
+pub mod Readings
+pub mod Guarantee
+pub mod Finished
 pub mod cases
 pub mod Page
 pub mod PageOutcomes

@@ -1,4 +1,4 @@
--- 01, Who can be refused: the outcome of each call on owner changes, nations, resolver, war bookings and ledger.
+-- Rules 2: the outcome of each call on owner changes, nations, resolver, war bookings and ledger.
 -- Each takes what it is given as it is given: the record's bytes, lent words, a question's tag, date or nation number as words.
 -- Numbers are listed in the order of the checks: the record's own, then 11, 12, 13, 10.
 use Rattle.std.specs.Prelude.{Bool, ◌&&◌, List, [], ◌∷◌, map, ℕ, min, length}
@@ -7,20 +7,25 @@ use Rattle.std.proofs.Math.ListN.{get_elem?}
 use Rattle.lists.specs.Lists.{join_of}
 use Rattle.format.specs.declared.tag.CountryTag.{CountryTag}
 use Rattle.format.specs.Campaign.{Campaign, campaign_of}
-use Rattle.format.specs.Refusal.{refusal, first_of}
-use Rattle.rules.specs.Chronicle.{Change, Nation}
+use Rattle.format.specs.RecordNumber.{refusal, first_of}
+use Rattle.format.specs.declared.values.OwnerChange.{OwnerChange}
+use Rattle.format.specs.declared.values.DateRun.{DateRun}
+use Rattle.format.specs.declared.values.TagData.{TagData}
+use Rattle.format.specs.declared.values.LedgerPoint.{LedgerPoint}
+use Rattle.format.specs.declared.values.NationCounts.{NationCounts}
+use Rattle.rules.specs.Chronicle.{Nation}
 use Rattle.rules.specs.Lent.{Answer, answered, written, fits, room_number, Outcome, outcome}
-use Rattle.rules.specs.Changes.{changes_of, change_rows, DateRun, events_on}
+use Rattle.rules.specs.Changes.{changes_of, change_rows, events_on}
 use Rattle.rules.specs.Nations.{nations_of, holders_of, held_of}
 use Rattle.rules.specs.NationRows.{nation_words, entry_words, nations_in, holder_word}
-use Rattle.rules.specs.Resolver.{TagData, resolve, initial, resolve_on, initial_on}
+use Rattle.rules.specs.Resolver.{resolve, initial, resolve_on, initial_on}
 use Rattle.rules.specs.Bookings.{bookings_of, booking_rows}
-use Rattle.rules.specs.Ledger.{LedgerPoint, nation_ledger, point_rows}
-use Rattle.rules.specs.Refusals.{chronicle_number, asked_tag, asked_date, asked_tag_number, asked_date_number, asked_nation_number}
+use Rattle.rules.specs.Ledger.{nation_ledger, point_rows}
+use Rattle.rules.specs.CallNumbers.{chronicle_number, asked_tag, asked_date, asked_tag_number, asked_date_number, asked_nation_number}
 
 -- ## `province_owners`: the number of changes, and their rows
 
--- Refused by the record's number, or 10. It is given the record's bytes and the lent slice.
+-- Refused by the record's number, or 10. It is given the record's bytes and the lent slice. (Rules 3.4)
 unfoldable pub call_province_owners : List ℕ → List ℕ → Outcome ℕ (List ℕ)
 call_province_owners xs before =
     let changes = changes_of (campaign_of xs) in
@@ -29,25 +34,25 @@ call_province_owners xs before =
 
 -- ## `events_on`: asked of a record and a date
 
--- Refused by the record's number, or 12. It is lent nothing.
+-- Refused by the record's number, or 12. It is lent nothing. (Rules 3.5)
 unfoldable pub call_events_on : List ℕ → ℕ → Answer DateRun
 call_events_on xs date =
     answered (first_of (refusal xs ∷ asked_date_number date ∷ [])) (events_on (changes_of (campaign_of xs)) (asked_date date))
 
 -- ## `nation_events`
 
--- All that a campaign's changes and nations answer, as one value. (02 K5: 'worked out afresh' is an equation of these.)
+-- All that a campaign's changes and nations answer, as one value. (Rules 4.14)
 pub record Answers : Type 0 where
-  pub changes : List Change
+  pub changes : List OwnerChange
   pub nations : List Nation
   pub holders : List (Option CountryTag)
   pub held : List ℕ
 
--- They are worked out from the campaign.
+-- They are worked out from the campaign. (Rules 4.14)
 unfoldable pub answers_of : Campaign → Answers
 answers_of c = record { changes = changes_of c; nations = nations_of c; holders = holders_of c; held = held_of c }
 
--- The slices that are lent to it, or the words that it writes into each.
+-- The slices that are lent to it, or the words that it writes into each. (Rules 4.14)
 pub record NationCells : Type 0 where
   pub nations : List ℕ
   pub entries : List ℕ
@@ -55,7 +60,7 @@ pub record NationCells : Type 0 where
   pub held : List ℕ
   pub changes : List ℕ
 
--- The words of nations, of entries, of the holder in each slot, of how many slots each country row has, and of changes.
+-- The words of nations, of entries, of the holder in each slot, of how many slots each country row has, and of changes. (Rules 4.14)
 unfoldable pub cells_of : Answers → NationCells
 cells_of a =
     record {
@@ -66,7 +71,7 @@ cells_of a =
       changes = change_rows a.changes;
     }
 
--- Each lent slice has room for its part of the answer.
+-- Each lent slice has room for its part of the answer. (Rules 4.14)
 abbrev pub all_fit : NationCells → NationCells → Bool
 all_fit cells before =
     fits cells.nations before.nations
@@ -75,7 +80,7 @@ all_fit cells before =
     && fits cells.held before.held
     && fits cells.changes before.changes
 
--- Each lent slice with its part of the answer in it.
+-- Each lent slice with its part of the answer in it. (Rules 4.14)
 abbrev pub all_written : NationCells → NationCells → NationCells
 all_written cells before =
     record {
@@ -86,15 +91,7 @@ all_written cells before =
       changes = written cells.changes before.changes;
     }
 
--- How many rows or cells of each slice the answer fills.
-pub record NationCounts : Type 0 where
-  pub nations : ℕ
-  pub entries : ℕ
-  pub slots : ℕ
-  pub countries : ℕ
-  pub changes : ℕ
-
--- They are the lengths of the lists.
+-- They are the lengths of the lists. (Rules 4.14)
 unfoldable pub counts_of : Answers → NationCounts
 counts_of a =
     record {
@@ -105,7 +102,7 @@ counts_of a =
       changes = length a.changes;
     }
 
--- Refused by the record's number, or 10.
+-- Refused by the record's number, or 10. (Rules 4.14)
 unfoldable pub call_nation_events : List ℕ → NationCells → Outcome NationCounts NationCells
 call_nation_events xs before =
     let answers = answers_of (campaign_of xs) in
@@ -114,24 +111,24 @@ call_nation_events xs before =
 
 -- ## Resolver: lent nation words and entry words, asked for a tag, a date, and set to a day
 
--- Plain resolve of (tag, date): 11, 12.
+-- Plain resolve of (tag, date): 11, 12. (Rules 5.1)
 unfoldable pub call_resolve : List ℕ → List ℕ → ℕ → ℕ → Answer (Option TagData)
 call_resolve ws es tag date =
     answered (first_of (chronicle_number ws es ∷ asked_tag_number tag ∷ asked_date_number date ∷ []))
     (resolve (nations_in ws es) (asked_tag tag) (asked_date date))
 
--- Plain initial of a tag: 11, 12.
+-- Plain initial of a tag: 11, 12. (Rules 5.1)
 unfoldable pub call_initial : List ℕ → List ℕ → ℕ → Answer (Option TagData)
 call_initial ws es tag =
     answered (first_of (chronicle_number ws es ∷ asked_tag_number tag ∷ [])) (initial (nations_in ws es) (asked_tag tag))
 
--- Set to a day, resolve of (tag, date): 11, 12.
+-- Set to a day, resolve of (tag, date): 11, 12. (Rules 5.1)
 unfoldable pub call_resolve_on : List ℕ → List ℕ → ℕ → ℕ → ℕ → Answer (Option TagData)
 call_resolve_on ws es day tag date =
     answered (first_of (chronicle_number ws es ∷ asked_date_number day ∷ asked_tag_number tag ∷ asked_date_number date ∷ []))
     (resolve_on (asked_date day) (nations_in ws es) (asked_tag tag) (asked_date date))
 
--- Set to a day, initial of a tag: 11, 12.
+-- Set to a day, initial of a tag: 11, 12. (Rules 5.1)
 unfoldable pub call_initial_on : List ℕ → List ℕ → ℕ → ℕ → Answer (Option TagData)
 call_initial_on ws es day tag =
     answered (first_of (chronicle_number ws es ∷ asked_date_number day ∷ asked_tag_number tag ∷ []))
@@ -139,7 +136,7 @@ call_initial_on ws es day tag =
 
 -- ## `war_participants`: the number of bookings, and their rows
 
--- Refused by the record's number, 11, or 10. It is given the record, the nation and entry words, and the lent slice.
+-- Refused by the record's number, 11, or 10. It is given the record, the nation and entry words, and the lent slice. (Rules 6.2)
 unfoldable pub call_war_participants : List ℕ → List ℕ → List ℕ → List ℕ → Outcome ℕ (List ℕ)
 call_war_participants xs ws es before =
     let bookings = bookings_of (campaign_of xs) (nations_in ws es) in
@@ -149,12 +146,12 @@ call_war_participants xs ws es before =
 
 -- ## `nation_ledger`: the number of points, and their rows
 
--- The points of the nation that is asked for; no nation has none.
+-- The points of the nation that is asked for; no nation has none. (Rules 7.9)
 abbrev pub asked_points : Campaign → Option Nation → List LedgerPoint
 asked_points c none = []
 asked_points c (some n) = nation_ledger c n
 
--- Refused by the record's number, 11, 13, or 10. It is given the record, the nation and entry words, a nation number and the lent slice.
+-- Refused by the record's number, 11, 13, or 10. It is given the record, the nation and entry words, a nation number and the lent slice. (Rules 7.9)
 unfoldable pub call_nation_ledger : List ℕ → List ℕ → List ℕ → ℕ → List ℕ → Outcome ℕ (List ℕ)
 call_nation_ledger xs ws es number before =
     let nation = get_elem? (nations_in ws es) number in
@@ -165,7 +162,7 @@ call_nation_ledger xs ws es number before =
 
 -- ## `nation_ledger_rows`: how many points `nation_ledger` would give, asked before room is lent
 
--- No more than a given number is counted. Refused by the record's number, 11, or 13; it is lent nothing.
+-- No more than a given number is counted. Refused by the record's number, 11, or 13; it is lent nothing. (Rules 7.11)
 unfoldable pub call_nation_ledger_rows : List ℕ → List ℕ → List ℕ → ℕ → ℕ → Answer ℕ
 call_nation_ledger_rows xs ws es number most =
     let nation = get_elem? (nations_in ws es) number in
@@ -174,17 +171,17 @@ call_nation_ledger_rows xs ws es number most =
 
 -- ## `nation_ledgers`: the points of every nation in turn, and how many each has
 
--- The slices that are lent to it, or the words that it writes into each.
+-- The slices that are lent to it, or the words that it writes into each. (Rules 7.12)
 pub record LedgerCells : Type 0 where
   pub rows : List ℕ
   pub counts : List ℕ
 
--- The rows of the first nation, behind them those of the next, and so on; and for each nation the number of its points.
+-- The rows of the first nation, behind them those of the next, and so on; and for each nation the number of its points. (Rules 7.12)
 unfoldable pub ledger_cells_of : Campaign → List Nation → LedgerCells
 ledger_cells_of c ns =
     record { rows = point_rows (join_of (nation_ledger c) ns); counts = map (λ n. length (nation_ledger c n)) ns }
 
--- Refused by the record's number, 11, or 10 where either slice is too short. The answer is the number of all points.
+-- Refused by the record's number, 11, or 10 where either slice is too short. The answer is the number of all points. (Rules 7.12)
 unfoldable pub call_nation_ledgers : List ℕ → List ℕ → List ℕ → LedgerCells → Outcome ℕ LedgerCells
 call_nation_ledgers xs ws es before =
     let nations = nations_in ws es in

@@ -1,4 +1,4 @@
--- 01, Edges of the chronicle: the starred cases and the worked page, computed by the definitions and as 01 has them. That the two are
+-- The edges of the chronicle and the worked page (Rules 12.11), computed by the definitions and as they are laid down. That the two are
 -- the same is one theorem, proofs/TableLaws.
 use Rattle.std.specs.Prelude.{Bool, true, false, List, [], ◌∷◌, ◌++◌, ℕ, length, take, replicate}
 use Rattle.std.proofs.Math.Option.{Option, none, some}
@@ -8,15 +8,17 @@ use Rattle.format.specs.declared.tag.CountryTag.{CountryTag}
 use Rattle.format.specs.declared.date.Eu4Date.{Eu4Date}
 use Rattle.format.specs.Tags.{same_tag}
 use Rattle.format.specs.Campaign.{campaign_of}
-use Rattle.format.specs.Refusal.{refusal}
-use Rattle.rules.specs.Chronicle.{switch, appeared, annexed, Entry, Nation}
+use Rattle.format.specs.RecordNumber.{refusal}
+use Rattle.format.specs.declared.values.Entry.{Entry}
+use Rattle.format.specs.declared.values.TagData.{TagData}
+use Rattle.format.specs.declared.values.EntryKind.TheVariants.{TagSwitch, Appeared, Annexed}
+use Rattle.rules.specs.Chronicle.{Nation}
 use Rattle.rules.specs.Lent.{Answer, gives, Outcome}
 use Rattle.rules.specs.Nations.{nations_of}
 use Rattle.rules.specs.NationRows.{nation_words, entry_words, nations_in}
 use Rattle.rules.specs.Holding.{wears}
-use Rattle.rules.specs.Resolver.{TagData}
 use Rattle.rules.specs.Outcomes.{call_resolve, call_resolve_on, call_initial_on, call_nation_ledger}
-use Rattle.rules.specs.Demand.{is_named}
+use Rattle.rules.specs.Guarantee.{is_named}
 use Rattle.rules.specs.cases.Worked.{ENG, GBR, dated, worked, starts_on, worked_ledger, same_day}
 use Rattle.rules.specs.PageOutcomes.{call_page, call_program}
 
@@ -34,7 +36,7 @@ abbrev pub entries_stored : CountryTag → List ℕ → List Entry
 entries_stored t xs = join_of (λ n. n.entries) (keep (λ n. same_tag n.stored t) (nations_in (written_nations xs) (written_entries xs)))
 
 -- Of a list of nations, what the first wears on a day, and whether that names any of the others: if it does not, the nation wears its tag
--- alone, as demand 3 asks.
+-- alone, as the guarantee asks.
 abbrev pub first_wears : List Nation → Eu4Date → Option CountryTag
 first_wears [] day = none
 first_wears (n ∷ others) day = some (wears n day)
@@ -43,7 +45,7 @@ abbrev pub names_others : List Nation → Eu4Date → Bool
 names_others [] day = true
 names_others (n ∷ others) day = any_of (is_named (wears n day)) others
 
--- Selection GBR, FRA.
+-- Selection GBR, FRA. (Rules 9.10)
 abbrev pub selection : List ℕ
 selection = ascii "GBR\nFRA\n"
 
@@ -51,7 +53,7 @@ selection = ascii "GBR\nFRA\n"
 abbrev pub sevens : ℕ → List ℕ
 sevens n = replicate n 7
 
--- The cases, a field each.
+-- The cases, a field each. (Rules 12.11)
 pub record Starred : Type 0 where
   pub bytes : ℕ
   pub whole : ℕ
@@ -72,7 +74,7 @@ pub record Starred : Type 0 where
   pub printed : List ℕ
   pub empty_page : List ℕ
 
--- By the definitions. GBR is nation 0 of the worked record; ledger and page are lent two cells more than they need.
+-- By the definitions. GBR is nation 0 of the worked record; ledger and page are lent two cells more than they need. (Rules 12.11)
 unfoldable pub computed : Starred
 computed =
     record {
@@ -96,22 +98,22 @@ computed =
       empty_page = call_program (some worked) [];
     }
 
--- ## What 01 has
+-- ## As they are laid down
 
 -- Of GBR in the worked record.
 abbrev pub expected_entries : List Entry
 expected_entries =
-    record { date = dated 14460101; kind = annexed }
-    ∷ record { date = dated 14470101; kind = appeared }
-    ∷ record { date = dated 14480601; kind = switch GBR }
+    record { date = dated 14460101; kind = Annexed }
+    ∷ record { date = dated 14470101; kind = Appeared }
+    ∷ record { date = dated 14480601; kind = TagSwitch GBR }
     ∷ []
 
 -- Of GBR when its only slot goes from ENG to GBR.
 abbrev pub expected_same_day : List Entry
 expected_same_day =
-    record { date = dated 14470101; kind = annexed }
-    ∷ record { date = dated 14470101; kind = appeared }
-    ∷ record { date = dated 14480601; kind = switch GBR }
+    record { date = dated 14470101; kind = Annexed }
+    ∷ record { date = dated 14470101; kind = Appeared }
+    ∷ record { date = dated 14480601; kind = TagSwitch GBR }
     ∷ []
 
 -- ENG's years up to the switch, then GBR's up to the current date.
@@ -125,14 +127,14 @@ expected_ledger =
     ∷ GBR.0 ∷ 1450 ∷ 0
     ∷ []
 
--- The page of selection GBR, FRA.
+-- The page of selection GBR, FRA. (Rules 9.10)
 abbrev pub expected_page : List ℕ
 expected_page =
     ascii "selected 2\n"
     ++ ascii "GBR ENG GBR 3 living\n"
     ++ ascii "FRA FRA FRA 0 living\n"
 
--- The values of 01's edges, with the last two cells lent to ledger and page as they were.
+-- The values of the edges, with the last two cells lent to ledger and page as they were. (Rules 12.11)
 unfoldable pub expected : Starred
 expected =
     record {

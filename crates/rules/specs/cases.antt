@@ -3,6 +3,7 @@ pub mod Worked
 pub mod CaseForms
 pub mod RecordCases
 pub mod LentCases
+pub mod FinishedCases
 pub mod QuestionCases
 pub mod LedgerCases
 pub mod PlayerCases

@@ -1,6 +1,6 @@
 -- Keys of tags with their numbers: the lowest key of a tag is that of the first element with it. And what a caller knows of a place.
 use mathlib.Core.Path.{◌≡◌, refl, sym, ap, ◌∙◌}
-use mathlib.Core.Bool.{Bool, true, false, ◌&&◌}
+use mathlib.Core.Bool.{Bool, true, false}
 use mathlib.Core.List.{List, [], ◌∷◌, map}
 use mathlib.Core.Option
 use mathlib.Core.Option.{Option, none, some, none-ne-some, some-injective}
@@ -17,11 +17,11 @@ use Rattle.lists.proofs.ListLaws.{all_map}
 use Rattle.lists.proofs.BoundLaws.{first_past, first_above, first-there}
 use Rattle.sorting.specs.Sort.{sort_by}
 use Rattle.sorting.proofs.SortLaws.{Ordered, sort-ordered, keep-sort, leb-total, leb-trans}
-use Rattle.sorting.proofs.SortedKeyLaws.{sorted-up, sort-again}
+use Rattle.sorting.proofs.SortedKeyLaws.{sorted-up}
 use Rattle.format.specs.declared.tag.CountryTag.{CountryTag}
 use Rattle.format.specs.Tags.{same_tag}
 use Rattle.search.specs.Halving.{count_below}
-use Rattle.search.specs.Places.{tag_key, tag_keys_from, place_from, keys_per_tag}
+use Rattle.search.specs.Places.{tag_key, tag_keys_from, place_from, place_in, is_key_of, keys_per_tag}
 
 -- ## The keys of a list of tags
 
@@ -45,7 +45,7 @@ module _ (t : CountryTag) where
   low = tag_key t 0
 
   abbrev is_key : ℕ → Bool
-  is_key x = leb low x && ltb x (low + keys_per_tag)
+  is_key x = is_key_of t x
 
   key-same : (x : CountryTag) (k : ℕ) → k < keys_per_tag → same_tag x t ≡ true → is_key (tag_key x k) ≡ true
   key-same x k h e =
@@ -96,20 +96,32 @@ module _ (t : CountryTag) where
       (λ e. simp (e, key-same x k (omega arith) e, key-number x k (omega arith) e))
       (λ e. simp (e, key-other x k (omega arith) e) (first-number (k + 1) ts (omega arith)))
 
+-- ## The place among keys
+
+first-kept : (p : ℕ → Bool) (keys : List ℕ)
+    → first_or none (map (λ x. some (x % keys_per_tag)) (keep p keys)) ≡ Option.map (λ x. x % keys_per_tag) (first_that p keys)
+first-kept p [] = refl
+first-kept p (x ∷ xs) = cases (p x) (λ e. simp e) (λ e. simp e (first-kept p xs))
+
+-- Among the sorted keys of tags it is the first of these tags that is the given one.
+pub place-among : (t : CountryTag) (ts : List CountryTag) → length ts ≤ keys_per_tag → (keys : List ℕ) → keys ≡ sort_by leb (tag_keys_from 0 ts)
+    → place_in keys t ≡ place_from 0 t ts
+unfolding place_in
+place-among t ts few keys sorted =
+    sym (first-kept (is_key_of t) keys)
+    ∙ ap (λ (ks : List ℕ). first_or none (map (λ x. some (x % keys_per_tag)) ks))
+    (ap (keep (is_key_of t)) sorted
+    ∙ keep-sort leb leb-total leb-trans (is_key_of t) (tag_keys_from 0 ts)
+    ∙ sort-ordered leb (keep (is_key_of t) (tag_keys_from 0 ts)) (keys-ordered t 0 ts (omega arith)))
+    ∙ first-number t 0 ts (omega arith)
+
 -- ## The place that a search finds
 
-module _ (t : CountryTag) (ts : List CountryTag) (few : length ts ≤ keys_per_tag) (keys : List ℕ) (sorted : keys ≡ sort_by leb (tag_keys_from 0 ts))
+module _ (t : CountryTag) (keys : List ℕ) (sorted : sort_by leb keys ≡ keys)
     (lowest : ℕ) (first_of_tag : lowest ≡ tag_key t 0) (i : ℕ) (counted : i ≡ count_below (lowest / 2 * 2) keys) where
-  again : sort_by leb keys ≡ keys
-  again = rw sorted (sort-again (tag_keys_from 0 ts))
-
-  first_key : first_or none (map (λ x. some (x % keys_per_tag)) (keep (is_key t) keys)) ≡ place_from 0 t ts
-  first_key =
-      ap (λ (ks : List ℕ). first_or none (map (λ x. some (x % keys_per_tag)) ks))
-      (ap (keep (is_key t)) sorted
-      ∙ keep-sort leb leb-total leb-trans (is_key t) (tag_keys_from 0 ts)
-      ∙ sort-ordered leb (keep (is_key t) (tag_keys_from 0 ts)) (keys-ordered t 0 ts (omega arith)))
-      ∙ first-number t 0 ts (omega arith)
+  first_key : first_or none (map (λ x. some (x % keys_per_tag)) (keep (is_key_of t) keys)) ≡ place_in keys t
+  unfolding place_in
+  first_key = first-kept (is_key_of t) keys
 
   abbrev first : List ℕ → Option ℕ
   first ks = first_or none (map (λ x. some (x % keys_per_tag)) ks)
@@ -117,17 +129,17 @@ module _ (t : CountryTag) (ts : List CountryTag) (few : length ts ≤ keys_per_t
   below : i ≡ count_of (λ k. ltb k (tag_key t 0)) keys
   below = let e : lowest / 2 * 2 ≡ tag_key t 0 = omega arith in rw e at counted
 
-  pub placed_past : length keys ≤ i → none ≡ place_from 0 t ts
-  placed_past h = sym (ap first (first_past (low t) (low t + keys_per_tag) keys (sorted-up keys again) i below h)) ∙ first_key
+  pub placed_past : length keys ≤ i → none ≡ place_in keys t
+  placed_past h = sym (ap first (first_past (low t) (low t + keys_per_tag) keys (sorted-up keys sorted) i below h)) ∙ first_key
 
   -- The key that stands there is the tag's, if it is below those of the next tag.
-  pub placed-key : (key : ℕ) → i < length keys → key ≡ get_or keys i 0 → option_of (then_some (ltb key (lowest + keys_per_tag)) (key % keys_per_tag)) ≡ place_from 0 t ts
+  pub placed-key : (key : ℕ) → i < length keys → key ≡ get_or keys i 0 → option_of (then_some (ltb key (lowest + keys_per_tag)) (key % keys_per_tag)) ≡ place_in keys t
   placed-key key h e =
       cases (ltb key (lowest + keys_per_tag))
       (λ g. let l = ltb-true key (lowest + keys_per_tag) g in
-      simp g (rw e (sym (first-there (low t) (low t + keys_per_tag) keys (sorted-up keys again) i below (λ x. some (x % keys_per_tag)) none h (omega arith)) ∙ first_key)))
+      simp g (rw e (sym (first-there (low t) (low t + keys_per_tag) keys (sorted-up keys sorted) i below (λ x. some (x % keys_per_tag)) none h (omega arith)) ∙ first_key)))
       (λ g. let l = ltb-false key (lowest + keys_per_tag) g in
-      simp g (sym (ap first (first_above (low t) (low t + keys_per_tag) keys (sorted-up keys again) i below h (omega arith))) ∙ first_key))
+      simp g (sym (ap first (first_above (low t) (low t + keys_per_tag) keys (sorted-up keys sorted) i below h (omega arith))) ∙ first_key))
 
 -- ## What a caller knows of a place
 

@@ -1,4 +1,4 @@
--- The search among keys, and the table that narrows it. It renders no rule, and no promise of a call of 01 cites it.
+-- The search among keys, and the table that narrows it. It renders no rule.
 use Rattle.std.specs.Prelude.{◌≡◌, Bool, List, map, ℕ, ◌/◌, ◌≤◌, leb, ltb, length}
 use Rattle.lists.specs.Lists.{count_of, leading, numbers_from}
 use Rattle.sorting.specs.Sort.{sort_by}

@@ -1,4 +1,4 @@
-// Sorted 64-bit keys: how many are up to a number, and the first element that has a tag.
+//! Sorted 64-bit keys: how many are up to a number, and the first element that has a tag.
 #![tactic(auto)]
 
 mod halving;

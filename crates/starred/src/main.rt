@@ -1,13 +1,16 @@
-// Runs 01's starred cases of record, nations and resolver through the code, and prints what it answers; the file stdout has what 01 says.
-// worked.atl is the worked record, one_slot.atl that of GBR's only slot.
+//! Runs the starred cases of record, nations and resolver through the code (Rules 12.11), and prints what it answers; the file stdout has what they say.
+//! worked.atl is the worked record, one_slot.atl that of GBR's only slot.
 #![tactic(auto)]
+
+ghost use Rattle.std.specs.Prelude.{IfOk};
+ghost use Rattle.starred.specs.FinishedRows.{FinishedRows};
 
 mod shown;
 
-use change_keys::CHANGE_WIDTH;
-use chronicle::{CountryTag, Eu4Date, at, nation_events, resolve};
-use chronicle_rows::{ENTRY_WIDTH, Entry, NATION_WIDTH};
+use chronicle::{FinishedAnswer, at, finish_chronicle, resolve};
+use format::{CountryTag, Entry, Eu4Date, Refusal, TagData};
 use record::check;
+use rows::{BOOKING_WIDTH, CHANGE_WIDTH, ENTRY_WIDTH, NATION_WIDTH, Row};
 use shown::Shown;
 use std::io;
 use stored_input::read_file;
@@ -32,39 +35,50 @@ fn checks(rt: &impl Print, s: [u8; RECORD_BYTES]) -> io::Result<()> {
     Ok(())
 }
 
-// Asks the resolver about a chronicle.
-fn questions(rt: &impl Print, nations: &[u32], entries: &[u32]) -> io::Result<()> {
-    let eng = CountryTag::read(b'E', b'N', b'G');
-    let gbr = CountryTag::read(b'G', b'B', b'R');
-    let before = Eu4Date::kept(14480531);
-    let on = Eu4Date::kept(14480601);
-    let answer = Shown(resolve(nations, entries, gbr, before));
-    println!(rt; "resolve GBR on 14480531: {answer}")?;
-    let answer = Shown(resolve(nations, entries, gbr, on));
-    println!(rt; "resolve GBR on 14480601: {answer}")?;
-    let answer = Shown(at(before).resolve_at(nations, entries, eng, before));
-    println!(rt; "set to 14480531, resolve ENG on 14480531: {answer}")?;
-    let answer = Shown(at(before).initial_at(nations, entries, eng));
-    println!(rt; "set to 14480531, initial ENG: {answer}")?;
-    let answer = Shown(at(on).resolve_at(nations, entries, gbr, on));
-    println!(rt; "set to 14480601, resolve GBR on 14480601: {answer}")
-}
-
-// Writes the nations and entries of a record, of two countries and two provinces at most, and prints the entries.
-fn nation_rows(
-    rt: &impl Print,
+// The finished chronicle of a record of two countries and two provinces at most, and without wars, with whose the tag
+// is on the day. The guarantee holds of its rows.
+fn finished(
     s: &[u8],
+    tag: CountryTag,
+    day: Eu4Date,
     nations: &mut [u32],
     entries: &mut [u32],
-) -> io::Result<()> {
+) -> Result<FinishedAnswer, Refusal>
+    ensures { IfOk result (λ answer. FinishedRows s.now tag day answer nations.new entries.new) }
+{
     let mut holders = [0u32; 3];
     let mut held = [0u32; 2];
     let mut changes = [0u32; CHANGE_WIDTH * 2];
-    match nation_events(s, nations, entries, &mut holders, &mut held, &mut changes) {
-        Ok(counts) => {
+    let mut bookings = [0u32; BOOKING_WIDTH];
+    finish_chronicle(
+        s,
+        tag,
+        day,
+        nations,
+        entries,
+        &mut holders,
+        &mut held,
+        &mut changes,
+        &mut bookings,
+    )
+}
+
+// Whose the tag is.
+fn found(answer: Result<FinishedAnswer, Refusal>) -> Shown<Result<Option<TagData>, Refusal>> {
+    Shown(answer.map(|finished| finished.found))
+}
+
+// Prints the entries of a finished chronicle.
+fn print_entries(
+    rt: &impl Print,
+    entries: &[u32],
+    answer: Result<FinishedAnswer, Refusal>,
+) -> io::Result<()> {
+    match answer {
+        Ok(finished) => {
             let rows = entries.as_chunks::<ENTRY_WIDTH>().0;
-            for row in rows.iter().take(counts.entries) {
-                println!(rt; "{}", Shown(Entry::from(*row)))?;
+            for row in rows.iter().take(finished.counts.entries) {
+                println!(rt; "{}", Shown(Entry::read(*row)))?;
             }
             Ok(())
         }
@@ -72,21 +86,44 @@ fn nation_rows(
     }
 }
 
-// The worked record: its rows, and what the resolver makes of them.
+// The worked record: its rows, and what the resolver makes of them. Whose a tag is on the day to which the resolver is
+// set, the finished chronicle says; the other questions are asked of its rows.
 fn worked(rt: &impl Print, s: &[u8]) -> io::Result<()> {
+    let eng = CountryTag::from_bytes_unchecked(b'E', b'N', b'G');
+    let gbr = CountryTag::from_bytes_unchecked(b'G', b'B', b'R');
+    let before = Eu4Date::from_word_unchecked(14480531);
+    let on = Eu4Date::from_word_unchecked(14480601);
     let mut nations = [0u32; NATION_WIDTH * 2];
     let mut entries = [0u32; ENTRY_WIDTH * 3];
     println!(rt; "entries of the worked record:")?;
-    nation_rows(rt, s, &mut nations, &mut entries)?;
-    questions(rt, &nations, &entries)
+    let finished_before = finished(s, eng, before, &mut nations, &mut entries);
+    print_entries(rt, &entries, finished_before)?;
+    let answer = Shown(resolve(&nations, &entries, gbr, before));
+    println!(rt; "resolve GBR on 14480531: {answer}")?;
+    let answer = Shown(resolve(&nations, &entries, gbr, on));
+    println!(rt; "resolve GBR on 14480601: {answer}")?;
+    println!(rt;
+        "set to 14480531, resolve ENG on 14480531: {}",
+        found(finished_before)
+    )?;
+    let answer = Shown(at(before).initial_at(&nations, &entries, eng));
+    println!(rt; "set to 14480531, initial ENG: {answer}")?;
+    let finished_on = finished(s, gbr, on, &mut nations, &mut entries);
+    println!(rt;
+        "set to 14480601, resolve GBR on 14480601: {}",
+        found(finished_on)
+    )
 }
 
 // The record in which GBR's only slot goes from ENG to GBR.
 fn one_slot(rt: &impl Print, s: &[u8]) -> io::Result<()> {
+    let gbr = CountryTag::from_bytes_unchecked(b'G', b'B', b'R');
+    let day = Eu4Date::from_word_unchecked(14470101);
     let mut nations = [0u32; NATION_WIDTH];
     let mut entries = [0u32; ENTRY_WIDTH * 3];
     println!(rt; "entries with one slot, from ENG to GBR:")?;
-    nation_rows(rt, s, &mut nations, &mut entries)
+    let answer = finished(s, gbr, day, &mut nations, &mut entries);
+    print_entries(rt, &entries, answer)
 }
 
 fn main(rt: HostRuntime) -> io::Result<()> {

@@ -1,6 +1,5 @@
-// Answers as lines of text.
-use chronicle::{CountryTag, Refusal, TagData};
-use chronicle_rows::{Entry, Kind};
+//! Answers as lines of text.
+use format::{CountryTag, Entry, EntryKind, Refusal, TagData};
 use std::fmt;
 
 // A value as it is printed: a tag by its three bytes, a check as accepted or refused, an answer of the resolver by current and stored tag, an
@@ -42,12 +41,12 @@ impl fmt::Display for Shown<Entry> {
     fn fmt<W: fmt::Write>(&self, f: &mut fmt::Formatter<W>) -> fmt::Result {
         let date = u32::from(self.0.date);
         match self.0.kind {
-            Kind::Switch(target) => {
+            EntryKind::TagSwitch(target) => {
                 let target = Shown(target);
                 write!(f, "{date} switch to {target}")
             }
-            Kind::Appeared => write!(f, "{date} Appeared"),
-            Kind::Annexed => write!(f, "{date} Annexed"),
+            EntryKind::Appeared => write!(f, "{date} Appeared"),
+            EntryKind::Annexed => write!(f, "{date} Annexed"),
         }
     }
 }

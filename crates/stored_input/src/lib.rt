@@ -1,4 +1,4 @@
-// Reading inputs into buffers, and replaying the lists of cases that stand in stored files.
+//! Reading inputs into buffers, and replaying the lists of cases that stand in stored files.
 #![tactic(auto)]
 
 mod numbers;
@@ -16,14 +16,14 @@ use std::fs::File;
 use std::io::Read;
 use std::rt::Files;
 
-// A read that failed, behind so many bytes that came before.
+/// A read that failed, behind so many bytes that came before.
 #[derive(Clone, Copy, Debug, PartialEq, Eq)]
 pub struct ReadFailed {
     pub after: usize,
 }
 
-// Reads until buf is full, the input ends or a read fails, and returns how many bytes it put at the start of buf. A loop of its own: `read_exact`
-// does not tell how far it came.
+/// Reads until buf is full, the input ends or a read fails, and returns how many bytes it put at the start of buf. A loop of its own: `read_exact`
+/// does not tell how far it came.
 pub fn read_full<R: Read>(input: &mut R, buf: &mut [u8]) -> Result<usize, ReadFailed>
     ensures read { IfOk result (λ n. BeginsRead (R.remaining input.old) (R.remaining input.new) buf.new n) }
     ensures end { IfOk result (λ n. n < length buf.new → IsAtEnd (R.remaining input.new)) }
@@ -43,8 +43,8 @@ pub fn read_full<R: Read>(input: &mut R, buf: &mut [u8]) -> Result<usize, ReadFa
     Ok(done)
 }
 
-// Reads a file into a buffer, as far as it has room: nothing of one that cannot be opened or read. Which file a name opens, and what it holds,
-// no clause of `Files` tells: so the promise is of some file that was opened.
+/// Reads a file into a buffer, as far as it has room: nothing of one that cannot be opened or read. Which file a name opens, and what it holds,
+/// no clause of `Files` tells: so the promise is of some file that was opened.
 pub fn read_file<'a, F: Files>(rt: &F, name: &str, buf: &'a mut [u8]) -> Option<&'a [u8]>
     ensures fits { IfSome result (λ s. length s.now ≤ length buf.old) }
     ensures read { IfSome result (λ s. (file : F.File) × (after : F.File)

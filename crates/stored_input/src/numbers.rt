@@ -1,4 +1,4 @@
-// What a stored list has: bytes, and numbers of 32 bits, low byte first.
+//! What a stored list has: bytes, and numbers of 32 bits, low byte first.
 ghost use Rattle.std.specs.Prelude.{◌≡◌, ◌≢◌, ◌++◌, [], ℕ, List, length, Ok, Err, IfOk, OnOk, MatchOption};
 ghost use Rattle.std.specs.Int.{to_le_bytes, w32};
 ghost use Rattle.std.specs.Io.KnownBytes.{Consumes, IsAtEnd};
@@ -7,7 +7,7 @@ ghost use Rattle.stored_input.specs.Reading.{number_bytes};
 use crate::{ReadFailed, read_full};
 use std::io::Read;
 
-// A list that ends within a case, or a case that none can be.
+/// A list that ends within a case, or a case that none can be.
 #[derive(Clone, Copy, Debug, PartialEq, Eq)]
 pub struct BrokenOff;
 
@@ -17,7 +17,7 @@ impl From<ReadFailed> for BrokenOff {
     }
 }
 
-// What stands in a list, each in as many bytes.
+/// What stands in a list, each in as many bytes.
 pub trait Stored: Sized {
     ghost bytes_of: { List Self → List ℕ };
 
@@ -58,7 +58,7 @@ fn number_from_bytes(bytes: [u8; 4]) -> u32
     u32::from_le_bytes(bytes)
 }
 
-// The next number, nothing at the list's end.
+/// The next number, nothing at the list's end.
 pub fn next_number<R: Read>(list: &mut R) -> Result<Option<u32>, BrokenOff>
     ensures { IfOk result (λ r. MatchOption r
         (Consumes (R.remaining list.old) (R.remaining list.new) [] × IsAtEnd (R.remaining list.new))
@@ -72,7 +72,7 @@ pub fn next_number<R: Read>(list: &mut R) -> Result<Option<u32>, BrokenOff>
     }
 }
 
-// Reads the next n into a buffer. More than it holds no case has.
+/// Reads the next n into a buffer. More than it holds no case has.
 pub fn read_part<'a, T: Stored, R: Read>(
     list: &mut R,
     n: usize,
@@ -85,7 +85,7 @@ pub fn read_part<'a, T: Stored, R: Read>(
     Ok(part)
 }
 
-// The next N numbers.
+/// The next N numbers.
 pub fn read_numbers<const N: usize, R: Read>(list: &mut R) -> Result<[u32; N], BrokenOff>
     ensures { IfOk result (λ ns. Consumes (R.remaining list.old) (R.remaining list.new) (number_bytes ns)) }
 {
@@ -94,14 +94,14 @@ pub fn read_numbers<const N: usize, R: Read>(list: &mut R) -> Result<[u32; N], B
     Ok(numbers)
 }
 
-// Takes the first n off those that are left.
+/// Takes the first n off those that are left.
 pub fn take_part<'a, T>(left: &mut &'a [T], n: usize) -> Result<&'a [T], BrokenOff>
     ensures { IfOk result (λ part. (length part.now ≡ n) × (left.old.now ≡ part.now ++ left.new.now)) }
 {
     left.split_off(..n).ok_or(BrokenOff)
 }
 
-// An answer as a list stores it: the number of its refusal, or 0 and a value.
+/// An answer as a list stores it: the number of its refusal, or 0 and a value.
 pub fn stored_answer<T: Drop>(number: u32, value: T) -> Result<T, u32>
     ensures given { number ≡ 0 → result ≡ Ok value }
     ensures refused { number ≢ 0 → result ≡ Err number }

@@ -1,4 +1,4 @@
-// Replaying a stored list, case by case.
+//! Replaying a stored list, case by case.
 ghost use Rattle.std.specs.Prelude.{◌≡◌, ◌≤◌, ◌++◌, [], ℕ, List, IfOk, IfSome, MatchOption};
 ghost use Rattle.std.specs.Int.{to_le_bytes, w32};
 ghost use Rattle.std.specs.Io.KnownBytes.{Consumes, IsAtEnd};
@@ -12,8 +12,8 @@ use std::rt::Files;
 // The most cases that are replayed.
 const MOST_CASES: u64 = 100000;
 
-// What a case comes to, or several: how many questions it asks one at a time, and how many answers are other ones than stored, wrong, or
-// noticed where they were falsified in the list.
+/// What a case comes to, or several: how many questions it asks one at a time, and how many answers are other ones than stored, wrong, or
+/// noticed where they were falsified in the list.
 #[derive(Clone, Copy, Debug, Default, PartialEq, Eq)]
 pub struct Counts {
     pub questions: usize,
@@ -28,14 +28,14 @@ const BROKEN_OFF: Counts = Counts {
     noticed: 0,
 };
 
-// What the cases of a list come to.
+/// What the cases of a list come to.
 #[derive(Clone, Copy, Debug, Default, PartialEq, Eq)]
 pub struct Tally {
     pub cases: u64,
     pub counts: Counts,
 }
 
-// Cases of one kind, with what they need to be read and answered.
+/// Cases of one kind, with what they need to be read and answered.
 pub trait Replay {
     ghost use Rattle.stored_input.specs.declared.replay.Counts.{Counts};
 
@@ -75,7 +75,7 @@ fn replay_next<C: Replay, R: Read>(cases: &mut C, list: &mut R) -> Result<Option
     }
 }
 
-// Replays the cases of a list, 100,000 at most. A list that breaks off ends there, with one wrong answer more.
+/// Replays the cases of a list, 100,000 at most. A list that breaks off ends there, with one wrong answer more.
 pub fn replay_list<C: Replay, R: Read>(list: &mut R, cases: &mut C) -> Tally
     ensures most { result.cases ≤ MOST_CASES }
     ensures counted { ListReplayed C.comes_to MOST_CASES (R.remaining list.old) (R.remaining list.new) result }
@@ -97,8 +97,8 @@ pub fn replay_list<C: Replay, R: Read>(list: &mut R, cases: &mut C) -> Tally
     all
 }
 
-// Replays the cases of a stored file, nothing of one that cannot be opened. Of which file a name opens, and of what it holds, no clause of
-// `Files` tells: so the promise is of some file that was opened.
+/// Replays the cases of a stored file, nothing of one that cannot be opened. Of which file a name opens, and of what it holds, no clause of
+/// `Files` tells: so the promise is of some file that was opened.
 pub fn replay_file<C: Replay, F: Files>(rt: &F, name: &str, cases: &mut C) -> Option<Tally>
     ensures { IfSome result (λ all. (all.cases ≤ MOST_CASES) × (file : F.File) × (after : F.File)
         × ListReplayed C.comes_to MOST_CASES (F.File.remaining file) (F.File.remaining after) all) }

@@ -1,21 +1,21 @@
 -- Lists of cells that are written one cell after the other, and counted.
 use mathlib.Core.Path.{◌≡◌, refl, sym, ap, ap₂, ◌∙◌}
-use mathlib.Core.Bool.{Bool, true, false, ◌||◌, true≢false}
 use mathlib.Core.List.{List, [], ◌∷◌, ◌++◌, map}
-use Prim.Native.Nat.{ℕ, suc, ◌+◌, ◌%◌, ◌≤◌, ◌<◌}
+use Prim.Native.Nat.{ℕ, suc, ◌+◌, ◌%◌, ◌≤◌, ◌<◌, min}
 use native.Mathlib.Numerals.{add-one}
 use native.Mathlib.Omega.{arith}
-use borrow.Author.Tests.{eqb-true, eqb-false, ltb-false, le-ltb}
-use lib.Dec.{eqb, ltb}
+use borrow.Author.Tests.{eqb-true, eqb-false}
+use lib.Dec.{eqb}
 use lib.ListN.{length, get_or, set, take, drop, length-set, length-map, get_or-map}
 use lib.Seq.{length-take-le, take_all, take_at, take-suc, set_out, ext_get_or, get_or-drop, get_or-set_same, get_or-set_other}
+use Rattle.std.proofs.lemmas.List.{take_min}
 use Rattle.lists.specs.Lists.{count_of, numbers_from}
-use Rattle.lists.proofs.BoolLaws.{cases, neither}
+use Rattle.lists.proofs.BoolLaws.{cases}
 use Rattle.lists.proofs.FillLaws.{Filling}
 use Rattle.lists.proofs.ListLaws.{length-numbers, numbers-at, count-append, count-le}
 use Rattle.rules.specs.Lent.{written}
 use Rattle.nation_tables.specs.Layout.{most_slots, cell_rows}
-use Rattle.nation_tables.specs.Holders.{rows_in_cells, slot_counts, SlotsRoom}
+use Rattle.nation_tables.specs.Holders.{rows_in_cells, slot_counts, cell_word, SlotsRoom, SlotsPut, SlotsWritten}
 
 -- ## Lists
 
@@ -164,25 +164,32 @@ module _ (slots counts₀ counts : List ℕ) (i : ℕ) (q : SlotsCounting slots 
       let r = rows_long in
       q.cells ∙ ap₂ slot_counts (take_all i (rows_in_cells slots) (omega arith)) (ap length e ∙ length-map before (λ _. 0))
 
--- ## Room for the rows of slots, as the code tests it
+-- ## What is written of slots
 
-module _ (slots : List ℕ) (n : ℕ) (holders held : List ℕ) where
-  -- Some slice is too short.
-  abbrev lacking : Bool
-  lacking = ltb (length holders) (length slots) || ltb (length held) n || ltb most_slots (length slots)
+-- What `write_slots` leaves, by its three bounds.
+pub slots-written : (slots : List ℕ) (n : ℕ) (holders₀ holders₁ held₀ counts : List ℕ) (p q r : ℕ) → p ≡ min most_slots (length slots)
+    → q ≡ min (length holders₀) p → r ≡ min n (length held₀) → holders₁ ≡ written (map cell_word (take q (take p slots))) holders₀
+    → counts ≡ slot_counts (rows_in_cells (take p slots)) (length (take r held₀)) → SlotsWritten slots n holders₀ holders₁ held₀ (counts ++ drop r held₀)
+slots-written slots n holders₀ holders₁ held₀ counts p q r e f g h k =
+    let first : take p slots ≡ take most_slots slots = ap (λ (i : ℕ). take i slots) e ∙ take_min most_slots slots in
+    let long : length (take p slots) ≡ p = length-take-le p slots (omega (arith, e)) in
+    let front : take q (take p slots) ≡ take (length holders₀) (take most_slots slots) =
+    ap (λ (i : ℕ). take i (take p slots)) (f ∙ ap (min (length holders₀)) (sym long)) ∙ take_min (length holders₀) (take p slots) ∙ ap (take (length holders₀)) first in
+    record {
+      holders = h ∙ ap (λ (l : List ℕ). written (map cell_word l) holders₀) front;
+      held =
+          counts-written (rows_in_cells (take p slots)) held₀ counts r (omega (arith, g)) k
+          ∙ ap₂ (λ (l : List ℕ) (m : ℕ). written (slot_counts (rows_in_cells l) m) held₀) first g;
+    }
 
-  pub room-tested : lacking ≡ false → SlotsRoom slots n holders held
-  room-tested h =
-      let two = neither (ltb (length holders) (length slots) || ltb (length held) n) (ltb most_slots (length slots)) h in
-      let one = neither (ltb (length holders) (length slots)) (ltb (length held) n) two.0 in
-      record {
-        holders = ltb-false (length holders) (length slots) one.0;
-        held = ltb-false (length held) n one.1;
-        few = ltb-false most_slots (length slots) two.1;
-      }
-
-  pub room-missed : SlotsRoom slots n holders held → lacking ≡ true → ⊥
-  room-missed room h =
-      let none : lacking ≡ false =
-      rw (le-ltb (length holders) (length slots) room.holders, le-ltb (length held) n room.held, le-ltb most_slots (length slots) room.few) refl in
-      true≢false (sym h ∙ none)
+-- For callers: all of them, where they find room.
+pub slots-put : {slots : List ℕ} {n : ℕ} {holders₀ holders₁ held₀ held₁ : List ℕ} → SlotsRoom slots n holders₀ held₀ → SlotsWritten slots n holders₀ holders₁ held₀ held₁
+    → SlotsPut slots n holders₀ holders₁ held₀ held₁
+slots-put {slots} {n} {holders₀} {holders₁} {held₀} room w =
+    let few : take most_slots slots ≡ slots = take_all most_slots slots room.few in
+    let fits : take (length holders₀) (take most_slots slots) ≡ slots = ap (take (length holders₀)) few ∙ take_all (length holders₀) slots room.holders in
+    let rows : min n (length held₀) ≡ n = omega (arith, room.held) in
+    record {
+      holders = w.holders ∙ ap (λ (l : List ℕ). written (map cell_word l) holders₀) fits;
+      held = w.held ∙ ap₂ (λ (l : List ℕ) (m : ℕ). written (slot_counts (rows_in_cells l) m) held₀) few rows;
+    }

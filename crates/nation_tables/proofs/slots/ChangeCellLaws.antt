@@ -19,13 +19,13 @@ use Rattle.sorting.proofs.SortedKeyLaws.{sort-again}
 use Rattle.sorting.proofs.SortLaws.{all-sort}
 use Rattle.format.specs.declared.tag.CountryTag.{CountryTag}
 use Rattle.format.specs.Campaign.{Country, campaign_of}
-use Rattle.format.specs.Refusal.{refusal}
+use Rattle.format.specs.RecordNumber.{refusal}
 use Rattle.format.proofs.BoundLaws.{small-provinces}
-use Rattle.rules.specs.Chronicle.{Change}
+use Rattle.format.specs.declared.values.OwnerChange.{OwnerChange}
 use Rattle.rules.specs.Changes.{province_changes, by_date_and_id}
 use Rattle.rules.specs.Nations.{all_switches, settles, move_of}
 use Rattle.rules.specs.NationRows.{holder_word}
-use Rattle.change_keys.specs.ChangeSteps.{entered, change_key, change_keys_from, tags_of, change_at, per_id, per_date}
+use Rattle.owner_changes.specs.ChangeSteps.{entered, change_key, change_keys_from, tags_of, change_at, per_id, per_date}
 use Rattle.nation_tables.specs.Layout.{key_rows, key_tags, cell_rows, row_number}
 use Rattle.nation_tables.specs.Lookup.{no_row}
 use Rattle.nation_tables.specs.Countries.{tag_at_row, country_tags, words_of_tags, places_of, row_of, Keyed}
@@ -33,8 +33,8 @@ use Rattle.nation_tables.specs.Settling.{or_tag, settling_row, settled_row}
 use Rattle.nation_tables.specs.Turning.{first_at, holder_row}
 use Rattle.nation_tables.specs.Holders.{Settler, Small, no_tag, slot_cell, holder_cell, Step, step_at, steps_of}
 use Rattle.rules.proofs.CampaignLaws.{all-changes}
-use Rattle.change_keys.proofs.ChangeLaws.{Narrow}
-use Rattle.change_keys.proofs.ChangeKeyLaws.{changes-back, keys-sorted}
+use Rattle.owner_changes.proofs.ChangeLaws.{Narrow}
+use Rattle.owner_changes.proofs.ChangeKeyLaws.{changes-back, keys-sorted}
 use Rattle.nation_tables.proofs.tables.MappedLaws.{row-single}
 use Rattle.nation_tables.proofs.tables.OwnLaws.{row-holds}
 use Rattle.nation_tables.proofs.tables.SettlingLaws.{settled-row}
@@ -85,7 +85,7 @@ entered-small xs h =
     (campaign_of xs).provinces (small-provinces xs h)
 
 -- The first of those left is small, and so are the others.
-pub small-next : {left rest : List Change} {x : Change} → left ≡ x ∷ rest → All Small left → Small x × All Small rest
+pub small-next : {left rest : List OwnerChange} {x : OwnerChange} → left ≡ x ∷ rest → All Small left → Small x × All Small rest
 small-next e q = rw e at q
 
 -- A tag out of a row is small if all tags are.
@@ -105,7 +105,7 @@ Short ks = All (λ k. k.tag.0 < key_tags) ks
 pub all-sorted : (xs keys : List ℕ) → keys ≡ sort_by leb xs → sort_by leb keys ≡ keys
 all-sorted xs keys e = ap (sort_by leb) e ∙ sort-again xs ∙ sym e
 
-module _ (ks : List Country) (ts : List CountryTag) (ss : List ℕ) (q : Settler ks ts ss) (x : Change) (small : Small x) (row : ℕ)
+module _ (ks : List Country) (ts : List CountryTag) (ss : List ℕ) (q : Settler ks ts ss) (x : OwnerChange) (small : Small x) (row : ℕ)
     (found : row ≡ row_number (settling_row ss x.to x.date)) where
   -- The row that was found and the tag that stands there make the cell of the change.
   pub cell-made : (to : CountryTag) → to ≡ x.to → (get_or ts row to).0 * cell_rows + row ≡ holder_cell ks x
@@ -120,7 +120,7 @@ module _ (ks : List Country) (ts : List CountryTag) (ss : List ℕ) (q : Settler
 
 module _ (ks : List Country) where
   -- So is the tag that a change settles to.
-  pub settled-small : Keyed ks → Short ks → (x : Change) → Small x → (settles (all_switches ks) x).0 < key_tags
+  pub settled-small : Keyed ks → Short ks → (x : OwnerChange) → Small x → (settles (all_switches ks) x).0 < key_tags
   settled-small keyed short x s =
       let q = settled-row ks keyed x s.date in
       omega (arith, ap (λ (t : CountryTag). t.0) q.holder, tag-at-small key_tags ks (settled_row ks x.to x.date) x.to short s.to)
@@ -128,7 +128,7 @@ module _ (ks : List Country) where
   -- ## Steps
 
   -- A key with the cell of its change tells the step of the change's move.
-  step_back : (k : ℕ) (x : Change) → k < per_id → Narrow x → (cells : List ℕ) → get_or cells k 0 ≡ holder_cell ks x
+  step_back : (k : ℕ) (x : OwnerChange) → k < per_id → Narrow x → (cells : List ℕ) → get_or cells k 0 ≡ holder_cell ks x
       → step_at cells (change_key k x) ≡ step_of (words_of_tags ks) (move_of (all_switches ks) x)
   unfolding holder_cell
   step_back k x h n cells g =
@@ -141,7 +141,7 @@ module _ (ks : List Country) where
       rw (date, slot, here)
 
   -- So do all keys, with the cells at their numbers.
-  steps_back : (cells : List ℕ) (k : ℕ) (cs : List Change) → All Narrow cs → k + length cs ≤ per_id
+  steps_back : (cells : List ℕ) (k : ℕ) (cs : List OwnerChange) → All Narrow cs → k + length cs ≤ per_id
       → drop k cells ≡ map (holder_cell ks) cs
       → map (step_at cells) (change_keys_from k cs) ≡ map (λ x. step_of (words_of_tags ks) (move_of (all_switches ks) x)) cs
   unfolding change_keys_from
@@ -156,12 +156,12 @@ module _ (ks : List Country) where
       (steps_back cells (k + 1) cs n.1 (omega arith) behind)
 
   -- The sorted keys and the cells stand for the moves of the changes in their order.
-  pub steps-sorted : (cs : List Change) (cells : List ℕ) → length cs ≤ per_id → All Narrow cs → cells ≡ map (holder_cell ks) cs
+  pub steps-sorted : (cs : List OwnerChange) (cells : List ℕ) → length cs ≤ per_id → All Narrow cs → cells ≡ map (holder_cell ks) cs
       → steps_of cells (sort_by leb (change_keys_from 0 cs)) ≡ map (step_of (words_of_tags ks)) (map (move_of (all_switches ks)) (sort_by by_date_and_id cs))
   steps-sorted cs cells few n e =
       let keys = change_keys_from 0 cs in
       let pairs = map tags_of cs in
-      let told : Change → Step = λ x. step_of (words_of_tags ks) (move_of (all_switches ks) x) in
+      let told : OwnerChange → Step = λ x. step_of (words_of_tags ks) (move_of (all_switches ks) x) in
       let back : map (change_at pairs) keys ≡ cs = changes-back pairs 0 cs n (omega arith) refl in
       let each : map (step_at cells) keys ≡ map (λ k. told (change_at pairs k)) keys =
       steps_back cells 0 cs n (omega arith) e ∙ ap (map told) (sym back) ∙ map-then (change_at pairs) told keys in

@@ -1,41 +1,39 @@
 -- The tables of an accepted record are filled within their cells, one after the other, and together they are the cells of its campaign.
-use mathlib.Core.Path.{◌≡◌, refl, sym, ap, subst, ◌∙◌}
+use mathlib.Core.Path.{◌≡◌, sym, ap, subst, ◌∙◌}
 use mathlib.Core.List.{List, map}
 use Prim.Native.Nat.{ℕ, suc, ◌+◌, ◌-◌, ◌≤◌}
 use native.Mathlib.Omega.{arith}
 use lib.Dec.{leb}
 use lib.ListN.{length, take, length-map, length-take}
-use lib.Seq.{length-take-le}
 use Rattle.sorting.proofs.SortLaws.{length-sort}
 use Rattle.format.specs.declared.tag.CountryTag.{CountryTag}
 use Rattle.format.specs.Campaign.{Campaign, Country, campaign_of}
 use Rattle.format.proofs.SoundLaws.{sound}
 use Rattle.record.specs.Cursors.{countries_left, provinces_left}
 use Rattle.rules.specs.Nations.{holders_of}
-use Rattle.change_keys.specs.ChangeSteps.{most_changes}
-use Rattle.change_keys.proofs.ChangeLaws.{changes-few}
+use Rattle.owner_changes.specs.ChangeSteps.{most_changes}
+use Rattle.owner_changes.proofs.ChangeLaws.{changes-few}
 use Rattle.record.specs.declared.opened.Record.{Record}
 use Rattle.nation_tables.specs.declared.gathering.Sizes.{Sizes}
 use Rattle.nation_tables.specs.declared.layout.LossGain.{LossGain}
 use Rattle.nation_tables.specs.Layout.{most_countries, most_switches, most_settling, most_slots, rows_within, no_change}
 use Rattle.nation_tables.specs.Countries.{switch_keys_from, settling_keys_from, with_own, Keyed, OwnLast}
 use Rattle.nation_tables.specs.Turning.{losses, gains}
-use Rattle.nation_tables.specs.Holders.{CountryTables, HoldingRoom, HoldingAsked, slot_cells, Held}
+use Rattle.nation_tables.specs.Holders.{CountryTables, HoldingRoom, slot_cells, Held}
 use Rattle.nation_tables.specs.Switches.{runs_from, run_keys, target_words}
-use Rattle.nation_tables.specs.Gathering.{Begun, TableRoom, TablesRoom, TablesFilled, SwitchesRoom, Arranged, CampaignCells, cells_from, Gathered}
+use Rattle.nation_tables.specs.Gathering.{TableRoom, TablesRoom, TablesFilled, SwitchesRoom, Arranged, CampaignCells, cells_from, Gathered}
 use Rattle.nation_tables.proofs.tables.KeyedLaws.{countries-few, provinces-few, switches-few, accepted-keyed, accepted-own}
 use Rattle.nation_tables.proofs.tables.OwnLaws.{keyed-own}
 use Rattle.nation_tables.proofs.tables.OwnKeyLaws.{settling-count}
 use Rattle.nation_tables.proofs.tables.SwitchLaws.{runs-few}
 use Rattle.nation_tables.proofs.slots.RoomLaws.{countries-fit, slots-fit, settling-fit, switches-fit, entered-fit, changes-fit}
 
--- A part from the first element on has as many elements as were taken.
-length-first : (n k : ℕ) (xs : List ℕ) → n ≤ length xs → n ≡ k → length (take n xs) ≡ k
-length-first n k xs l e = length-take-le n xs l ∙ e
+-- ## An opened record
 
--- ## An accepted record
+module _ (from : Record) where
+  abbrev xs : List ℕ
+  xs = from.bytes.now
 
-module _ (xs : List ℕ) (from : Record) (pre : Begun xs from) where
   abbrev c : Campaign
   c = campaign_of xs
 
@@ -45,31 +43,31 @@ module _ (xs : List ℕ) (from : Record) (pre : Begun xs from) where
 
   -- There are not many.
   pub told-few : length told ≤ most_countries
-  told-few = subst (λ ks. length ks ≤ most_countries) (sym pre.countries) (countries-few xs pre.ready.accepted)
+  told-few = subst (λ ks. length ks ≤ most_countries) (sym from.told.countries) (countries-few xs from.accepted)
 
   -- Nor more than the bytes allow.
   told-fit : (m : ℕ) → rows_within most_countries (length xs) ≤ m → length told ≤ m
-  told-fit m l = subst (λ ks. length ks ≤ m) (sym pre.countries) (countries-fit xs pre.ready.accepted m l)
+  told-fit m l = subst (λ ks. length ks ≤ m) (sym from.told.countries) (countries-fit xs from.accepted m l)
 
   -- Nor many switches.
   pub told-switches-few : length (switch_keys_from 0 told) ≤ most_switches
-  told-switches-few = subst (λ ks. length (switch_keys_from 0 ks) ≤ most_switches) (sym pre.countries) (switches-few xs pre.ready.accepted)
+  told-switches-few = subst (λ ks. length (switch_keys_from 0 ks) ≤ most_switches) (sym from.told.countries) (switches-few xs from.accepted)
 
   told-keyed : Keyed told
-  told-keyed = subst Keyed (sym pre.countries) (accepted-keyed xs pre.ready.accepted)
+  told-keyed = subst Keyed (sym from.told.countries) (accepted-keyed xs from.accepted)
 
   -- Nor more keys that changes settle by than the bytes allow.
   told-settling-few : (m : ℕ) → rows_within most_settling (length xs) ≤ m → length (settling_keys_from 0 told) ≤ m
   told-settling-few m l =
-      subst (λ ks. length (settling_keys_from 0 ks) ≤ m) (sym pre.countries) (settling-fit xs pre.ready.accepted m l)
+      subst (λ ks. length (settling_keys_from 0 ks) ≤ m) (sym from.told.countries) (settling-fit xs from.accepted m l)
 
   -- And so it is with switches, where changes have room.
   told-switches-fit : (m : ℕ) → rows_within most_changes (length xs) ≤ m → length (switch_keys_from 0 told) ≤ m
   told-switches-fit m l =
-      subst (λ ks. length (switch_keys_from 0 ks) ≤ m) (sym pre.countries) (switches-fit xs pre.ready.accepted m l)
+      subst (λ ks. length (switch_keys_from 0 ks) ≤ m) (sym from.told.countries) (switches-fit xs from.accepted m l)
 
   told-own : OwnLast told
-  told-own = subst OwnLast (sym pre.countries) (accepted-own xs pre.ready.accepted)
+  told-own = subst OwnLast (sym from.told.countries) (accepted-own xs from.accepted)
 
   -- They and their switches have room in keys.
   pub own-keyed : Keyed (map with_own told)
@@ -83,7 +81,7 @@ module _ (xs : List ℕ) (from : Record) (pre : Begun xs from) where
   settling-within n m k e q z = let a = told-settling-few k z in omega arith
 
   pub slots-within : (n m : ℕ) → n ≡ length (provinces_left from.provinces) → rows_within most_slots (length xs) ≤ m → n + 1 ≤ m
-  slots-within n m e z = let a = slots-fit xs pre.ready.accepted m z in let b = ap length pre.ready.rows in omega arith
+  slots-within n m e z = let a = slots-fit xs from.accepted m z in let b = ap length from.told.provinces in omega arith
 
   -- What the tables of countries ask.
   pub tables-asked : (tags : List CountryTag) (scratch initials switches : List ℕ) → rows_within most_countries (length xs) ≤ length tags
@@ -92,15 +90,27 @@ module _ (xs : List ℕ) (from : Record) (pre : Begun xs from) where
   tables-asked tags scratch initials switches w c i s =
       record { tags = told-fit _ w; scratch = told-fit _ c; initials = told-fit _ i; switches = told-settling-few _ s }
 
+  -- What the settling asks, in cells for any record of as many bytes.
+  pub holding-room : {k s m n : ℕ} → TableRoom (length xs) k s m n → (keys cells slots started : List ℕ) (turns : List LossGain)
+      → length keys ≡ n → length cells ≡ n → length slots ≡ s → length started ≡ k → length turns ≡ n → HoldingRoom xs keys cells slots started turns
+  holding-room {k} {s} {m} {n} room keys cells slots started turns a b d e h =
+      record {
+        keys = entered-fit xs from.accepted (length keys) (omega (arith, room.changes, a));
+        cells = entered-fit xs from.accepted (length cells) (omega (arith, room.changes, b));
+        turns = entered-fit xs from.accepted (length turns) (omega (arith, room.changes, h));
+        slots = slots-fit xs from.accepted (length slots) (omega (arith, room.slots, d));
+        started = countries-fit xs from.accepted (length started) (omega (arith, room.countries, e));
+      }
+
   -- The tables of countries and switches are filled.
   module _ (r : Sizes) (p : ℕ) (tags₁ : List CountryTag) (initials₁ switches₁ : List ℕ) (f : TablesFilled told r tags₁ initials₁ switches₁)
       (provinces : p ≡ length (provinces_left from.provinces)) where
     filled : TablesFilled c.countries r tags₁ initials₁ switches₁
-    filled = subst (λ ks. TablesFilled ks r tags₁ initials₁ switches₁) pre.countries f
+    filled = subst (λ ks. TablesFilled ks r tags₁ initials₁ switches₁) from.told.countries f
 
     -- There is a slot more than provinces.
     slot-count : p + 1 ≡ suc (length c.provinces)
-    slot-count = let b = ap length pre.ready.rows in omega arith
+    slot-count = let b = ap length from.told.provinces in omega arith
 
     -- As many switches as keys but for the countries' own.
     pub own-within : r.countries ≤ r.settling
@@ -109,51 +119,23 @@ module _ (xs : List ℕ) (from : Record) (pre : Begun xs from) where
     switched : r.settling - r.countries ≡ length (switch_keys_from 0 told)
     switched = omega (arith, settling-count 0 told, f.keyed, f.countries)
 
-    -- The slots are as many as the iterator at the provinces tells, and the countries as many as their tags.
-    abbrev q : ℕ
-    q = length (provinces_left from.provinces)
-
+    -- The countries are as many as their tags.
     pub tagged : length (take r.countries tags₁) ≡ r.countries
     tagged = ap length filled.tags ∙ length-map c.countries _ ∙ sym filled.countries
 
-    -- What the settling asks, in cells for any record of as many bytes.
-    pub holding-asked : {k s m n : ℕ} → TableRoom (length xs) k s m n → (keys cells slots started : List ℕ) (turns : List LossGain)
-        → length keys ≡ n → length cells ≡ n → length slots ≡ s → length started ≡ k → length turns ≡ n
-        → HoldingAsked xs from.provinces (take r.countries tags₁) (take r.countries initials₁) (take r.settling switches₁) keys cells
-        (take (length (provinces_left from.provinces) + 1) slots) (take (length (take r.countries tags₁)) started) turns
-    holding-asked {k} {s} {m} {n} room keys cells slots started turns a b d e h =
-        let g = filled in
-        let tables : CountryTables c.countries (take r.countries tags₁) (take r.countries initials₁) (take r.settling switches₁) =
-        record {
-          settler =
-              record {
-                keyed = accepted-keyed xs pre.ready.accepted;
-                own = accepted-own xs pre.ready.accepted;
-                once = (sound xs pre.ready.accepted).tags_once;
-                tags = g.tags;
-                keys = g.switches;
-              };
-          initials = g.initials;
-        } in
-        let held : HoldingRoom xs keys cells (take (q + 1) slots) (take (length (take r.countries tags₁)) started) turns =
-        record {
-          keys = entered-fit xs pre.ready.accepted (length keys) (omega (arith, room.changes, a));
-          cells = entered-fit xs pre.ready.accepted (length cells) (omega (arith, room.changes, b));
-          turns = entered-fit xs pre.ready.accepted (length turns) (omega (arith, room.changes, h));
-          slots = length-first (q + 1) _ slots (slots-within q (length slots) refl (omega (arith, room.slots, d))) (omega (arith, slot-count, provinces));
-          started = length-first (length (take r.countries tags₁)) _ started (countries-within (length (take r.countries tags₁)) _ _ (tagged ∙ f.countries) e room.countries) (tagged ∙ g.countries);
-        } in
-        record { ready = pre.ready; tables = tables; room = held }
+    -- The tables of its countries.
+    pub country-tables : CountryTables c.countries (take r.countries tags₁) (take r.countries initials₁) (take r.settling switches₁)
+    country-tables = record { tags = filled.tags; initials = filled.initials; keys = filled.switches }
 
     -- All changes are settled.
     module _ (n : ℕ) (keys₁ slots₁ started₁ : List ℕ) (turns₁ : List LossGain)
-        (h : Held xs n keys₁ (take (q + 1) slots₁) (take r.countries started₁) turns₁) where
+        (h : Held xs n keys₁ slots₁ started₁ turns₁) where
       -- There are not many.
       pub changes-within : (m k : ℕ) → m ≡ k → rows_within most_changes (length xs) ≤ k → n ≤ m
-      changes-within m k e l = let a = changes-fit xs pre.ready.accepted k l in let b = h.counted in omega arith
+      changes-within m k e l = let a = changes-fit xs from.accepted k l in let b = h.counted in omega arith
 
       few-changes : n ≤ most_changes
-      few-changes = let a = changes-few xs pre.ready.accepted in let b = h.counted in omega arith
+      few-changes = let a = changes-few xs from.accepted in let b = h.counted in omega arith
 
       -- What `arrange` asks.
       pub arrange-asked : (runs cells : List ℕ) → rows_within most_settling (length xs) ≤ length runs → rows_within most_changes (length xs) ≤ length cells
@@ -168,23 +150,23 @@ module _ (xs : List ℕ) (from : Record) (pre : Begun xs from) where
           )
 
       -- All is arranged, in slices as long as before.
-      module _ (links firsts₁ : List LossGain) (runs₁ targets : List ℕ) (a : Arranged told (take n turns₁) (take n links) firsts₁ runs₁ targets)
+      module _ (links firsts₁ : List LossGain) (runs₁ targets : List ℕ) (a : Arranged told n turns₁ links firsts₁ runs₁ targets)
           (firsts_room : rows_within most_countries (length xs) ≤ length firsts₁) where
         runs-there : take (r.settling - r.countries) runs₁ ≡ run_keys c.countries
-        runs-there = ap (λ (m : ℕ). take m runs₁) switched ∙ a.runs ∙ ap run_keys pre.countries
+        runs-there = ap (λ (m : ℕ). take m runs₁) switched ∙ a.runs ∙ ap run_keys from.told.countries
 
         targets-there : take (r.settling - r.countries) targets ≡ target_words c.countries
-        targets-there = ap (λ (m : ℕ). take m targets) switched ∙ a.targets ∙ ap target_words pre.countries
+        targets-there = ap (λ (m : ℕ). take m targets) switched ∙ a.targets ∙ ap target_words from.told.countries
 
         few-runs : length (run_keys c.countries) ≤ most_switches
-        few-runs = let e = length-sort leb (runs_from 0 0 c.countries) in let h = runs-few xs pre.ready.accepted in omega arith
+        few-runs = let e = length-sort leb (runs_from 0 0 c.countries) in let h = runs-few xs from.accepted in omega arith
 
         slots-there : take (p + 1) slots₁ ≡ slot_cells c (holders_of c)
-        slots-there = ap (λ (m : ℕ). take (m + 1) slots₁) provinces ∙ h.slots
+        slots-there = ap (λ (m : ℕ). take m slots₁) slot-count ∙ h.slots
 
         -- A row of each country.
         rows-there : (l : List ℕ) → length l ≡ length firsts₁ → length c.countries ≤ length l
-        rows-there l e = let k = countries-fit xs pre.ready.accepted _ firsts_room in omega arith
+        rows-there l e = let k = countries-fit xs from.accepted _ firsts_room in omega arith
 
         -- The cells are those of the campaign.
         chronicled : CampaignCells c
@@ -192,16 +174,16 @@ module _ (xs : List ℕ) (from : Record) (pre : Begun xs from) where
             (take r.countries started₁) (take n keys₁) (take n links) from.start)
         chronicled =
             record {
-              keyed = accepted-keyed xs pre.ready.accepted;
-              once = (sound xs pre.ready.accepted).tags_once;
-              sound = sound xs pre.ready.accepted;
+              keyed = accepted-keyed xs from.accepted;
+              once = (sound xs from.accepted).tags_once;
+              sound = sound xs from.accepted;
               tags = filled.tags;
               initials = filled.initials;
               runs = runs-there;
               few_runs = rw runs-there few-runs;
               targets = targets-there;
-              start = pre.start;
-              started = h.started;
+              start = from.told.start;
+              started = ap (λ (m : ℕ). take m started₁) filled.countries ∙ h.started;
               old_rows = losses (take n turns₁);
               new_rows = gains (take n turns₁);
               rowed = h.rowed;
@@ -210,7 +192,7 @@ module _ (xs : List ℕ) (from : Record) (pre : Begun xs from) where
               gains = a.linked.gain;
               loss_rows = rows-there (losses firsts₁) (length-map firsts₁ (λ x. x.loss));
               gain_rows = rows-there (gains firsts₁) (length-map firsts₁ (λ x. x.gain));
-              slots = omega (arith, provinces-few xs pre.ready.accepted);
+              slots = omega (arith, provinces-few xs from.accepted);
             }
 
         -- So all is gathered.
@@ -222,15 +204,15 @@ module _ (xs : List ℕ) (from : Record) (pre : Begun xs from) where
               slots = p + 1;
               changes = n;
             })
-            from.provinces tags₁ initials₁ runs₁ keys₁ targets slots₁ started₁ links firsts₁
+            tags₁ initials₁ runs₁ keys₁ targets slots₁ started₁ links firsts₁
         gathered =
             record {
-              ready = pre.ready;
-              start = pre.start;
+              accepted = from.accepted;
+              start = from.told.start;
               countries = filled.countries;
               changes = h.counted;
               slotted = slot-count;
-              switches = switched ∙ ap (λ (ks : List Country). length (switch_keys_from 0 ks)) pre.countries;
+              switches = switched ∙ ap (λ (ks : List Country). length (switch_keys_from 0 ks)) from.told.countries;
               cells = chronicled;
               sorted = h.sorted;
               slots = slots-there;

@@ -17,28 +17,28 @@ use Rattle.lists.proofs.ListLaws.{all_map, all-images, all_of_map, all_keep, all
 use Rattle.sorting.specs.Sort.{sort_by}
 use Rattle.sorting.proofs.SortLaws.{all-sort, length-sort}
 use Rattle.format.specs.declared.tag.CountryTag.{CountryTag}
-use Rattle.record.specs.declared.provinces.Provinces.{Provinces}
+use Rattle.record.specs.declared.opened.Record.{Record}
 use Rattle.format.specs.Tags.{same_tag}
 use Rattle.record.specs.Cursors.{provinces_left}
 use Rattle.format.specs.Campaign.{Campaign, Country, Province, campaign_of}
-use Rattle.format.specs.Refusal.{refusal}
+use Rattle.format.specs.RecordNumber.{refusal}
 use Rattle.format.proofs.SoundLaws.{sound}
 use Rattle.rules.specs.Changes.{by_date_and_id, changes_of}
 use Rattle.rules.specs.Nations.{initial_of, matches, maps_to, slots_of, start_tag, start_holder, start_holders, all_switches, move_of, moves_of, holders_of, held_of}
 use Rattle.rules.specs.NationRows.{holder_word}
 use Rattle.rules.proofs.CampaignLaws.{holders-of}
-use Rattle.change_keys.specs.ChangeSteps.{entered, AtFirstProvince, change_keys_from, KeysFilled}
+use Rattle.owner_changes.specs.ChangeSteps.{entered, change_keys_from, KeysFilled}
 use Rattle.nation_tables.specs.Layout.{key_rows, key_tags, word_span, no_change, cell_rows}
 use Rattle.nation_tables.specs.Lookup.{no_row}
 use Rattle.nation_tables.specs.Countries.{tag_at_row, country_tags, words_of_tags, initial_words, row_keys, initial_number}
 use Rattle.nation_tables.specs.Starting.{owner_in, slot_rows, Slotted, Started}
 use Rattle.nation_tables.specs.declared.layout.LossGain.{LossGain}
 use Rattle.nation_tables.specs.Turning.{losses, gains, row_turns_of, Rowed}
-use Rattle.nation_tables.specs.Holders.{Small, rows_in_cells, row_cell, slot_cell, slot_cells, cell_word, slot_counts, holder_cell, step_at, steps_of}
+use Rattle.nation_tables.specs.Holders.{Settler, CountryTables, Small, rows_in_cells, row_cell, slot_cell, slot_cells, cell_word, slot_counts, holder_cell, step_at, steps_of}
 use Rattle.nation_tables.specs.Holders.{turns_along, cells_along, turn_cell, Passed, Began, Stepped, Held}
-use Rattle.change_keys.proofs.ChangeLaws.{entered-few, entered-narrow}
-use Rattle.change_keys.proofs.ChangeKeyLaws.{length-change-keys}
-use Rattle.nation_tables.proofs.tables.KeyedLaws.{tag_small, accepted-keyed, accepted-slotted}
+use Rattle.owner_changes.proofs.ChangeLaws.{entered-few, entered-narrow}
+use Rattle.owner_changes.proofs.ChangeKeyLaws.{length-change-keys}
+use Rattle.nation_tables.proofs.tables.KeyedLaws.{tag_small, accepted-keyed, accepted-own, accepted-slotted}
 use Rattle.nation_tables.proofs.tables.MappedLaws.{initial-mapped}
 use Rattle.nation_tables.proofs.slots.SlotPassLaws.{length-along, passed-rows}
 use Rattle.nation_tables.proofs.slots.ChangeCellLaws.{holder-word, row_back, entered-small, Short, settled-small, steps-sorted}
@@ -86,9 +86,14 @@ module _ (c : Campaign) (few : length c.countries ≤ key_rows) (once : twice (w
           ∙ sym (cell_parts (words_of_tags ks) (tag_at_row ks r))
 
 -- The provinces of an accepted record are in the slots.
-pub slots-there : (xs : List ℕ) (c : Provinces) → AtFirstProvince xs c → (slots : ℕ) → slots ≡ suc (length (campaign_of xs).provinces)
-    → Slotted slots (provinces_left c)
-slots-there xs c ready slots e = subst (Slotted slots) (sym ready.rows) (accepted-slotted xs ready.accepted slots (omega arith))
+pub slots-there : (r : Record) (slots : ℕ) → slots ≡ suc (length (campaign_of r.bytes.now).provinces) → Slotted slots (provinces_left r.provinces)
+slots-there r slots e = subst (Slotted slots) (sym r.told.provinces) (accepted-slotted r.bytes.now r.accepted slots (omega arith))
+
+-- The tables of its countries are those that changes settle by.
+pub settler : (r : Record) (ts : List CountryTag) (is ss : List ℕ) → CountryTables (campaign_of r.bytes.now).countries ts is ss → Settler (campaign_of r.bytes.now).countries ts ss
+settler r ts is ss t =
+    let xs : List ℕ = r.bytes.now in
+    record { keyed = accepted-keyed xs r.accepted; own = accepted-own xs r.accepted; once = (sound xs r.accepted).tags_once; tags = t.tags; keys = t.keys }
 
 -- ## All of it
 
@@ -131,7 +136,7 @@ module _ (xs : List ℕ) (z : refusal xs ≡ 0) where
   pub held-counted : (slots counts : List ℕ) (n : ℕ) → slots ≡ slot_cells campaign (holders_of campaign) → n ≡ length campaign.countries
       → counts ≡ slot_counts (rows_in_cells slots) n → counts ≡ held_of campaign
   unfolding held_of
-  held-counted slots counts n e c f = f ∙ ap (λ (l : List ℕ). slot_counts (rows_in_cells l) n) e ∙ counts-of (holders_of campaign) n c
+  held-counted _ counts n e c f = f ∙ ap (λ (l : List ℕ). slot_counts (rows_in_cells l) n) e ∙ counts-of (holders_of campaign) n c
 
   -- The words of all holders have 32 bits.
   small-start : All (λ h. holder_word h < word_span) (start_holders campaign)
@@ -155,7 +160,7 @@ module _ (xs : List ℕ) (z : refusal xs ≡ 0) where
 
   -- So the words in the cells are theirs.
   pub holder-words : (slots : List ℕ) → slots ≡ slot_cells campaign (holders_of campaign) → map cell_word slots ≡ map holder_word (holders_of campaign)
-  holder-words slots e =
+  holder-words _ e =
       ap (map cell_word) e
       ∙ cell-words (words_of_tags campaign.countries) few-tags (holders_of campaign)
       (subst (All (λ h. holder_word h < word_span)) (sym (holders-of campaign))
@@ -204,18 +209,21 @@ module _ (xs : List ℕ) (z : refusal xs ≡ 0) where
         ∙ length-change-keys 0 (entered xs)
         ∙ sym q.counted
 
-    held_all : (turns' : List LossGain) → Held xs n keys slots₁ started (turns ++ turns')
+    held_all : (turns' : List LossGain) (slots' started' : List ℕ) → take (suc (length campaign.provinces)) slots' ≡ slots₁ → take (length campaign.countries) started' ≡ started
+        → Held xs n keys slots' started' (turns ++ turns')
     unfolding changes_of
-    held_all turns' =
+    held_all turns' slots' started' e f =
         record {
           counted = q.counted ∙ sym (length-sort by_date_and_id (entered xs));
           sorted = q.sorted;
           rowed = rw (take_at turns turns' n all-turns) told;
-          slots = p.slots ∙ ap₂ cells_along steps b.slots ∙ sym (holder-cells campaign few-tags);
-          started = b.started;
+          slots = e ∙ p.slots ∙ ap₂ cells_along steps b.slots ∙ sym (holder-cells campaign few-tags);
+          started = f ∙ b.started;
         }
 
   -- What `hold_slots` leaves.
   pub held : (n : ℕ) (slots started keys cells : List ℕ) → Began campaign slots started → Stepped xs n keys cells → (slots₁ : List ℕ) (turns turns' : List LossGain)
-      → Passed (take n keys) (take n cells) slots slots₁ turns → Held xs n keys slots₁ started (turns ++ turns')
-  held n slots started keys cells b q slots₁ turns turns' p = held_all n slots started keys cells b q slots₁ turns p turns'
+      → Passed (take n keys) (take n cells) slots slots₁ turns → (slots' started' : List ℕ) → take (suc (length campaign.provinces)) slots' ≡ slots₁
+      → take (length campaign.countries) started' ≡ started → Held xs n keys slots' started' (turns ++ turns')
+  held n slots started keys cells b q slots₁ turns turns' p slots' started' e f =
+      held_all n slots started keys cells b q slots₁ turns p turns' slots' started' e f

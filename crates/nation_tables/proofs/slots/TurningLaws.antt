@@ -18,7 +18,7 @@ use Rattle.format.specs.declared.tag.CountryTag.{CountryTag}
 use Rattle.format.specs.declared.date.Eu4Date.{Eu4Date}
 use Rattle.format.specs.Tags.{same_tag}
 use Rattle.format.specs.Campaign.{Campaign, Country}
-use Rattle.rules.specs.Chronicle.{Entry}
+use Rattle.format.specs.declared.values.Entry.{Entry}
 use Rattle.rules.specs.Nations.{matches, Move, Turn, start_holders, moves_of, turns_from, turns_of, turn_count, lives_from, lives_of, held_ever, holders_of, held_of}
 use Rattle.rules.specs.NationRows.{holder_word}
 use Rattle.nation_tables.specs.Layout.{word_span, no_change, no_row, cell_rows, nobody_cell}

@@ -23,7 +23,7 @@ use Rattle.format.specs.declared.rows.Switch.{Switch}
 use Rattle.format.specs.Tags.{same_tag}
 use Rattle.format.specs.Dates.{not_after}
 use Rattle.format.specs.Campaign.{Country}
-use Rattle.rules.specs.Chronicle.{Change}
+use Rattle.format.specs.declared.values.OwnerChange.{OwnerChange}
 use Rattle.rules.specs.Nations.{CountrySwitch, own_switches, all_switches, settles}
 use Rattle.nation_tables.specs.Layout.{key_dates, key_tags, last_date, row_number}
 use Rattle.nation_tables.specs.Lookup.{no_row}
@@ -122,7 +122,7 @@ first-behind d (x ∷ xs) ys q = refl
 abbrev word_tag : ℕ → CountryTag
 word_tag w = record { 0 = w }
 
-pub settles-own : (ks : List Country) → OwnLast ks → (x : Change) → settles (all_switches (map with_own ks)) x ≡ settles (all_switches ks) x
+pub settles-own : (ks : List Country) → OwnLast ks → (x : OwnerChange) → settles (all_switches (map with_own ks)) x ≡ settles (all_switches ks) x
 unfolding settles all_switches
 settles-own ks own x =
     let asked : CountrySwitch → Bool = λ s. same_tag s.from x.to && not_after x.date s.date in
@@ -191,29 +191,29 @@ module _ (to : CountryTag) (date : Eu4Date) (few : date.0 < key_dates) where
 -- The row of the country that holds the slot after a change, by the keys that changes settle by; the holder is the country in that row, or
 -- where there is none the change's `to`.
 pub record RowHolds (keys : List ℕ) (to : CountryTag) (date : Eu4Date) : Type 0 where
-  pub holds : (ks : List Country) (x : Change) → Keyed ks → OwnLast ks → twice (words_of_tags ks) ≡ false → keys ≡ settling_keys ks
+  pub holds : (ks : List Country) (x : OwnerChange) → Keyed ks → OwnLast ks → twice (words_of_tags ks) ≡ false → keys ≡ settling_keys ks
       → x.to ≡ to → x.date ≡ date → date.0 < key_dates → row_number (settling_row keys to date) ≡ row_of ks (settles (all_switches ks) x)
-  pub holder : (ks : List Country) (x : Change) → Keyed ks → OwnLast ks → twice (words_of_tags ks) ≡ false → keys ≡ settling_keys ks
+  pub holder : (ks : List Country) (x : OwnerChange) → Keyed ks → OwnLast ks → twice (words_of_tags ks) ≡ false → keys ≡ settling_keys ks
       → x.to ≡ to → x.date ≡ date → date.0 < key_dates → settles (all_switches ks) x ≡ or_tag x.to (tag_at_row ks (row_number (settling_row keys to date)))
 
 module _ (keys : List ℕ) (to : CountryTag) (date : Eu4Date) where
   abbrev row : ℕ
   row = row_number (settling_row keys to date)
 
-  told : (ks : List Country) (x : Change) → Keyed ks → OwnLast ks → keys ≡ settling_keys ks → x.to ≡ to → x.date ≡ date → date.0 < key_dates
+  told : (ks : List Country) (x : OwnerChange) → Keyed ks → OwnLast ks → keys ≡ settling_keys ks → x.to ≡ to → x.date ≡ date → date.0 < key_dates
       → Settled (map with_own ks) x row
   told ks x keyed own q t d few =
       let early : x.date.0 < key_dates = rw d few in
       let same : row ≡ settled_row (map with_own ks) x.to x.date = rw (q, t, d) refl in
       rw same (settled-row (map with_own ks) (keyed-own ks keyed own) x early)
 
-  holder : (ks : List Country) (x : Change) → Keyed ks → OwnLast ks → twice (words_of_tags ks) ≡ false → keys ≡ settling_keys ks
+  holder : (ks : List Country) (x : OwnerChange) → Keyed ks → OwnLast ks → twice (words_of_tags ks) ≡ false → keys ≡ settling_keys ks
       → x.to ≡ to → x.date ≡ date → date.0 < key_dates → settles (all_switches ks) x ≡ or_tag x.to (tag_at_row ks row)
   holder ks x keyed own once q t d few =
       sym (settles-own ks own x) ∙ (told ks x keyed own q t d few).holder ∙ ap (or_tag x.to) (own-tags ks row)
 
   -- the country of a switch, or the own one
-  one-there : (ks : List Country) (x : Change) → Keyed ks → OwnLast ks → twice (words_of_tags ks) ≡ false → keys ≡ settling_keys ks
+  one-there : (ks : List Country) (x : OwnerChange) → Keyed ks → OwnLast ks → twice (words_of_tags ks) ≡ false → keys ≡ settling_keys ks
       → x.to ≡ to → x.date ≡ date → date.0 < key_dates → (row ≡ no_row → ⊥) → row ≡ row_of ks (settles (all_switches ks) x)
   one-there ks x keyed own once q t d few there =
       let inside = (told ks x keyed own q t d few).inside there in
@@ -222,7 +222,7 @@ module _ (keys : List ℕ) (to : CountryTag) (date : Eu4Date) where
       holder ks x keyed own once q t d few ∙ ap (λ (o : Option Country). or_tag x.to (Option.map (λ y. y.tag) o)) k.1 in
       sym (ap (row_of ks) whom ∙ row-single ks keyed.few once row k.0 k.1)
 
-  none-there : (ks : List Country) (x : Change) → Keyed ks → OwnLast ks → twice (words_of_tags ks) ≡ false → keys ≡ settling_keys ks
+  none-there : (ks : List Country) (x : OwnerChange) → Keyed ks → OwnLast ks → twice (words_of_tags ks) ≡ false → keys ≡ settling_keys ks
       → x.to ≡ to → x.date ≡ date → date.0 < key_dates → row ≡ no_row → row ≡ row_of ks (settles (all_switches ks) x)
   none-there ks x keyed own once q t d few gone =
       let found : settled_row (map with_own ks) to date ≡ row = rw q refl in

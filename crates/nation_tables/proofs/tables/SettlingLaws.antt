@@ -23,7 +23,7 @@ use Rattle.format.specs.declared.rows.Switch.{Switch}
 use Rattle.format.specs.Tags.{same_tag}
 use Rattle.format.specs.Dates.{not_after}
 use Rattle.format.specs.Campaign.{Country}
-use Rattle.rules.specs.Chronicle.{Change}
+use Rattle.format.specs.declared.values.OwnerChange.{OwnerChange}
 use Rattle.rules.specs.Nations.{CountrySwitch, own_switches, all_switches, settles}
 use Rattle.nation_tables.specs.Layout.{key_rows, key_dates}
 use Rattle.nation_tables.specs.Keys.{row_in, settling_key}
@@ -186,7 +186,7 @@ module _ (to : CountryTag) (date : Eu4Date) (early : date.0 < key_dates) where
 
 -- ## A change
 
-module _ (ks : List Country) (keyed : Keyed ks) (x : Change) (early : x.date.0 < key_dates) where
+module _ (ks : List Country) (keyed : Keyed ks) (x : OwnerChange) (early : x.date.0 < key_dates) where
   pub settled-row : Settled ks x (settled_row ks x.to x.date)
   unfolding settles
   settled-row =

@@ -21,8 +21,9 @@ use Rattle.sorting.proofs.SortLaws.{map-sort, length-sort, keep-sort, leb-total,
 use Rattle.format.specs.declared.tag.CountryTag.{CountryTag}
 use Rattle.format.specs.declared.rows.Switch.{Switch}
 use Rattle.format.specs.Campaign.{Country, campaign_of}
-use Rattle.format.specs.Refusal.{refusal}
-use Rattle.rules.specs.Chronicle.{switch, Entry}
+use Rattle.format.specs.RecordNumber.{refusal}
+use Rattle.format.specs.declared.values.Entry.{Entry}
+use Rattle.format.specs.declared.values.EntryKind.TheVariants.{TagSwitch}
 use Rattle.rules.specs.Nations.{last_target, switch_chain, switch_entries}
 use Rattle.nation_tables.specs.Keys.{run_key, date_in, number_in}
 use Rattle.nation_tables.specs.Layout.{row_span, most_switches, key_dates, key_numbers, word_span}
@@ -141,7 +142,7 @@ module _ (words : List ℕ) where
       let behind : drop (suc k) words ≡ chain_words end ss ++ others =
       ap (λ (n : ℕ). drop n words) (sym (add-one k)) ∙ sym (drop-drop 1 k words) ∙ ap (drop 1) e in
       let small : target.0 % word_span ≡ target.0 = mod-eq_of_lt w.0 in
-      let first : placed_entry (placed row k x) ≡ record { date = x.date; kind = switch target } = simp (number, date, here, small) in
+      let first : placed_entry (placed row k x) ≡ record { date = x.date; kind = TagSwitch target } = simp (number, date, here, small) in
       simp (first, entries-back row (suc k) end ss others q.1 w.1 behind)
 
   -- A country's keys in order are its switches by date, ties in row order, and so are the entries that they tell.

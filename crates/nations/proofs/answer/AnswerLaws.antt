@@ -1,51 +1,45 @@
--- What the steps of an answer ask where the tables of an accepted record are gathered, and the outcome by its case: a refused record, a slice that is
--- too short, or the rows, which are those of the answer.
+-- What the steps of an answer ask where the tables of an accepted record are gathered, and the outcome by its case: a slice that is too short, or the rows,
+-- which are those of the answer.
 use Rattle.std.specs.Prelude as code
-use Rattle.std.specs.Prelude.{Ok, Err}
+use Rattle.std.specs.Prelude.{Some, None}
 use mathlib.Core.Path.{◌≡◌, refl, sym, ap, ap₂, subst, ◌∙◌}
 use mathlib.Core.Bool.{Bool, true, false, not, ◌&&◌}
 use mathlib.Core.List.{List, map}
-use Prim.Native.Nat.{ℕ, suc, ◌*◌, ◌≤◌}
+use Prim.Native.Nat.{ℕ, suc, ◌*◌}
 use native.Mathlib.Omega.{arith}
 use borrow.Author.Tests.{leb-true, not-true, not-false}
 use lib.Dec.{leb}
 use lib.ListN.{length, take, length-map, length-take}
 use Rattle.lists.specs.Lists.{count_of}
 use Rattle.lists.proofs.BoolLaws.{and_left, and_right, and-false}
-use Rattle.record.specs.declared.provinces.Provinces.{Provinces}
 use Rattle.format.specs.Campaign.{Campaign, campaign_of}
 use Rattle.format.specs.declared.tag.CountryTag.{CountryTag}
-use Rattle.format.specs.declared.refused.Refusal.{Refusal}
-use Rattle.format.specs.Refused.{refusal_number}
-use Rattle.format.specs.Refusal.{refusal}
-use Rattle.record.proofs.ToldLaws.{refusal_above}
+use Rattle.format.specs.RecordNumber.{refusal}
 use Rattle.rules.specs.Chronicle.{Nation}
 use Rattle.rules.specs.Lent.{written, refused, gives}
 use Rattle.rules.specs.Changes.{changes_of, change_rows, change_width}
 use Rattle.rules.specs.Nations.{nations_of, matches, slots_of, moves_of, last_holder, holders_of, held_of}
 use Rattle.rules.proofs.CampaignLaws.{length-slots}
 use Rattle.rules.specs.NationRows.{nation_words, entry_words, holder_word, nation_width, entry_width}
-use Rattle.rules.specs.Outcomes.{answers_of, NationCells, cells_of, all_fit, all_written, NationCounts, counts_of, call_nation_events}
+use Rattle.format.specs.declared.values.NationCounts.{NationCounts}
+use Rattle.rules.specs.Outcomes.{answers_of, NationCells, cells_of, all_fit, all_written, counts_of, call_nation_events}
 use Rattle.nation_tables.specs.declared.gathering.TableSizes.{TableSizes}
 use Rattle.nation_tables.specs.declared.layout.LossGain.{LossGain}
-use Rattle.nation_tables.specs.Holders.{slot_cells, SlotsRoom}
+use Rattle.nation_tables.specs.Holders.{slot_cells}
 use Rattle.nation_tables.specs.Gathering.{Cells, CampaignCells, fronts_of, TableRoom, Gathered}
 use Rattle.nation_tables.proofs.tables.KeyedLaws.{provinces-few}
 use Rattle.nation_tables.proofs.tables.OwnKeyLaws.{settling-count}
 use Rattle.nation_tables.proofs.tables.SwitchLaws.{run-entries, targets-small}
 use Rattle.nation_tables.proofs.slots.HoldersLaws.{holder-words, held-counted}
 use Rattle.nation_tables.proofs.slots.RoomLaws.{countries-fit, slots-fit, settling-fit, switches-fit, changes-fit}
-use Rattle.nation_listing.specs.declared.placing.Listed.{Listed}
-use Rattle.chronicle_rows.specs.declared.counts.NationCounts as code_counts
-use Rattle.chronicle_rows.specs.Cases.{counts_in}
-use Rattle.nations.specs.Cases.{nation_cells}
-use Rattle.nation_listing.specs.Listing.{nations_at}
-use Rattle.nations.specs.NationSteps.{rest_for, counts_from, RestReady, RestWritten, FrontsInside, fronts_readable, fronts_placed, NationsPlaced, RefusedBy}
-use Rattle.nation_listing.specs.Placing.{listed_of, nations_for, PlacedRows, NonePlaced, placed_told}
+use Rattle.nations.specs.declared.written_nations.Listed.{Listed}
+use Rattle.nations.specs.LentCells.{nation_cells}
+use Rattle.nations.specs.Tables.{Readable}
+use Rattle.nations.specs.ListedNations.{nations_at}
+use Rattle.nations.specs.NationSteps.{rest_for, counts_from, RestReady, RestRoom, RestWritten, FrontsInside, NationsPlaced, NoRoomTold}
+use Rattle.nations.specs.WrittenNations.{listed_of, nations_for, PlacedRows, NonePlaced, placed_told}
 use Rattle.nations.proofs.answer.NationsLaws.{cells-nations, cells-readable, runs-told}
-use Rattle.nation_listing.proofs.ReadingLaws.{readable-found}
-use Rattle.nation_listing.proofs.PlacingLaws.{short-of-room}
-use Rattle.nations.proofs.answer.NationOutcomeLaws.{room_fits, nations-refused, nations-short, nations-rows}
+use Rattle.nations.proofs.answer.NationOutcomeLaws.{room_fits, nations-short, nations-rows}
 
 -- ## Cells of a campaign
 
@@ -95,7 +89,7 @@ module _ (xs : List ℕ) (accepted : refusal xs ≡ 0) (z : TableSizes) (countri
 
   -- The counts.
   module _ (r : Listed) (listed : r ≡ listed_of (nations_of c)) where
-    counts-told : counts_in (counts_from z r) ≡ counts_of (answers_of c)
+    counts-told : counts_from z r ≡ counts_of (answers_of c)
     unfolding counts_of answers_of holders_of held_of
     counts-told =
         counts_same _ _ _ _ _ _ _ _ _ _ (ap (λ (x : Listed). x.nations) listed) (ap (λ (x : Listed). x.entries) listed)
@@ -113,7 +107,7 @@ module _ (xs : List ℕ) (accepted : refusal xs ≡ 0) (z : TableSizes) (countri
 
     fit_parts : all_fit (cells_of (answers_of c)) before ≡ (nations_fit && rest_fit)
     fit_parts =
-        sym (room_fits (answers_of c) (counts_in (counts_from z (listed_of (nations_of c)))) before (counts-told (listed_of (nations_of c)) refl))
+        sym (room_fits (answers_of c) (counts_from z (listed_of (nations_of c))) before (counts-told (listed_of (nations_of c)) refl))
         ∙ regroup (leb (nation_width * (listed_of (nations_of c)).nations) (length before.nations)) (leb (entry_width * (listed_of (nations_of c)).entries) (length before.entries))
         (leb z.slots (length before.holders)) (leb z.countries (length before.held)) (leb (change_width * z.changes) (length before.changes))
 
@@ -130,12 +124,12 @@ module _ (xs : List ℕ) (accepted : refusal xs ≡ 0) (z : TableSizes) (countri
         → (r : Listed) (rows₁ entries₁ holders₁ held₁ changes₁ : List ℕ)
         → PlacedRows (nations_of c) r before.nations rows₁ before.entries entries₁
         → RestWritten xs z slots before.holders holders₁ before.held held₁ before.changes changes₁
-        → (counts : code_counts.NationCounts) → counts ≡ counts_from z r → record { answer = gives (counts_in counts); memory = nation_cells rows₁ entries₁ holders₁ held₁ changes₁ }
+        → (counts : NationCounts) → counts ≡ counts_from z r → record { answer = gives counts; memory = nation_cells rows₁ entries₁ holders₁ held₁ changes₁ }
         ≡ call_nation_events xs before
     all-fit f slots e r rows₁ entries₁ holders₁ held₁ changes₁ p w counts k =
         nations-rows xs before _ _ accepted
         (fit_parts ∙ ap₂ ◌&&◌ p.room f)
-        (ap counts_in k ∙ counts-told r p.listed)
+        (k ∙ counts-told r p.listed)
         (all-written c before.nations before.entries before.holders before.held before.changes rows₁ entries₁ holders₁ held₁ changes₁
         p.put.rows p.put.entries
         (w.slots.holders ∙ ap (λ (l : List ℕ). written l before.holders) (holder-words xs accepted (take z.slots slots) e))
@@ -146,11 +140,11 @@ module _ (xs : List ℕ) (accepted : refusal xs ≡ 0) (z : TableSizes) (countri
 
 -- ## All gathered
 
-module _ (xs : List ℕ) (z : TableSizes) (provinces : Provinces) (tags : List CountryTag) (initials runs keys targets slots started : List ℕ) (turns firsts : List LossGain)
-    (q : Gathered xs z provinces tags initials runs keys targets slots started turns firsts)
+module _ (xs : List ℕ) (z : TableSizes) (tags : List CountryTag) (initials runs keys targets slots started : List ℕ) (turns firsts : List LossGain)
+    (q : Gathered xs z tags initials runs keys targets slots started turns firsts)
     {k p m n : ℕ} (room : TableRoom (length xs) k p m n) where
   abbrev accepted : refusal xs ≡ 0
-  accepted = q.ready.accepted
+  accepted = q.accepted
 
   abbrev front : Cells
   front = fronts_of z tags initials runs targets firsts started keys turns
@@ -176,19 +170,13 @@ module _ (xs : List ℕ) (z : TableSizes) (provinces : Provinces) (tags : List C
       }
 
   -- So they can be read.
-  abbrev readable : Bool
-  readable = fronts_readable z tags initials runs firsts started keys turns
-
-  fronts-readable : readable ≡ true
-  fronts-readable =
-      readable-found front.tags front.initials front.runs front.targets firsts front.started front.keys (take z.changes turns)
-      z.start (cells-readable (campaign_of xs) front q.cells)
+  pub fronts-readable : Readable front
+  fronts-readable = cells-readable (campaign_of xs) front q.cells
 
   -- What is left for the rest.
-  rest-ready : RestReady xs provinces z slots keys p n
+  rest-ready : RestReady xs z slots keys p n
   rest-ready =
       record {
-        ready = q.ready;
         slots = omega (arith, q.slotted, slots-fit xs accepted p room.slots);
         changes = fronts-inside.changes;
         sorted = q.sorted;
@@ -196,7 +184,7 @@ module _ (xs : List ℕ) (z : TableSizes) (provinces : Provinces) (tags : List C
 
   module _ (b : Bool) (holders held changes : ℕ) (e : b ≡ rest_for z holders held changes) (rows₀ entries₀ : List ℕ) where
     -- The rest has no room.
-    pub rest-refused : not b ≡ true → RefusedBy xs holders held changes 10 rows₀ rows₀ entries₀ entries₀
+    pub rest-refused : not b ≡ true → NoRoomTold xs holders held changes rows₀ rows₀ entries₀ entries₀
     rest-refused f =
         record {
           refuses = λ holders₀ held₀ changes₀ h d l.
@@ -206,57 +194,46 @@ module _ (xs : List ℕ) (z : TableSizes) (provinces : Provinces) (tags : List C
 
     module _ (rows₁ entries₁ : List ℕ) where
       -- The nations have none.
-      placed-refused : (e : Refusal) → NonePlaced readable nations e rows₀ rows₁ entries₀ entries₁ → RefusedBy xs holders held changes (refusal_number e) rows₀ rows₁ entries₀ entries₁
-      placed-refused e p =
-          let short = short-of-room e readable nations rows₀ entries₀ fronts-readable p.cause in
-          rw short.0 (record {
+      placed-refused : NonePlaced nations rows₀ rows₁ entries₀ entries₁ → NoRoomTold xs holders held changes rows₀ rows₁ entries₀ entries₁
+      placed-refused p =
+          record {
             refuses = λ holders₀ held₀ changes₀ h d l.
                 ap₂ (λ (x y : List ℕ). record { answer = refused 10; memory = nation_cells x y holders₀ held₀ changes₀ }) p.rows p.entries
                 ∙ nations-not xs accepted z q.countries q.changes q.slotted (nation_cells rows₀ entries₀ holders₀ held₀ changes₀)
-                (subst (λ (ns : List Nation). nations_for (listed_of ns) (length rows₀) (length entries₀) ≡ false) told short.1);
-          })
+                (subst (λ (ns : List Nation). nations_for (listed_of ns) (length rows₀) (length entries₀) ≡ false) told p.short);
+          }
 
       -- All has room.
       placed-told : not b ≡ false → (r : Listed) → PlacedRows nations r rows₀ rows₁ entries₀ entries₁
-          → NationsPlaced xs holders held changes z provinces r slots keys p n rows₀ rows₁ entries₀ entries₁
+          → NationsPlaced xs holders held changes z r slots keys p n rows₀ rows₁ entries₀ entries₁
       placed-told t r w =
           record {
             countries = q.countries;
             counted = q.changes;
             slotted = q.slotted;
             slots = q.slots;
+            accepted = accepted;
             ready = rest-ready;
             rest = sym e ∙ not-false b t;
             placed = subst (λ (ns : List Nation). PlacedRows ns r rows₀ rows₁ entries₀ entries₁) told w;
           }
 
       -- Whatever the placing tells.
-      module _ {r : code.Result Listed Refusal} (placed : fronts_placed z tags initials runs targets firsts started keys turns r rows₀ rows₁ entries₀ entries₁) where
-        pub none-placed : {e : Refusal} → r ≡ Err e → RefusedBy xs holders held changes (refusal_number e) rows₀ rows₁ entries₀ entries₁
-        none-placed {e} w = placed-refused e (subst (λ (x : code.Result Listed Refusal). placed_told readable nations x rows₀ rows₁ entries₀ entries₁) w placed)
+      module _ {r : code.Option Listed} (placed : placed_told nations r rows₀ rows₁ entries₀ entries₁) where
+        pub none-placed : r ≡ None → NoRoomTold xs holders held changes rows₀ rows₁ entries₀ entries₁
+        none-placed w = placed-refused (subst (λ (x : code.Option Listed). placed_told nations x rows₀ rows₁ entries₀ entries₁) w placed)
 
-        pub rows-placed : not b ≡ false → {l : Listed} → r ≡ Ok l
-            → NationsPlaced xs holders held changes z provinces l slots keys p n rows₀ rows₁ entries₀ entries₁
-        rows-placed f {l} w = placed-told f l (subst (λ (x : code.Result Listed Refusal). placed_told readable nations x rows₀ rows₁ entries₀ entries₁) w placed).1
-
--- A record that is refused.
-pub record-refused : (xs : List ℕ) (holders held changes : ℕ) (e : Refusal) (rows₀ entries₀ : List ℕ) → refusal_number e ≡ refusal xs
-    → RefusedBy xs holders held changes (refusal_number e) rows₀ rows₀ entries₀ entries₀
-record-refused xs holders held changes e rows₀ entries₀ h =
-    record {
-      refuses =
-          λ holders₀ held₀ changes₀ _ _ _.
-          nations-refused xs (nation_cells rows₀ entries₀ holders₀ held₀ changes₀) (refusal_number e) (refusal_above e) h;
-    }
+        pub rows-placed : not b ≡ false → {l : Listed} → r ≡ Some l
+            → NationsPlaced xs holders held changes z l slots keys p n rows₀ rows₁ entries₀ entries₁
+        rows-placed f {l} w = placed-told f l (subst (λ (x : code.Option Listed). placed_told nations x rows₀ rows₁ entries₀ entries₁) w placed)
 
 -- ## The nations are written
 
-module _ (xs : List ℕ) (rows₀ entries₀ holders₀ held₀ changes₀ : List ℕ) (z : TableSizes) (provinces : Provinces) (r : Listed)
+module _ (xs : List ℕ) (rows₀ entries₀ holders₀ held₀ changes₀ : List ℕ) (z : TableSizes) (r : Listed)
     (slots keys : List ℕ) (p n : ℕ) (rows₁ entries₁ : List ℕ)
-    (q : NationsPlaced xs (length holders₀) (length held₀) (length changes₀) z provinces r slots keys p n rows₀ rows₁ entries₀ entries₁) where
+    (q : NationsPlaced xs (length holders₀) (length held₀) (length changes₀) z r slots keys p n rows₀ rows₁ entries₀ entries₁) where
   -- What the writing of the rest asks.
-  pub rest-asked : RestReady xs provinces z slots keys p n
-      × (SlotsRoom (take z.slots slots) z.countries holders₀ held₀ × (change_width * z.changes ≤ length changes₀))
+  pub rest-asked : RestReady xs z slots keys p n × RestRoom z slots holders₀ held₀ changes₀
   rest-asked =
       let h : Bool = leb z.slots (length holders₀) in
       let d : Bool = leb z.countries (length held₀) in
@@ -264,20 +241,20 @@ module _ (xs : List ℕ) (rows₀ entries₀ holders₀ held₀ changes₀ : Lis
       let two = and_left (h && d) f q.rest in
       let l = length-take z.slots slots in (
         q.ready,
-        (
-          record {
+        record {
+          slots = record {
             holders = omega (arith, l, leb-true z.slots (length holders₀) (and_left h d two));
             held = leb-true z.countries (length held₀) (and_right h d two);
-            few = omega (arith, l, q.slotted, provinces-few xs q.ready.ready.accepted);
-          },
-          leb-true (change_width * z.changes) (length changes₀) (and_right (h && d) f q.rest),
-        ),
+            few = omega (arith, l, q.slotted, provinces-few xs q.accepted);
+          };
+          changes = leb-true (change_width * z.changes) (length changes₀) (and_right (h && d) f q.rest);
+        },
       )
 
   -- What is written is the answer.
   pub all-placed : (holders₁ held₁ changes₁ : List ℕ) → RestWritten xs z slots holders₀ holders₁ held₀ held₁ changes₀ changes₁
-      → (counts : code_counts.NationCounts) → counts ≡ counts_from z r → record { answer = gives (counts_in counts); memory = nation_cells rows₁ entries₁ holders₁ held₁ changes₁ }
+      → (counts : NationCounts) → counts ≡ counts_from z r → record { answer = gives counts; memory = nation_cells rows₁ entries₁ holders₁ held₁ changes₁ }
       ≡ call_nation_events xs (nation_cells rows₀ entries₀ holders₀ held₀ changes₀)
   all-placed holders₁ held₁ changes₁ w counts k =
-      all-fit xs q.ready.ready.accepted z q.countries q.counted q.slotted (nation_cells rows₀ entries₀ holders₀ held₀ changes₀)
+      all-fit xs q.accepted z q.countries q.counted q.slotted (nation_cells rows₀ entries₀ holders₀ held₀ changes₀)
       q.rest slots q.slots r rows₁ entries₁ holders₁ held₁ changes₁ q.placed w counts k

@@ -18,7 +18,8 @@ use Rattle.format.specs.declared.date.Eu4Date.{Eu4Date}
 use Rattle.format.specs.Tags.{same_tag}
 use Rattle.format.specs.Dates.{earlier}
 use Rattle.format.specs.Campaign.{Campaign, Country}
-use Rattle.rules.specs.Chronicle.{appeared, annexed, Entry}
+use Rattle.format.specs.declared.values.Entry.{Entry}
+use Rattle.format.specs.declared.values.EntryKind.TheVariants.{Appeared, Annexed}
 use Rattle.rules.specs.Nations.{matches, switch_entries, start_holders, Move, moves_of, Turn, turns_from, turns_of, turn_entries, turn_count, lives_from, lives_of, entries_of}
 use Rattle.nation_tables.specs.Turning.{by_date}
 use Rattle.rules.proofs.CampaignLaws.{moves-order}
@@ -27,13 +28,13 @@ use Rattle.rules.proofs.CampaignLaws.{moves-order}
 
 -- Each entry of a turn has the turn's date.
 module _ (P : Entry → Type 0) (start date : Eu4Date) (loses gains : Bool) (n : ℕ)
-    (lost : P (record { date = date; kind = annexed })) (gained : P (record { date = date; kind = appeared })) where
+    (lost : P (record { date = date; kind = Annexed })) (gained : P (record { date = date; kind = Appeared })) where
   pub turn-all : All P (turn_entries start date loses gains n)
   unfolding turn_entries
   turn-all = go (loses && eqb (n - 1) 0) (gains && eqb (cond loses (n - 1) n) 0 && earlier start date)
     where
       go : (a b : Bool)
-          → All P (cond a (record { date = date; kind = annexed } ∷ []) [] ++ cond b (record { date = date; kind = appeared } ∷ []) [])
+          → All P (cond a (record { date = date; kind = Annexed } ∷ []) [] ++ cond b (record { date = date; kind = Appeared } ∷ []) [])
       go true true = (lost, (gained, tt))
       go true false = (lost, tt)
       go false true = (gained, tt)

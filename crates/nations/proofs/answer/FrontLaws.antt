@@ -7,13 +7,12 @@ use borrow.Author.Tests.{leb-true, leb-false, le-leb, lt-leb}
 use lib.Dec.{leb}
 use lib.ListN.{length, take, length-take}
 use Rattle.lists.proofs.BoolLaws.{cases}
-use Rattle.record.specs.declared.provinces.Provinces.{Provinces}
 use Rattle.rules.specs.Changes.{change_width}
 use Rattle.nation_tables.specs.declared.gathering.TableSizes.{TableSizes}
 use Rattle.nations.specs.NationSteps.{RestReady}
 
 -- What the writing of changes asks of them.
-module _ (xs : List ℕ) (provinces : Provinces) (z : TableSizes) (slots keys cells : List ℕ) {p n : ℕ} (q : RestReady xs provinces z slots keys p n)
+module _ (xs : List ℕ) (z : TableSizes) (slots keys cells : List ℕ) {p n : ℕ} (q : RestReady xs z slots keys p n)
     (keys_long : length keys ≡ n) (cells_long : length cells ≡ n) where
   pub changes-long : length (take z.changes cells) ≡ length (take z.changes keys)
   changes-long = omega (arith, length-take z.changes cells, length-take z.changes keys)

@@ -25,7 +25,7 @@ use Rattle.nation_tables.specs.Countries.{tag_at_row, words_of_tags, initial_wor
 use Rattle.nation_tables.proofs.tables.MappedLaws.{places-within, mapped-row, row-single, row_same}
 use Rattle.nation_tables.proofs.tables.LookupLaws.{last-number}
 use Rattle.nation_tables.proofs.slots.TurningLaws.{eqb-sym}
-use Rattle.nation_listing.specs.Listing.{is_row}
+use Rattle.nations.specs.ListedNations.{is_row}
 
 -- ## The country of a key
 

@@ -14,7 +14,7 @@ use Rattle.nation_tables.specs.Layout.{no_change}
 use Rattle.rules.specs.Nations.{matches, start_holders, turn_entries, turn_count, lives_of, held_of}
 use Rattle.nation_tables.specs.Countries.{words_of_tags}
 use Rattle.nation_tables.specs.Turning.{first_at, row_tag, RowTurn, row_turns_of, Rowed, before, row_lived, links_from, Linked, key_date}
-use Rattle.nation_listing.specs.Walks.{Walk, past_change, lived_from, lived_left, Chained, first_lives}
+use Rattle.nations.specs.Walks.{Walk, past_change, lived_from, lived_left, Chained, first_lives}
 use Rattle.nation_tables.proofs.slots.ChainLaws.{length-links, links-rise, OnChain, chain-here, chain_next}
 use Rattle.format.specs.Sound.{Sound}
 use Rattle.nation_tables.proofs.slots.TurningLaws.{row-lived}

@@ -10,18 +10,19 @@ use Rattle.lists.specs.Lists.{count_of, numbers_from}
 use Rattle.lists.proofs.ListLaws.{length-numbers}
 use Rattle.format.specs.declared.rows.ProvinceId.{ProvinceId}
 use Rattle.format.specs.Campaign.{Campaign, campaign_of}
-use Rattle.format.specs.Refusal.{refusal, first_of}
+use Rattle.format.specs.RecordNumber.{refusal, first_of}
 use Rattle.format.proofs.FirstLaws.{first-stop, first-pass, first_one, first-zero}
 use Rattle.rules.specs.Changes.{change_width}
-use Rattle.change_keys.specs.ChangeSteps.{most_changes}
+use Rattle.owner_changes.specs.ChangeSteps.{most_changes}
 use Rattle.nation_tables.specs.Layout.{most_countries, most_slots}
 use Rattle.rules.specs.Lent.{refused, gives, room_number}
 use Rattle.rules.specs.Nations.{matches, slots_of, moves_of, last_holder, holders_of, held_of}
 use Rattle.rules.specs.NationRows.{holder_word, nation_width, entry_width}
-use Rattle.rules.specs.Outcomes.{Answers, answers_of, NationCells, cells_of, all_fit, all_written, NationCounts, counts_of, call_nation_events}
+use Rattle.format.specs.declared.values.NationCounts.{NationCounts}
+use Rattle.rules.specs.Outcomes.{Answers, answers_of, NationCells, cells_of, all_fit, all_written, counts_of, call_nation_events}
 use Rattle.rules.proofs.RowLaws.{length-nation_words, length-entry_words, length-change_rows}
 use Rattle.rules.proofs.LentLaws.{outcome-refused, outcome-gives, answered-given}
-use Rattle.change_keys.proofs.ChangeLaws.{changes-few}
+use Rattle.owner_changes.proofs.ChangeLaws.{changes-few}
 use Rattle.nation_tables.proofs.tables.KeyedLaws.{countries-few, provinces-few}
 use Rattle.nations.proofs.answer.NationSizeLaws.{most_entries, nations-few, entries-few}
 

@@ -15,7 +15,7 @@ use Rattle.format.specs.declared.tag.CountryTag.{CountryTag}
 use Rattle.format.specs.declared.date.Eu4Date.{Eu4Date}
 use Rattle.format.specs.Tags.{same_tag}
 use Rattle.format.specs.Campaign.{Campaign, Country, campaign_of}
-use Rattle.format.specs.Refusal.{refusal}
+use Rattle.format.specs.RecordNumber.{refusal}
 use Rattle.rules.specs.Changes.{changes_of}
 use Rattle.rules.specs.Nations.{matches, initial_of, last_target, switch_entries, start_holders, all_switches, move_of, Move, moves_of, Turn, turns_from, turns_of, turn_entries, turn_count, lives_from, lives_of, entries_of, nation_of, is_mapped, held_ever, listed_countries, nations_of}
 use Rattle.nation_tables.specs.Layout.{most_countries, most_switches}
@@ -23,9 +23,9 @@ use Rattle.nation_tables.specs.Countries.{switch_key, switch_keys_from}
 use Rattle.nation_tables.specs.Turning.{by_date}
 use Rattle.rules.specs.NationRows.{target_word}
 use Rattle.nation_tables.proofs.tables.SwitchLaws.{length-chain}
-use Rattle.change_keys.proofs.ChangeLaws.{changes-few}
+use Rattle.owner_changes.proofs.ChangeLaws.{changes-few}
 use Rattle.nation_tables.proofs.tables.KeyedLaws.{countries-few, switches-few}
-use Rattle.nation_listing.proofs.WalkLaws.{turn-short}
+use Rattle.nations.proofs.WalkLaws.{turn-short}
 
 -- ## One country
 

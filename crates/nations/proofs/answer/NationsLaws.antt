@@ -21,19 +21,20 @@ use Rattle.format.specs.declared.date.Eu4Date.{Eu4Date}
 use Rattle.format.specs.Tags.{same_tag}
 use Rattle.format.specs.Campaign.{Campaign, Country}
 use Rattle.format.specs.Sound.{GoodCountry}
-use Rattle.rules.specs.Chronicle.{Entry, Nation}
+use Rattle.format.specs.declared.values.Entry.{Entry}
+use Rattle.rules.specs.Chronicle.{Nation}
 use Rattle.rules.specs.Nations.{initial_of, switch_entries, matches, is_mapped, start_holders, Turn, turns_of, turn_entries, turn_count, lives_from, lives_of, entries_of, kind_target, targets, nation_of, held_ever, nations_of}
 use Rattle.nation_tables.specs.Layout.{key_rows, key_tags, row_key_span, short_span, no_change}
 use Rattle.nation_tables.specs.Lookup.{row_in, last_within}
 use Rattle.nation_tables.specs.Countries.{words_of_tags, initial_words, word_keys, row_keys}
 use Rattle.nation_tables.specs.Switches.{runs_from, run_keys, target_words, switch_in}
-use Rattle.nation_listing.specs.Entries.{latest_tag}
+use Rattle.nations.specs.CountryEntries.{latest_tag}
 use Rattle.nation_tables.specs.Turning.{by_date, first_at, row_tag, row_turns_of, Lived}
-use Rattle.nation_listing.specs.Walks.{lived_left, first_lives}
+use Rattle.nations.specs.Walks.{lived_left, first_lives}
 use Rattle.nation_tables.specs.Holders.{no_tag}
 use Rattle.nation_tables.specs.Gathering.{Cells, CampaignCells}
-use Rattle.nation_listing.specs.Tables.{KeyInside, Readable}
-use Rattle.nation_listing.specs.Listing.{run_of, lived_of, row_entries, is_row, nation_of_key, key_nations, nations_at}
+use Rattle.nations.specs.Tables.{KeyInside, Readable}
+use Rattle.nations.specs.ListedNations.{run_of, lived_of, row_entries, is_row, nation_of_key, key_nations, nations_at}
 use Rattle.rules.proofs.CampaignLaws.{length-start}
 use Rattle.nation_tables.proofs.tables.CountryLaws.{length-word-keys}
 use Rattle.nations.proofs.answer.EntryLaws.{turn-all, entries-merge}

@@ -6,10 +6,10 @@ use Prim.Native.Nat.{ℕ}
 use borrow.Author.Tests.{leb-true, leb-false}
 use mir.Syntax.{w64}
 use mir.Facts.{to_z-of_z}
-use Rattle.format.specs.Refusal.{first_of}
+use Rattle.format.specs.RecordNumber.{first_of}
 use Rattle.page.proofs.HostLaws.{returns_of, slices-short, slices-put}
 use Rattle.page.proofs.nation_events.Goals as goal
-use Rattle.host_answers.specs.Host.{number_of_counts}
+use Rattle.page.specs.Host.{number_of_counts}
 
 pub returns-then-not-has_counts : goal.returns-then-not-has_counts
 returns-then-not-has_counts c =

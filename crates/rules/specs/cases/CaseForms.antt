@@ -1,5 +1,5 @@
 -- How the computed cases are written. Nothing here, nor in the pages of cases beside it, is a rule that a reader must believe: these are
--- questions, with the answers that a reader of 01 expects. proofs/CaseLaws shows that the rules give them.
+-- questions, with the answers that a reader of the rules expects. proofs/CaseLaws shows that the rules give them.
 use Rattle.std.specs.Prelude.{◌≡◌, List, [], ◌∷◌, ◌++◌, ℕ, take, drop}
 use Prim.Native.String.{String}
 use Rattle.lists.specs.Lists.{join_of}

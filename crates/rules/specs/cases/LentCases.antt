@@ -4,7 +4,7 @@ use Rattle.std.specs.Prelude.{List, [], ◌∷◌, ◌++◌, map, ℕ}
 use Rattle.std.proofs.Math.Option.{Option, none, some}
 use Prim.Native.String.{String}
 use Rattle.rules.specs.Lent.{Answer, gives, refused, Outcome}
-use Rattle.rules.specs.Resolver.{TagData}
+use Rattle.format.specs.declared.values.TagData.{TagData}
 use Rattle.rules.specs.Outcomes.{call_resolve, call_initial, call_resolve_on, call_initial_on, call_war_participants, call_nation_ledger}
 use Rattle.rules.specs.cases.Packing.{tagged, word, DraftWarEvent, DraftLedger, war, point, ledger, packed}
 use Rattle.rules.specs.Table.{sevens}

@@ -4,7 +4,8 @@ use Rattle.std.proofs.Math.Option.{Option, none, some}
 use Prim.Native.String.{String}
 use Rattle.format.specs.declared.tag.CountryTag.{CountryTag}
 use Rattle.rules.specs.Lent.{Answer, gives, refused, Outcome}
-use Rattle.rules.specs.PlayerOutcomes.{call_players, HistoryCells, HistoryCounts, call_player_histories, call_starting_country}
+use Rattle.format.specs.declared.values.HistoryCounts.{HistoryCounts}
+use Rattle.rules.specs.PlayerOutcomes.{call_players, HistoryCells, call_player_histories, call_starting_country}
 use Rattle.rules.specs.cases.Packing.{tagged, word, DraftCountry, played, packed}
 use Rattle.rules.specs.Table.{sevens}
 use Rattle.rules.specs.cases.CaseForms.{Case, case, second_version, nation, turned, came, went, rows, wrote, unwritten}

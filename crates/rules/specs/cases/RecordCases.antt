@@ -8,11 +8,12 @@ use Rattle.format.specs.declared.tag.CountryTag.{CountryTag}
 use Rattle.format.specs.Campaign.{campaign_of}
 use Rattle.rules.specs.Chronicle.{Nation, is_appeared, is_annexed}
 use Rattle.rules.specs.Lent.{Answer, gives, refused, Outcome}
-use Rattle.rules.specs.Changes.{DateRun}
+use Rattle.format.specs.declared.values.DateRun.{DateRun}
+use Rattle.format.specs.declared.values.NationCounts.{NationCounts}
 use Rattle.rules.specs.NationRows.{nations_in}
 use Rattle.rules.specs.Holding.{holder_on, holds_on, wears}
-use Rattle.rules.specs.Demand.{counted, is_named}
-use Rattle.rules.specs.Outcomes.{call_province_owners, call_events_on, NationCells, NationCounts, call_nation_events}
+use Rattle.rules.specs.Guarantee.{counted, is_named}
+use Rattle.rules.specs.Outcomes.{call_province_owners, call_events_on, NationCells, call_nation_events}
 use Rattle.rules.specs.cases.Packing.{tagged, word, DraftCountry, DraftProvince, on, country, province, packed}
 use Rattle.rules.specs.cases.Worked.{dated, worked}
 use Rattle.rules.specs.Table.{sevens}

@@ -1,4 +1,4 @@
--- 01, Page and Edges: the worked record, and those records of the starred cases that are made from it or stand beside it.
+-- Rules 9: the worked record, and those records of the starred cases that are made from it or stand beside it.
 use Rattle.std.specs.Prelude.{List, [], ◌∷◌, ℕ}
 use Rattle.format.specs.declared.tag.CountryTag.{CountryTag}
 use Rattle.format.specs.declared.date.Eu4Date.{Eu4Date}

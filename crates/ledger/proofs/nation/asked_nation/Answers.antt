@@ -1,6 +1,6 @@
 -- The shape is tested before the number.
 use mathlib.Core.Path.{◌∙◌}
-use Rattle.format.proofs.RefusedLaws.{handed-on}
+use Rattle.format.proofs.RefusalNumberLaws.{handed-on}
 use Rattle.ledger.proofs.LedgerOutcomeLaws.{asked-refused, asked-unlisted, asked-listed}
 use Rattle.ledger.proofs.nation.asked_nation.Goals as goal
 

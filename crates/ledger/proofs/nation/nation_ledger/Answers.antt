@@ -1,25 +1,16 @@
--- The outcome by its case: a refused record, chronicle or number, or that of the row.
-use Rattle.std.proofs.Common.{ap, sym, ◌∙◌}
-use Rattle.ledger.specs.Cases.{ledger_outcome}
-use Rattle.ledger.proofs.LedgerOutcomeLaws.{refused-on, ledger-refused, ledger-unasked}
+-- A refused record, or the outcome of the record that was opened.
+use Rattle.std.proofs.Common.{ap, ◌∙◌, List, ℕ}
+use Rattle.rules.specs.Lent.{outcome_of}
+use Rattle.rules.specs.Outcomes.{call_nation_ledger}
+use Rattle.ledger.proofs.LedgerOutcomeLaws.{refused-on, ledger-refused}
 use Rattle.ledger.proofs.nation.nation_ledger.Goals as goal
 
-pub returns-in_err-frame : goal.returns-in_err-frame
-returns-in_err-frame c =
-    ap (λ r. ledger_outcome r c.args.out.now) (refused-on _ _ c.from_residual.ensures)
-    ∙ ledger-refused c.args.s.now c.args.nations.now c.args.entries.now c.args.nation c.args.out.now _ c.in_err-frame.ensures.number
-
-pub returns-in_err-row : goal.returns-in_err-row
-returns-in_err-row c =
-    ap (λ r. ledger_outcome r c.args.out.now) (refused-on _ _ c.from_residual-in_err-row.ensures)
-    ∙ ledger-unasked c.args.s.now c.args.nations.now c.args.entries.now c.args.nation c.args.out.now (sym c.in_ok-frame.ensures.number) _ c.in_err-row.ensures.number
-
-pub returns-then-len-le-FEW_LEDGERS : goal.returns-then-len-le-FEW_LEDGERS
-returns-then-len-le-FEW_LEDGERS c =
-    c.ledger_indexed.ensures c.args.s.now c.args.nations.now c.args.nation
-    (record { accepted = sym c.in_ok-frame.ensures.number; framed = c.in_ok-frame.ensures.frame; asked = sym c.in_ok-row.ensures.number; row = c.in_ok-row.ensures.row })
+pub returns-in_err-opened : goal.returns-in_err-opened
+returns-in_err-opened c =
+    ap (λ r. outcome_of (λ (m : ℕ). m) r c.args.out.now) (refused-on _ _ c.from_residual.ensures)
+    ∙ ledger-refused c.args.s.now c.args.nations.now c.args.entries.now c.args.nation c.args.out.now _ c.in_err-opened.ensures.number
 
 pub returns : goal.returns
 returns c =
-    c.ledger_indexed-2.ensures c.args.s.now c.args.nations.now c.args.nation
-    (record { accepted = sym c.in_ok-frame.ensures.number; framed = c.in_ok-frame.ensures.frame; asked = sym c.in_ok-row.ensures.number; row = c.in_ok-row.ensures.row })
+    c.nation_ledger_of.ensures
+    ∙ ap (λ (xs : List ℕ). call_nation_ledger xs c.args.nations.now c.args.entries.now c.args.nation c.args.out.now) c.in_ok-opened.ensures.bytes

@@ -1,25 +1,16 @@
--- The answer by its case: a refused record, chronicle or number, or the count.
-use Rattle.std.proofs.Common.{ap, sym, ◌∙◌}
-use Rattle.ledger.specs.Cases.{ledger_answer}
-use Rattle.ledger.proofs.LedgerOutcomeLaws.{refused-on, rows-refused, rows-unasked, rows-given}
+-- A refused record, or the answer of the record that was opened.
+use Rattle.std.proofs.Common.{ap, ◌∙◌, List, ℕ}
+use Rattle.rules.specs.Lent.{answer_of}
+use Rattle.rules.specs.Outcomes.{call_nation_ledger_rows}
+use Rattle.ledger.proofs.LedgerOutcomeLaws.{refused-on, rows-refused}
 use Rattle.ledger.proofs.nation.nation_ledger_rows.Goals as goal
 
-pub returns-in_err-frame : goal.returns-in_err-frame
-returns-in_err-frame c =
-    ap ledger_answer (refused-on _ _ c.from_residual.ensures)
-    ∙ rows-refused c.args.s.now c.args.nations.now c.args.entries.now c.args.nation c.args.most _ c.in_err-frame.ensures.number
-
-pub returns-in_err-row : goal.returns-in_err-row
-returns-in_err-row c =
-    ap ledger_answer (refused-on _ _ c.from_residual-in_err-row.ensures)
-    ∙ rows-unasked c.args.s.now c.args.nations.now c.args.entries.now c.args.nation c.args.most (sym c.in_ok-frame.ensures.number) _ c.in_err-row.ensures.number
-
-pub returns-then-len-le-FEW_LEDGERS : goal.returns-then-len-le-FEW_LEDGERS
-returns-then-len-le-FEW_LEDGERS c =
-    rows-given c.args.s.now c.args.nations.now c.args.entries.now c.args.nation c.args.most (sym c.in_ok-frame.ensures.number)
-    c.in_ok-frame.ensures.frame (sym c.in_ok-row.ensures.number) _ c.in_ok-row.ensures.row _ c.rows_indexed.ensures
+pub returns-in_err-opened : goal.returns-in_err-opened
+returns-in_err-opened c =
+    ap (answer_of (λ (m : ℕ). m)) (refused-on _ _ c.from_residual.ensures)
+    ∙ rows-refused c.args.s.now c.args.nations.now c.args.entries.now c.args.nation c.args.most _ c.in_err-opened.ensures.number
 
 pub returns : goal.returns
 returns c =
-    rows-given c.args.s.now c.args.nations.now c.args.entries.now c.args.nation c.args.most (sym c.in_ok-frame.ensures.number)
-    c.in_ok-frame.ensures.frame (sym c.in_ok-row.ensures.number) _ c.in_ok-row.ensures.row _ c.rows_indexed-2.ensures
+    c.nation_ledger_rows_of.ensures
+    ∙ ap (λ (xs : List ℕ). call_nation_ledger_rows xs c.args.nations.now c.args.entries.now c.args.nation c.args.most) c.in_ok-opened.ensures.bytes

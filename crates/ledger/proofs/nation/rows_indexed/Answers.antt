@@ -1,8 +1,8 @@
 use Rattle.std.proofs.Common.{◌*◌, ◌<◌, arith}
 use Rattle.ledger.proofs.nation.rows_indexed.Goals as goal
 
-pub of-requires : goal.of-requires
-of-requires g c =
+pub new-requires : goal.new-requires
+new-requires g c =
     let keys : g.row.NAMES * 8 < 9223372036854775808 = omega (arith, c.requires.possible) in
     let places : g.row.NAMES * 16 < 9223372036854775808 = omega (arith, c.requires.possible) in
     (keys, (places, c.requires.enough))

@@ -10,7 +10,7 @@ loop-i-init c =
 
 pub loop-i-preserved : goal.loop-i-preserved
 loop-i-preserved c =
-    filling-put _ _ _ _ _ c.loop-i.invariant _ _ (keys-next c.args.words.now c.loop-i.i c.loop-i-test.true) _ (rw c.kept.ensures at c.row_key.ensures)
+    filling-put _ _ _ _ _ c.loop-i.invariant _ _ (keys-next c.args.words.now c.loop-i.i c.loop-i-test.true) _ (rw c.from_word_unchecked.ensures at c.row_key.ensures)
 
 pub returns : goal.returns
 returns c =

@@ -20,7 +20,7 @@ loop-slot-preserved c =
     let h = c.loop-slot-test.true in
     let kept = filling-kept _ _ _ _ _ 0 c.loop-slot.invariant in
     filling-put _ _ _ _ _ c.loop-slot.invariant _ _ (map_next f c.args.slots.now c.loop-slot.slot-index (omega (arith, c.loop-slot.invariant.long, h))) _
-    ((rw c.kept.ensures at c.cell_of.ensures) ∙ ap f kept)
+    ((rw c.from_word_unchecked.ensures at c.cell_of.ensures) ∙ ap f kept)
 
 pub shape_of-slots : goal.shape_of-slots
 shape_of-slots c = c.loop-slot.invariant.long

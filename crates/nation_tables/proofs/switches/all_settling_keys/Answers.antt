@@ -42,7 +42,7 @@ overflow_add-k c =
 pub loop-row-preserved : goal.loop-row-preserved
 loop-row-preserved c =
     let steps = c.in-Some.ensures.steps in
-    rw steps.2 (settling-more _ _ _ _ _ _ c.loop-row.invariant _ _ (told (goal.at.loop-row-preserved c).In-Some) _ _ (rw c.in-Some.ensures.steps.1 at c.own_keys-k.ensures) _ (rw (c.kept.ensures, steps.1) at c.settling_key.ensures))
+    rw steps.2 (settling-more _ _ _ _ _ _ c.loop-row.invariant _ _ (told (goal.at.loop-row-preserved c).In-Some) _ _ (rw c.in-Some.ensures.steps.1 at c.own_keys-k.ensures) _ (rw (c.from_word_unchecked.ensures, steps.1) at c.settling_key.ensures))
 
 pub shape_of-cells : goal.shape_of-cells
 shape_of-cells c = c.loop-row.invariant.walk.cells.long

@@ -3,8 +3,8 @@ use native.Mathlib.Omega.{arith}
 use mathlib.Core.Path.{◌≡◌}
 use borrow.Author.Rules.{rules}
 use Rattle.rules.specs.Lent.{outcome_of}
-use Rattle.host_answers.specs.Playing.{call_player_histories_given}
-use Rattle.histories.specs.Cases.{history_cells}
+use Rattle.page.specs.Playing.{call_player_histories_given}
+use Rattle.players.specs.LentSlices.{history_cells}
 use Rattle.page.proofs.HostLaws.{outcome-returned}
 use Rattle.page.proofs.PlayingLaws.{first-given}
 use Rattle.page.proofs.playing.player_histories.Goals as goal

@@ -1,6 +1,6 @@
 -- As many rows are counted as there are questions, each of two words.
 use native.Mathlib.Omega.{arith}
-use Rattle.questions.proofs.ResolveEachLaws.{each-few}
+use Rattle.resolver.proofs.ResolveEachLaws.{each-few}
 use Rattle.page.proofs.HostLaws.{outcome-returned}
 use Rattle.page.proofs.resolving.resolver_resolve_each.Goals as goal
 

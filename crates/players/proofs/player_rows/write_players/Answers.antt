@@ -14,7 +14,7 @@ loop-i-init c =
 pub loop-i-preserved : goal.loop-i-preserved
 loop-i-preserved c =
     let steps = c.in-Some.ensures.steps in
-    row-written _ _ _ _ _ c.loop-i.out _ _ _ _ _ c.loop-i.invariant steps.0 steps.1 steps.2 c.into.ensures c.put.ensures.cells
+    row-written _ _ _ _ _ c.loop-i.out _ _ _ _ _ c.loop-i.invariant steps.0 steps.1 steps.2 c.to_row.ensures c.put.ensures.cells
 
 pub returns : goal.returns
 returns c = filling-written _ _ _ _ _ c.loop-i.invariant (ap player_rows c.in-None.ensures.steps.0.0 ∙ rows_none)

@@ -4,8 +4,8 @@ use Prim.Native.Nat.{ℕ, ◌+◌}
 use native.Mathlib.Omega.{arith}
 use lib.ListN.{length, drop, replicate}
 use Rattle.std.proofs.lemmas.List.{at_drop_all}
-use Rattle.bitset.specs.Bitset.{is_marked, marking}
-use Rattle.bitset.proofs.BitsetLaws.{length-marking, none-marked}
+use Rattle.record_check.specs.Bitset.{is_marked, marking}
+use Rattle.record_check.proofs.BitsetLaws.{length-marking, none-marked}
 use Rattle.format.specs.Rows.{country_at}
 use Rattle.record_check.proofs.RepeatLaws.{repeats, repeats-start, repeats-nil, repeats-hit, place_of, tag_seen, row-ahead, tag-row}
 use Rattle.record_check.proofs.repeats.tag_twice.Goals as goal
@@ -17,11 +17,11 @@ pub loop-row-init : goal.loop-row-init
 loop-row-init c =
     record { size = refl; same = repeats-start (tag_seen (replicate 6859 0)) (λ y. none-marked 6859 (place_of y)) (map word c.args.rows.now) }
 
-pub returns-then-marked : goal.returns-then-marked
-returns-then-marked c =
+pub returns-then-contains : goal.returns-then-contains
+returns-then-contains c =
     let l = c.loop-row in
     let place = c.place-p.ensures ∙ ap (λ k. place_of k.tag.0) c.unpack.ensures in
-    let hit = ap (is_marked l.seen) (sym place) ∙ sym c.marked.ensures ∙ c.if-marked.true in
+    let hit = ap (is_marked l.seen) (sym place) ∙ sym c.contains.ensures ∙ c.if-contains.true in
     sym (row-ahead word c.args.rows.now l.row-index [] (omega arith) (repeats (tag_seen l.seen)) ∙ repeats-hit (tag_seen l.seen) _ _ hit)
     ∙ l.invariant.same
 
@@ -29,8 +29,8 @@ pub loop-row-preserved : goal.loop-row-preserved
 loop-row-preserved c =
     let l = c.loop-row in
     let place = c.place-p.ensures ∙ ap (λ k. place_of k.tag.0) c.unpack.ensures in
-    let miss = ap (is_marked l.seen) (sym place) ∙ sym c.marked.ensures ∙ c.if-marked.false in
-    let told = c.mark.ensures ∙ ap (marking l.seen) place in
+    let miss = ap (is_marked l.seen) (sym place) ∙ sym c.contains.ensures ∙ c.if-contains.false in
+    let told = c.insert.ensures ∙ ap (marking l.seen) place in
     record {
       size = ap length told ∙ length-marking l.seen _ ∙ l.invariant.size;
       same =

@@ -2,10 +2,10 @@
 use mathlib.Core.Path.{◌≡◌, sym, ap, ◌∙◌}
 use mathlib.Core.Bool.{◌&&◌}
 use native.Mathlib.Omega.{arith}
-use Rattle.format.specs.declared.refused.Refusal.TheVariants.{WrongSizes}
-use Rattle.format.specs.Refused.{refusal_number}
-use Rattle.format.specs.Refusal.{sizes_agree}
-use Rattle.format.proofs.RefusedLaws.{handed-on}
+use Rattle.format.specs.declared.refused.Refusal.TheVariants.{SizesDisagree}
+use Rattle.format.specs.RefusalNumber.{refusal_number}
+use Rattle.format.specs.RecordNumber.{sizes_agree}
+use Rattle.format.proofs.RefusalNumberLaws.{handed-on}
 use Rattle.record_check.proofs.TotalLaws.{few-rows, sizes-limits, sizes-short, sizes-told}
 use Rattle.record_check.proofs.VerdictLaws.{zero-if, number-if}
 use Rattle.record_check.proofs.sizes.sizes_checked.Goals.{After-strings_fill}
@@ -18,7 +18,7 @@ returns-then-not-within_limits-clause-number c =
 pub returns-in_err-sections-clause-number : goal.returns-in_err-sections-clause-number
 returns-in_err-sections-clause-number c =
     let short = rw c.in_err-sections.ensures.ok_part at c.sections_of.ensures in
-    let same : c.in_err-sections.field-0.0 ≡ WrongSizes = grind arith in
+    let same : c.in_err-sections.field-0.0 ≡ SizesDisagree = grind arith in
     handed-on c.from_residual.result _ c.from_residual.ensures ∙ ap refusal_number same
     ∙ number-if 3 (sizes-short c.args.s.now c.read_head-head.result c.read_head-head.ensures short)
 

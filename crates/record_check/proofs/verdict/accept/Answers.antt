@@ -3,13 +3,13 @@ use mathlib.Core.Path.{◌≡◌, refl, sym, ap, subst, ◌∙◌}
 use mathlib.Core.Bool.{◌||◌}
 use native.Mathlib.Omega.{arith}
 use lib.Dec.{eqb, ltb}
-use Rattle.format.specs.declared.refused.Refusal.TheVariants.{NoRecord, UnknownVersion, Repeated, EndsEarly}
+use Rattle.format.specs.declared.refused.Refusal.TheVariants.{NotARecord, UnknownVersion, Repeated, DatesReversed}
 use Rattle.format.specs.Head.{head_of}
-use Rattle.format.specs.Refusal.{refusal, first_of, sizes_agree, opening_number, version_number, sizes_number, fields_number, repeats_number, tag_twice, id_twice_or_above}
+use Rattle.format.specs.RecordNumber.{refusal, first_of, sizes_agree, opening_number, version_number, sizes_number, fields_number, repeats_number, tag_twice, id_twice_or_above}
 use Rattle.format.proofs.AcceptLaws.{number-true}
-use Rattle.format.proofs.RefusedLaws.{pass, stop}
+use Rattle.format.proofs.RefusalNumberLaws.{pass, stop}
 use Rattle.format.proofs.SizeLaws.{laid}
-use Rattle.record_head.specs.Sections.{SectionsOf}
+use Rattle.record_check.specs.Sections.{SectionsOf}
 use Rattle.record_check.proofs.RepeatLaws.{countries-good}
 use Rattle.record_check.proofs.TotalLaws.{few-rows}
 use Rattle.record_check.proofs.VerdictLaws.{zero-if, number-if, zero-unless, number-unless, refused, refused-by}
@@ -49,7 +49,7 @@ early c = sym (c.ends_early.ensures ∙ ap (λ h. ltb h.current.0 h.start.0) (he
 
 pub returns-then-not-opens_record : goal.returns-then-not-opens_record
 unfolding refusal
-returns-then-not-opens_record c = refused c.args.s.now NoRecord (stop _ NoRecord (number-if 1 (sym c.opens_record.ensures ∙ c.if-not-opens_record.true)))
+returns-then-not-opens_record c = refused c.args.s.now NotARecord (stop _ NotARecord (number-if 1 (sym c.opens_record.ensures ∙ c.if-not-opens_record.true)))
 
 pub returns-then-not-version_known : goal.returns-then-not-version_known
 unfolding refusal
@@ -101,9 +101,9 @@ pub returns-then-ends_early : goal.returns-then-ends_early
 unfolding refusal
 returns-then-ends_early c =
     let at = goal.at.returns-then-ends_early c in
-    refused c.args.s.now EndsEarly
+    refused c.args.s.now DatesReversed
     (pass _ (opened at.After-read_head) (pass _ (known at.After-sizes_checked) (pass _ (fit at.In_ok-parsed) (pass _ (clean at.In_ok-check_fields)
-    (pass _ (once at.After-ends_early) (stop _ EndsEarly (number-unless 8 (early at.After-ends_early ∙ c.if-ends_early.true))))))))
+    (pass _ (once at.After-ends_early) (stop _ DatesReversed (number-unless 8 (early at.After-ends_early ∙ c.if-ends_early.true))))))))
 
 pub returns : goal.returns
 unfolding refusal first_of

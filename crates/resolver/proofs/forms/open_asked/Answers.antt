@@ -4,7 +4,7 @@ use Rattle.std.specs.List.{list_all}
 use Rattle.std.proofs.lemmas.Iterator.{YieldsList-from_slice}
 use Rattle.std.proofs.lemmas.Iterator.Search.{all_from_yields_List}
 use Rattle.format.specs.Dates.{good_date}
-use Rattle.format.proofs.RefusedLaws.{refuses, handed-on}
+use Rattle.format.proofs.RefusalNumberLaws.{refuses, handed-on}
 use Rattle.resolver.proofs.ResolverAnswerLaws.{asked-torn, asked-bad, asked-good}
 use Rattle.resolver.proofs.forms.open_asked.Goals.{After-all}
 use Rattle.resolver.proofs.forms.open_asked.Goals as goal
@@ -19,10 +19,10 @@ pub returns-in_err-chronicle-clause-number : goal.returns-in_err-chronicle-claus
 returns-in_err-chronicle-clause-number c =
     handed-on _ _ c.from_residual.ensures ∙ asked-torn _ _ _ _ _ (refuses _) c.in_err-chronicle.ensures.number
 
-pub returns-then-not-good-all-clause-number : goal.returns-then-not-good-all-clause-number
-returns-then-not-good-all-clause-number c =
-    asked-bad _ _ _ _ c.in_ok-chronicle.ensures.number _ _ c.good.ensures (all-good (goal.at.returns-then-not-good-all-clause-number c).After-all) c.if-not-good-all.true
+pub returns-then-not-is_valid-all-clause-number : goal.returns-then-not-is_valid-all-clause-number
+returns-then-not-is_valid-all-clause-number c =
+    asked-bad _ _ _ _ c.in_ok-chronicle.ensures.number _ _ c.is_valid.ensures (all-good (goal.at.returns-then-not-is_valid-all-clause-number c).After-all) c.if-not-is_valid-all.true
 
 pub returns-clause-number : goal.returns-clause-number
 returns-clause-number c =
-    asked-good _ _ _ _ c.in_ok-chronicle.ensures.number _ _ c.good.ensures (all-good (goal.at.returns-clause-number c).After-all) c.if-not-good-all.false
+    asked-good _ _ _ _ c.in_ok-chronicle.ensures.number _ _ c.is_valid.ensures (all-good (goal.at.returns-clause-number c).After-all) c.if-not-is_valid-all.false

@@ -1,7 +1,7 @@
 -- Invariant: the entries that are left, behind the tag worn so far, tell what all of them tell.
 use mathlib.Core.Path.{◌≡◌}
 use Rattle.lists.specs.Options.{option_of}
-use Rattle.chronicle_rows.specs.RowAt.{counted_left}
+use Rattle.rows.specs.RowAt.{counted_left}
 use Rattle.resolver.specs.Found.{worn_in}
 use Rattle.resolver.proofs.WornLaws.{worn_along}
 use Rattle.resolver.proofs.worn.worn_on.Given as goal

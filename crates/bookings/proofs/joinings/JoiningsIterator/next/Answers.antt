@@ -9,7 +9,7 @@ use Rattle.format.specs.declared.rows.WarEvent.{WarEvent}
 use Rattle.record.specs.Cursors.{war_events_left, wars_left}
 use Rattle.rules.specs.Bookings.{joinings_from}
 use Rattle.bookings.specs.AtHand.{wars_told}
-use Rattle.bookings.specs.Walking.{joining_of, joinings_left}
+use Rattle.bookings.specs.Walking.{joinings_left}
 use Rattle.bookings.proofs.JoiningLaws.{step-on, step-past, step-joining, walk_none, nowhere, wars-next}
 use Rattle.bookings.proofs.joinings.JoiningsIterator.next.Goals.{In-Some}
 use Rattle.bookings.proofs.joinings.JoiningsIterator.next.Goals as goal
@@ -25,7 +25,7 @@ returns-then-event-le-LAST_JOINING-clause-steps c =
     ∙ step-joining c.loop-at.war _ (wars_left c.loop-at.wars) c.in-Some-next.event c.if-event-le-LAST_JOINING.true
 
 pub returns-then-event-le-LAST_JOINING-clause-goes : goal.returns-then-event-le-LAST_JOINING-clause-goes
-returns-then-event-le-LAST_JOINING-clause-goes c = progress joining_of joinings_left {r = Some _} (returns-then-event-le-LAST_JOINING-clause-steps c)
+returns-then-event-le-LAST_JOINING-clause-goes c = progress (λ x. x) joinings_left {r = Some _} (returns-then-event-le-LAST_JOINING-clause-steps c)
 
 pub loop-at-preserved-else-event-le-LAST_JOINING : goal.loop-at-preserved-else-event-le-LAST_JOINING
 loop-at-preserved-else-event-le-LAST_JOINING c = (

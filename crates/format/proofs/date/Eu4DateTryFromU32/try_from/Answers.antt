@@ -3,10 +3,10 @@ use mathlib.Core.Path.{sym, ◌∙◌}
 use Rattle.format.specs.Dates.{date_of_word}
 use Rattle.format.proofs.date.Eu4DateTryFromU32.try_from.Goals as goal
 
-pub returns-then-good : goal.returns-then-good
+pub returns-then-is_valid : goal.returns-then-is_valid
 unfolding date_of_word
-returns-then-good c = simp (sym c.good.ensures ∙ c.if-good.true)
+returns-then-is_valid c = simp (sym c.is_valid.ensures ∙ c.if-is_valid.true)
 
-pub returns-else-good : goal.returns-else-good
+pub returns-else-is_valid : goal.returns-else-is_valid
 unfolding date_of_word
-returns-else-good c = simp (sym c.good.ensures ∙ c.if-good.false)
+returns-else-is_valid c = simp (sym c.is_valid.ensures ∙ c.if-is_valid.false)

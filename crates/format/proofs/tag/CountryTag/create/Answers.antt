@@ -25,4 +25,4 @@ unfolding created tested
 returns c =
     let size : length c.args.s.now ≡ 3 = omega (arith, c.in-len3.len_at_least, c.in-len3.len_below) in
     let three : eqb (length c.args.s.now) 3 ≡ true = eq-eqb _ _ size in
-    simp three (c.tested.ensures ∙ ap tested c.read.ensures)
+    simp three (c.tested.ensures ∙ ap tested c.from_bytes_unchecked.ensures)

@@ -3,10 +3,10 @@ use mathlib.Core.Path.{sym, ◌∙◌}
 use Rattle.format.specs.Tags.{tested}
 use Rattle.format.proofs.tag.CountryTag.tested.Goals as goal
 
-pub returns-then-good : goal.returns-then-good
+pub returns-then-is_valid : goal.returns-then-is_valid
 unfolding tested
-returns-then-good c = simp (sym c.good.ensures ∙ c.if-good.true)
+returns-then-is_valid c = simp (sym c.is_valid.ensures ∙ c.if-is_valid.true)
 
-pub returns-else-good : goal.returns-else-good
+pub returns-else-is_valid : goal.returns-else-is_valid
 unfolding tested
-returns-else-good c = simp (sym c.good.ensures ∙ c.if-good.false)
+returns-else-is_valid c = simp (sym c.is_valid.ensures ∙ c.if-is_valid.false)

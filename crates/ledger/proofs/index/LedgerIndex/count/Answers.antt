@@ -2,15 +2,15 @@ use Rattle.std.proofs.Common.{ap, ◌∙◌}
 use Rattle.lists.specs.Lists.{join_of}
 use Rattle.record.specs.Cursors.{ledgers_left}
 use Rattle.rules.specs.Ledger.{span_points}
-use Rattle.spans.specs.SpanSteps.{spans_left}
+use Rattle.ledger.specs.SpanSteps.{spans_left}
 use Rattle.ledger.proofs.LedgerLaws.{points-start, count-end}
 use Rattle.ledger.proofs.index.LedgerIndex.count.Goals as goal
 
 pub loop-span-init : goal.loop-span-init
 loop-span-init c =
     points-start _ _ _
-    (ap (λ w. join_of (span_points (ledgers_left c.args.self.now.frame.ledgers)) (spans_left w)) c.into_iter-span-iterator.ensures.into_iter_gives
-    ∙ ap (join_of (span_points (ledgers_left c.args.self.now.frame.ledgers))) c.of-span-items.ensures)
+    (ap (λ w. join_of (span_points (ledgers_left c.args.self.now.opened.ledgers)) (spans_left w)) c.into_iter-span-iterator.ensures.into_iter_gives
+    ∙ ap (join_of (span_points (ledgers_left c.args.self.now.opened.ledgers))) c.new-span-items.ensures)
 
 pub returns : goal.returns
-returns c = count-end c.loop-span.invariant (ap (join_of (span_points (ledgers_left c.args.self.now.frame.ledgers))) c.in-None.ensures.steps.0)
+returns c = count-end c.loop-span.invariant (ap (join_of (span_points (ledgers_left c.args.self.now.opened.ledgers))) c.in-None.ensures.steps.0)

@@ -1,7 +1,7 @@
 -- The first pair that gives a player, and those behind it.
 use Rattle.std.proofs.Common.{rules, tests}
 use Rattle.lists.proofs.ProgressLaws.{progress}
-use Rattle.players.specs.PlayerSteps.{player_in, players_left}
+use Rattle.players.specs.PlayerSteps.{players_left}
 use Rattle.players.proofs.WalkLaws.{player-found}
 use Rattle.players.proofs.walk.PlayersOfIterator.next.Goals as goal
 
@@ -12,4 +12,4 @@ returns-clause-steps c =
     c.find_map.ensures.runs
 
 pub returns-clause-goes : goal.returns-clause-goes
-returns-clause-goes c = progress player_in players_left (returns-clause-steps c)
+returns-clause-goes c = progress (λ x. x) players_left (returns-clause-steps c)

@@ -1,4 +1,0 @@
-pub mod PutLaws
-pub mod DraftLaws
-pub mod ArrangeStepLaws
-pub mod ArrangeLaws

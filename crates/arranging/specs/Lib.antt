@@ -1,3 +1,0 @@
-pub mod Cases
-pub mod Drafts
-pub mod Arranging

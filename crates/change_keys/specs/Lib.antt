@@ -1,2 +1,0 @@
-pub mod ChangeSteps
-pub mod Giving

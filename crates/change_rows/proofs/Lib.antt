@@ -1,9 +1,0 @@
-pub mod WrittenRowLaws
-pub mod ReadRowLaws
-pub mod RowTurnLaws
-pub mod EnterRowLaws
-pub mod AheadLaws
-pub mod RowOrderLaws
-pub mod RowPartLaws
-pub mod MergeRowLaws
-pub mod RunLaws

@@ -1,3 +1,0 @@
-pub mod RowAtLaws
-pub mod LentShapeLaws
-pub mod NumberedLaws

@@ -1,7 +1,0 @@
--- Years and day together are the rule.
-use Rattle.format.proofs.DateLaws.{good-in-parts}
-use Rattle.format.proofs.date.Eu4Date.good.Goals as goal
-
-pub returns : goal.returns
-returns c =
-    rw (c.is_day.ensures, c.month_day.ensures, c.in_years.ensures) (good-in-parts c.args.self)

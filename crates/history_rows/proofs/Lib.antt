@@ -1,3 +1,0 @@
-pub mod HistoryLaws
-pub mod WalkLaws
-pub mod LackLaws

@@ -1,9 +1,0 @@
-use mathlib.Core.Path.{sym, ◌∙◌}
-use Rattle.nation_listing.specs.Lives.{walk_in}
-use Rattle.nation_listing.proofs.WalkLaws.{none-left}
-use Rattle.nation_listing.proofs.lives.LivesIterator.next.Goals as goal
-
-pub returns-clause-steps : goal.returns-clause-steps
-returns-clause-steps c =
-    let none = none-left _ _ _ _ (walk_in c.loop-self.self) (sym c.more.ensures ∙ c.loop-self-test.false) in
-    (c.loop-self.invariant ∙ none, none)

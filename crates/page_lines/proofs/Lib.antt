@@ -1,3 +1,0 @@
-pub mod DecimalLaws
-pub mod LengthLaws
-pub mod SelectionLaws

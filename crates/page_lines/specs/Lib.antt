@@ -1,2 +1,0 @@
-pub mod Selecting
-pub mod Lines

@@ -1,3 +1,0 @@
-pub mod Status
-pub mod Stored
-pub mod Texts

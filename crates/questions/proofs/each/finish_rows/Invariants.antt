@@ -1,8 +1,0 @@
--- Invariant: the rows passed are turned.
-use Prim.Native.Nat.{◌≤◌}
-use Rattle.questions.specs.Passes.{finished_row}
-use Rattle.questions.proofs.PassLaws.{Passing}
-use Rattle.questions.proofs.each.finish_rows.Given as goal
-
-abbrev pub invariant-loop-i : goal.invariant-loop-i
-invariant-loop-i l = (l.i ≤ l.i-end) × Passing (finished_row l.nations l.initial.out) l.initial.out l.i l.out

@@ -1,5 +1,0 @@
-use Rattle.questions.proofs.PassLaws.{row-put}
-use Rattle.questions.proofs.words.put_row.Goals as goal
-
-pub returns : goal.returns
-returns c = row-put _ _ _ _ c.requires c.put.ensures.cells

@@ -1,3 +1,0 @@
-pub mod DayLaws
-pub mod FirstBadLaws
-pub mod GoodLaws

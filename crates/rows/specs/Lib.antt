@@ -1,0 +1,2 @@
+pub mod RowAt
+pub mod HistoryAt

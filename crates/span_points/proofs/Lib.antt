@@ -1,3 +1,0 @@
-pub mod ReadLaws
-pub mod FilledLaws
-pub mod FillsLaws
