@@ -1,0 +1,10 @@
+pub mod ReadLaws
+pub mod SectionLaws
+pub mod CampaignBackLaws
+pub mod AcceptBackLaws
+pub mod WriteLaws
+pub mod CampaignForthLaws
+pub mod ByteLaws
+pub mod FitLaws
+pub mod RecordLaws
+pub mod PackingCases

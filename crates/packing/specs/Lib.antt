@@ -1,0 +1,3 @@
+pub mod Packing
+pub mod Bounds
+pub mod Framed
