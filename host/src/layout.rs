@@ -1,6 +1,11 @@
-//! Where things lie in a packed record: 01's row widths, limits and head offsets, said once.
+//! Where things lie in a packed record (docs/FORMAT.md): row widths, limits and head offsets, said once.
 
 use std::ops::Range;
+
+use crate::rows::{
+    BOOKING_WORDS, CHANGE_WORDS, COUNT_WORDS, ENTRY_WORDS, HISTORY_WORDS, NATION_WORDS,
+    PLAYER_WORDS,
+};
 
 /// Bytes of the head.
 pub const HEAD: usize = 44;
@@ -29,9 +34,29 @@ pub const FLAGS_AT: usize = 5;
 pub const START_AT: usize = 6;
 /// Offset of the current date.
 pub const CURRENT_AT: usize = 10;
+/// Offset of the number of countries, C.
+pub const COUNTRIES_AT: usize = 14;
+/// Offset of the number of provinces, P.
+pub const PROVINCES_AT: usize = 16;
+/// Offset of the number of previous tags, A.
+pub const PREVIOUS_TAGS_AT: usize = 18;
+/// Offset of the number of switches, B.
+pub const SWITCHES_AT: usize = 22;
+/// Offset of the number of owner events, E.
+pub const OWNER_EVENTS_AT: usize = 26;
+/// Offset of the number of strings, N.
+pub const STRINGS_AT: usize = 30;
+/// Offset of the number of wars, W.
+pub const WARS_AT: usize = 32;
+/// Offset of the number of war events, V.
+pub const WAR_EVENTS_AT: usize = 34;
+/// Offset of the number of ledger names, G.
+pub const LEDGER_NAMES_AT: usize = 38;
+/// Offset of the number of ledger points, Y.
+pub const POINTS_AT: usize = 40;
 
 /// The ten counts of the head.
-#[derive(Clone, Copy, Debug, Default, PartialEq, Eq)]
+#[derive(Clone, Copy, Debug, Default, PartialEq, Eq, Hash)]
 pub struct Counts {
     /// C
     pub countries: usize,
@@ -69,22 +94,22 @@ pub const LIMITS: Counts = Counts {
     points: 1_000_000,
 };
 
-/// Each count of the head: its letter in 01, offset, width and limit.
+/// Each count of the head: its letter in Rules 1.4, offset, width and limit.
 pub const HEAD_COUNTS: [(char, usize, usize, usize); 10] = [
-    ('C', 14, 2, LIMITS.countries),
-    ('P', 16, 2, LIMITS.provinces),
-    ('A', 18, 4, LIMITS.previous_tags),
-    ('B', 22, 4, LIMITS.switches),
-    ('E', 26, 4, LIMITS.owner_events),
-    ('N', 30, 2, LIMITS.strings),
-    ('W', 32, 2, LIMITS.wars),
-    ('V', 34, 4, LIMITS.war_events),
-    ('G', 38, 2, LIMITS.ledger_names),
-    ('Y', 40, 4, LIMITS.points),
+    ('C', COUNTRIES_AT, 2, LIMITS.countries),
+    ('P', PROVINCES_AT, 2, LIMITS.provinces),
+    ('A', PREVIOUS_TAGS_AT, 4, LIMITS.previous_tags),
+    ('B', SWITCHES_AT, 4, LIMITS.switches),
+    ('E', OWNER_EVENTS_AT, 4, LIMITS.owner_events),
+    ('N', STRINGS_AT, 2, LIMITS.strings),
+    ('W', WARS_AT, 2, LIMITS.wars),
+    ('V', WAR_EVENTS_AT, 4, LIMITS.war_events),
+    ('G', LEDGER_NAMES_AT, 2, LIMITS.ledger_names),
+    ('Y', POINTS_AT, 4, LIMITS.points),
 ];
 
 /// Where each section lies; the strings run from `strings` to the end of the record.
-#[derive(Clone, Debug, PartialEq, Eq)]
+#[derive(Clone, Debug, Default, PartialEq, Eq, Hash)]
 pub struct Sections {
     /// Rows of [`COUNTRY`] bytes.
     pub countries: Range<usize>,
@@ -110,7 +135,7 @@ pub struct Sections {
 
 /// How many 32-bit words to lend for each part of the answers, so that none is refused for want of
 /// room. Ledgers have no such bound: a call tells their length.
-#[derive(Clone, Copy, Debug, PartialEq, Eq)]
+#[derive(Clone, Copy, Debug, Default, PartialEq, Eq, Hash)]
 pub struct Enough {
     /// Nation rows.
     pub nations: usize,
@@ -148,16 +173,16 @@ impl Counts {
         let short = |at: usize| usize::from(u16::from_le_bytes([head[at], head[at + 1]]));
         let long = |at: usize| short(at) | short(at + 2) << 16;
         Counts {
-            countries: short(14),
-            provinces: short(16),
-            previous_tags: long(18),
-            switches: long(22),
-            owner_events: long(26),
-            strings: short(30),
-            wars: short(32),
-            war_events: long(34),
-            ledger_names: short(38),
-            points: long(40),
+            countries: short(COUNTRIES_AT),
+            provinces: short(PROVINCES_AT),
+            previous_tags: long(PREVIOUS_TAGS_AT),
+            switches: long(SWITCHES_AT),
+            owner_events: long(OWNER_EVENTS_AT),
+            strings: short(STRINGS_AT),
+            wars: short(WARS_AT),
+            war_events: long(WAR_EVENTS_AT),
+            ledger_names: short(LEDGER_NAMES_AT),
+            points: long(POINTS_AT),
         }
     }
 
@@ -172,16 +197,16 @@ impl Counts {
     /// ```
     pub fn enough(&self) -> Enough {
         Enough {
-            nations: 5 * self.countries,
+            nations: NATION_WORDS * self.countries,
             // An owner event brings two entries at most, and a switch one.
-            entries: 3 * (self.switches + 2 * self.owner_events),
+            entries: ENTRY_WORDS * (self.switches + 2 * self.owner_events),
             holders: self.provinces + 1,
             held: self.countries,
-            changes: 4 * self.owner_events,
-            counts: 5,
-            bookings: 3 * self.war_events,
-            players: 2 * (self.strings / 2),
-            histories: 7 * self.countries,
+            changes: CHANGE_WORDS * self.owner_events,
+            counts: COUNT_WORDS,
+            bookings: BOOKING_WORDS * self.war_events,
+            players: PLAYER_WORDS * (self.strings / 2),
+            histories: HISTORY_WORDS * self.countries,
             names: self.strings / 2,
         }
     }

@@ -18,26 +18,36 @@
 //! # Ok::<(), Refusal>(())
 //! ```
 //!
-//! Nothing here panics, whatever the bytes. Memory is lent as the record's head says is enough. Calls need
-//! up to 1.8 MiB of stack: they run on the thread that makes them if so much is left there, as it is on a
-//! thread of the default 2 MiB, and else on one of their own, which can cost a millisecond or two. Who brings
-//! memory of their own calls [`raw`], which has the same functions over slices of words. [`layout`] says
-//! where things lie in a record.
+//! Of bytes that are refused, [`Record::offence`] says in which row they offend, and how.
 //!
-//! "01" in the comments is ../shared/docs/01-scope.md, the rules.
+//! Nothing here panics, whatever the bytes, but [`CountryTag::new`], which is for constants. A record and its
+//! chronicle can be kept side by side and sent to any thread. Memory is lent as the record's head says is
+//! enough. Calls need up to 1.8 MiB of stack: they run on the thread that makes them if so much is left there,
+//! as it is on a thread of the default 2 MiB, and else on one of their own, which can cost a millisecond or
+//! two. Who brings memory of their own calls [`raw`], which has the same functions over slices of words;
+//! [`rows`] says how many words a row of each has, and [`layout`] where things lie in a record.
+//!
+//! `Rules 4.3` in the comments is that rule of docs/RULES.md.
 
 mod chronicle;
 mod deep;
 pub mod layout;
+mod offence;
 pub mod raw;
 mod record;
 mod refusal;
+pub mod rows;
 mod values;
 
 pub use chronicle::{Chronicle, TagResolverDated};
+pub use offence::{Offence, Part, Place};
 pub use record::Record;
 pub use refusal::{Lacking, Refusal, Shortage};
 pub use values::{
-    CountryTag, Date, Entry, EntryKind, LedgerPoint, Name, Nation, OwnerChange, Player,
-    PlayerHistory, ProvinceId, TagData, WarParticipant,
+    CountryTag, Entry, EntryKind, Eu4Date, LedgerKind, LedgerPoint, Name, Nation, NotADate,
+    NotALedger, NotARow, NotATag, OwnerChange, Player, PlayerHistory, ProvinceId, Side, TagData,
+    WarParticipant,
 };
+
+/// The version of this package, which is that of include/chronicle.h.
+pub const VERSION: &str = env!("CARGO_PKG_VERSION");

@@ -1,13 +1,14 @@
 //! How a run ends that gives no answer.
 
-use std::ffi::OsString;
+use std::ffi::{OsStr, OsString};
 use std::io::{self, Write};
-use std::path::Path;
 use std::process::ExitCode;
 
 use chronicle::Refusal;
 
-use crate::output::{refused as object, Output};
+use crate::output::{refused as refused_object, Form, Output};
+use crate::rows::Object;
+use crate::terminal::shown_path;
 
 /// Why there is no answer.
 #[derive(Debug)]
@@ -18,11 +19,17 @@ pub enum Failure {
     Unreadable(OsString, io::Error),
     /// The record or the question is refused, with more about it where there is more.
     Refused { file: OsString, refusal: Refusal, more: Option<String> },
-    /// The answer has been told, and it is a refusal.
-    Told,
+    /// All that is to be said has been said, and the run ends with this status.
+    Told(u8),
     /// The answer cannot be written.
     Unwritten(io::Error),
 }
+
+/// The status that says: no answer, for the record is refused, or a tag is none that is known.
+pub const REFUSED: u8 = 1;
+
+/// The status that says: wrong usage, or a file that cannot be read or written.
+pub const WRONG: u8 = 2;
 
 impl From<io::Error> for Failure {
     fn from(error: io::Error) -> Failure {
@@ -31,61 +38,70 @@ impl From<io::Error> for Failure {
 }
 
 impl Failure {
-    /// Says why, and gives the status to end with: 1 for a refusal, else 2. Who closes the pipe has
-    /// read enough.
+    /// Says why, and gives the status to end with.
     pub fn told(self, out: &mut Output<'_>) -> ExitCode {
+        out.progress = None;
         match self {
+            // Who closes the pipe has read enough, and needs no words.
             Failure::Unwritten(error) if error.kind() == io::ErrorKind::BrokenPipe => {
-                ExitCode::SUCCESS
+                ExitCode::from(WRONG)
             }
-            Failure::Unwritten(error) => other(&format!("the answer cannot be written: {error}")),
+            Failure::Unwritten(error) => wrong(&format!("the answer cannot be written: {error}")),
             Failure::Usage(told) => {
-                other(&format!("{told}\nTry `chronicle --help`, or `chronicle COMMAND --help`."))
+                wrong(&format!("{told}\nTry `chronicle --help`, or `chronicle COMMAND --help`."))
             }
-            Failure::Unreadable(file, error) => other(&format!("{}: {error}", name(&file))),
+            Failure::Unreadable(file, error) => wrong(&unreadable(&file, &error)),
             Failure::Refused { file, refusal, more } => {
                 refused(&name(&file), refusal, more.as_deref(), out)
             }
-            Failure::Told => match out.to.flush() {
-                Err(error) if error.kind() != io::ErrorKind::BrokenPipe => {
-                    Failure::Unwritten(error).told(out)
-                }
-                _ => ExitCode::from(1),
-            },
+            Failure::Told(status) => flushed(out, status),
         }
+    }
+}
+
+/// Ends with a status, unless what was said cannot be written.
+fn flushed(out: &mut Output<'_>, status: u8) -> ExitCode {
+    match out.to.flush() {
+        Err(error) => Failure::Unwritten(error).told(out),
+        Ok(()) => ExitCode::from(status),
     }
 }
 
 /// The name of a file, for a message.
-pub fn name(file: &OsString) -> String {
+pub fn name(file: &OsStr) -> String {
     if file == "-" {
         return "standard input".to_string();
     }
-    Path::new(file).display().to_string()
+    shown_path(file)
 }
 
-/// Programs read a refusal where they read rows, people beside them.
+/// What is said of a file that cannot be read.
+pub fn unreadable(file: &OsStr, error: &io::Error) -> String {
+    format!("{}: {error}", name(file))
+}
+
+/// Objects are read where rows are; people, and who reads a table, are told beside them.
 fn refused(file: &str, refusal: Refusal, more: Option<&str>, out: &mut Output<'_>) -> ExitCode {
-    if !out.json {
+    let status = if refusal == Refusal::BadQuestion { WRONG } else { REFUSED };
+    if out.form != Form::Json {
         let more = more.map_or_else(String::new, |more| format!("\n{more}"));
         say(&format!("{file}: {refusal}{more}"));
-        return ExitCode::from(1);
+        return flushed(out, status);
     }
+    let object = refused_object(Object::new(), refusal);
     let object = match more {
-        Some(more) => object(refusal).text("found", more),
-        None => object(refusal),
+        Some(more) => object.text("found", more),
+        None => object,
     };
-    match writeln!(out.to, "{}", object.closed()).and_then(|()| out.to.flush()) {
-        Err(error) if error.kind() != io::ErrorKind::BrokenPipe => {
-            Failure::Unwritten(error).told(out)
-        }
-        _ => ExitCode::from(1),
+    match writeln!(out.to, "{}", object.json()) {
+        Err(error) => Failure::Unwritten(error).told(out),
+        Ok(()) => flushed(out, status),
     }
 }
 
-fn other(told: &str) -> ExitCode {
+fn wrong(told: &str) -> ExitCode {
     say(&format!("chronicle: {told}"));
-    ExitCode::from(2)
+    ExitCode::from(WRONG)
 }
 
 /// If nobody listens, nothing is said.

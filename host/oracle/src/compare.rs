@@ -1,4 +1,4 @@
-//! One campaign, three times: the Rust, the model written from 01, and the proved functions.
+//! One campaign, three times: the Rust, the model written from the rules, and the proved functions.
 //!
 //! The Rust is held against the model, row by row, and the proved functions, with all their
 //! cells, against the model that was just found equal to the Rust. Holder and held cells, which
@@ -7,13 +7,13 @@
 use std::fmt::Debug;
 
 use chronicle_trial::adversary::{days_of, tags_of};
-use chronicle_trial::demand::Met;
 use chronicle_trial::generate::Random;
+use chronicle_trial::guarantee::Met;
 use chronicle_trial::lists::{altered, any_nations, questions, some_of};
 use chronicle_trial::model::Chronicle;
 use chronicle_trial::pack::{pack, Campaign, Date, Tag};
 use chronicle_trial::rows::{Change, Kind, Nation, Run};
-use chronicle_trial::{demand, model, recount, trial};
+use chronicle_trial::{guarantee, model, recount, trial};
 use eu4save::query::{NationEvents, ProvinceOwners};
 
 use crate::ledgers::Ledgers;
@@ -88,7 +88,7 @@ pub fn compare_with(
     for nations in [&chronicle.nations, &any, &altered] {
         asked.about(nations)?;
     }
-    asked.demand()
+    asked.guarantee()
 }
 
 /// Holder and held cells, counted again.
@@ -168,11 +168,11 @@ impl Asked<'_> {
     }
 
     /// What the library's own answers owe each other, without the Rust and the model.
-    fn demand(&mut self) -> Result<(), String> {
+    fn guarantee(&mut self) -> Result<(), String> {
         let Asked { campaign, record, random, .. } = self;
         let mut met = Met::default();
-        demand::tried(record, campaign, MOST_PAIRS, random, &mut met)?;
-        self.seen.demand(&met);
+        guarantee::tried(record, campaign, MOST_PAIRS, random, &mut met)?;
+        self.seen.guarantee(&met);
         Ok(())
     }
 

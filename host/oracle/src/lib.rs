@@ -1,8 +1,8 @@
 //! Holds the campaign chronicle against the Rust it was ported from.
 //!
 //! The Rust is query.rs, tag_resolver.rs and their types, unchanged (package eu4save). [`save`]
-//! gives it a campaign, [`rust`] turns its answers into the rows of 01, and [`compare`] holds
-//! them against the independent model and against the proved functions.
+//! gives it a campaign, [`rust`] turns its answers into the rows of the rules, and [`compare`]
+//! holds them against the independent model and against the proved functions.
 //!
 //! All of this is there only if the Rust was found when this was built (see eu4save/build). The
 //! programs then still build, say that nothing was compared, and end with [`NOT_FOUND`].

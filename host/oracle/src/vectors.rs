@@ -1,14 +1,6 @@
 //! The stored sample of the Rust's answers, which the proved program replays without Rust at hand.
 //!
-//! One file, entries back to back; every number is 32 bits, low byte first. An entry has
-//!
-//! - seven numbers: bytes of the record, changes, days asked about, nations, entries, slots,
-//!   countries;
-//! - the record's bytes;
-//! - each change in 4 words, each day in 3 (date, first, count: what `events_on` answers), each
-//!   nation in 5, each entry in 3: as the Rust answers, its nations sorted by initial;
-//! - the holder of each slot and the slots held by each country, a word each: from the model,
-//!   since the Rust does not give them.
+//! Its nations are sorted by initial. [`chronicle_trial::stored`] has the form.
 
 use chronicle_trial::adversary::{days_of, draw, draw_bare};
 use chronicle_trial::generate::Random;

@@ -45,6 +45,32 @@ fn a_folder_of_records() {
     assert!(said.contains("1 records, 0 of them refused: no difference"), "{said}");
 }
 
+/// The last line of what was said.
+fn verdict(said: &str) -> &str {
+    said.lines().last().unwrap_or_default()
+}
+
+/// A run ends in one line with its verdict, whichever it is.
+#[test]
+fn the_last_line_is_the_verdict() {
+    let folder = folder("verdicts");
+    fs::write(folder.join("worked.atl"), sample::WORKED).unwrap();
+    fs::write(folder.join("short.atl"), &sample::WORKED[..102]).unwrap();
+    let said = |arguments: &[&str]| {
+        let (status, said, _) = compare(&folder, arguments);
+        (status, verdict(&said).to_string())
+    };
+    let told = |status, verdict: &str| (Some(status), verdict.to_string());
+    let records = "verdict: no difference in 2 records, 1 of them refused";
+    assert_eq!(said(&["."]), told(0, records));
+    let drawn = "verdict: no difference in 40 small campaigns, 10 damaged records, 192 pages near their limits and 0 of the \
+                 campaigns at the limits, seed 3";
+    assert_eq!(said(&["40", "3", "0"]), told(0, drawn));
+    let difference = "verdict: a DIFFERENCE, told above on standard error";
+    assert_eq!(said(&["--falsify", "changes", "worked.atl"]), told(1, difference));
+    assert_eq!(said(&["nowhere"]), told(2, "verdict: NOTHING was compared"));
+}
+
 /// Both answers are told: about a record, or about rows that were lent.
 fn told_of_both(complained: &str) -> bool {
     let has = |texts: [&str; 3]| texts.iter().all(|text| complained.contains(text));

@@ -3,14 +3,12 @@
 use super::Chronicle;
 use crate::deep::{deep, Depth};
 use crate::refusal::{Lacking, Shortage};
+use crate::rows::LEDGER_WORDS;
 use crate::values::LedgerPoint;
 use crate::Refusal;
 
-/// Words of a ledger row.
-const ROW: usize = 3;
-
 impl Chronicle<'_> {
-    /// As many rows, 192 MiB, are held for [`ledger`](Self::ledger) and [`ledgers`](Self::ledgers). A
+    /// As many rows, 192 MiB, are held for [`nation_ledger`](Self::nation_ledger) and [`nation_ledgers`](Self::nation_ledgers). A
     /// ledger can be far longer than its record, for years may fall, and each fall is filled up again.
     pub const MOST_LEDGER_ROWS: usize = 1 << 24;
 
@@ -28,20 +26,20 @@ impl Chronicle<'_> {
     /// let record = Record::open(&bytes)?;
     /// let chronicle = record.chronicle()?;
     /// let ireland = chronicle.stored_under("IRE".parse()?).unwrap();
-    /// let ledger = chronicle.ledger(ireland.number)?;
+    /// let ledger = chronicle.nation_ledger(ireland.number)?;
     /// assert_eq!(ledger[2], LedgerPoint { tag: "TYR".parse()?, year: 1447, value: 5 });
-    /// assert_eq!(chronicle.ledger(11), Err(Refusal::NoSuchNation));
+    /// assert_eq!(chronicle.nation_ledger(11), Err(Refusal::NoSuchNation));
     /// # Ok::<(), Refusal>(())
     /// ```
-    pub fn ledger(&self, nation: usize) -> Result<Vec<LedgerPoint>, Refusal> {
-        self.ledger_within(nation, Self::MOST_LEDGER_ROWS)
+    pub fn nation_ledger(&self, nation: usize) -> Result<Vec<LedgerPoint>, Refusal> {
+        self.nation_ledger_within(nation, Self::MOST_LEDGER_ROWS)
     }
 
     /// The same, of at most so many rows.
     ///
     /// # Errors
     ///
-    /// As [`ledger`](Self::ledger).
+    /// As [`nation_ledger`](Self::nation_ledger).
     ///
     /// ```
     /// use chronicle::{Lacking, Record, Refusal, Shortage};
@@ -49,18 +47,22 @@ impl Chronicle<'_> {
     /// let bytes = std::fs::read("../samples/isles.atl").unwrap();
     /// let record = Record::open(&bytes)?;
     /// let shortage = Shortage { lacking: Lacking::LedgerRows, room: 100, needed: 106 };
-    /// let refused = record.chronicle()?.ledger_within(10, 100);
+    /// let refused = record.chronicle()?.nation_ledger_within(10, 100);
     /// assert_eq!(refused, Err(Refusal::NoRoom(Some(shortage))));
     /// # Ok::<(), Refusal>(())
     /// ```
-    pub fn ledger_within(&self, nation: usize, most: usize) -> Result<Vec<LedgerPoint>, Refusal> {
+    pub fn nation_ledger_within(
+        &self,
+        nation: usize,
+        most: usize,
+    ) -> Result<Vec<LedgerPoint>, Refusal> {
         let (rows, bytes) = (self.rows(), self.record().bytes());
         let words = deep(Depth::Rows, || {
             let needed = rows.nation_ledger_rows(bytes, nation, usize::MAX)?;
             if needed > most {
                 return Err(shortage(most, needed));
             }
-            let mut out = vec![0; ROW * needed];
+            let mut out = vec![0; LEDGER_WORDS * needed];
             rows.nation_ledger(bytes, nation, &mut out)?;
             Ok(out)
         })?;
@@ -79,15 +81,15 @@ impl Chronicle<'_> {
     /// let bytes = std::fs::read("../samples/isles.atl").unwrap();
     /// let record = Record::open(&bytes)?;
     /// let chronicle = record.chronicle()?;
-    /// let ledgers = chronicle.ledgers()?;
-    /// assert_eq!((ledgers.len(), &ledgers[10]), (11, &chronicle.ledger(10)?));
+    /// let ledgers = chronicle.nation_ledgers()?;
+    /// assert_eq!((ledgers.len(), &ledgers[10]), (11, &chronicle.nation_ledger(10)?));
     /// # Ok::<(), Refusal>(())
     /// ```
-    pub fn ledgers(&self) -> Result<Vec<Vec<LedgerPoint>>, Refusal> {
+    pub fn nation_ledgers(&self) -> Result<Vec<Vec<LedgerPoint>>, Refusal> {
         let mut counts = vec![0; self.nations().len()];
         let mut room = self.record().counts().points.min(Self::MOST_LEDGER_ROWS);
         loop {
-            let mut out = vec![0; ROW * room];
+            let mut out = vec![0; LEDGER_WORDS * room];
             let bytes = self.record().bytes();
             match deep(Depth::Rows, || self.rows().nation_ledgers(bytes, &mut out, &mut counts)) {
                 // Each round has twice the room, until the most that is held.
@@ -96,7 +98,7 @@ impl Chronicle<'_> {
                 }
                 Err(Refusal::NoRoom(None)) => return Err(shortage(room, room + 1)),
                 Err(refusal) => return Err(refusal),
-                Ok(rows) => return Ok(apart(&out[..out.len().min(ROW * rows)], &counts)),
+                Ok(rows) => return Ok(apart(&out[..out.len().min(LEDGER_WORDS * rows)], &counts)),
             }
         }
     }
@@ -113,7 +115,7 @@ fn points(words: &[u32]) -> Vec<LedgerPoint> {
 /// Each nation's rows by themselves.
 fn apart(mut words: &[u32], counts: &[u64]) -> Vec<Vec<LedgerPoint>> {
     let own = |&count: &u64| {
-        let (own, others) = words.split_at(words.len().min(ROW * count as usize));
+        let (own, others) = words.split_at(words.len().min(LEDGER_WORDS * count as usize));
         words = others;
         points(own)
     };

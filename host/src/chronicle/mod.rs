@@ -11,19 +11,38 @@ use std::fmt;
 use crate::deep::{deep, Depth};
 use crate::layout::Enough;
 use crate::raw;
+use crate::rows::{CHANGE_WORDS, ENTRY_WORDS, NATION_WORDS};
 use crate::values::{CountryTag, Entry, Nation, OwnerChange, ProvinceId, WarParticipant};
 use crate::{Record, Refusal};
 
 /// The nations that lived in a campaign, what befell them, and who holds what at the end.
 ///
-/// It is worked out once, by [`Record::chronicle`], and then asked.
+/// It is worked out once, by [`Record::chronicle`], and then asked. It holds its record, which is shared
+/// and not copied: of a record that owns its bytes it can be kept anywhere and sent to any thread.
+///
+/// ```
+/// use std::sync::Arc;
+/// use chronicle::{Chronicle, Record, Refusal};
+///
+/// /// What a host keeps of an opened campaign.
+/// struct Campaign {
+///     record: Record<'static>,
+///     chronicle: Arc<Chronicle<'static>>,
+/// }
+///
+/// let record = Record::open(std::fs::read("../samples/isles.atl").unwrap())?;
+/// let chronicle = Arc::new(record.chronicle()?);
+/// let campaign = Campaign { record, chronicle };
+/// let other = Arc::clone(&campaign.chronicle);
+/// let nations = std::thread::spawn(move || other.nations().len()).join().unwrap();
+/// assert_eq!((nations, campaign.record.counts().countries), (11, 12));
+/// # Ok::<(), Refusal>(())
+/// ```
+#[derive(Clone, PartialEq, Eq, Hash)]
 pub struct Chronicle<'a> {
-    record: &'a Record<'a>,
-    /// Five words a nation.
+    record: Record<'a>,
     nations: Vec<u32>,
-    /// Three words an entry.
     entries: Vec<u32>,
-    /// Four words a change.
     changes: Vec<u32>,
     holders: Vec<u32>,
     held: Vec<u32>,
@@ -31,7 +50,7 @@ pub struct Chronicle<'a> {
 
 impl<'a> Chronicle<'a> {
     /// Lends what the head says is enough, and keeps what was written.
-    pub(crate) fn of(record: &'a Record<'a>) -> Result<Chronicle<'a>, Refusal> {
+    pub(crate) fn of(record: Record<'a>) -> Result<Chronicle<'a>, Refusal> {
         let Enough { nations, entries, holders, held, changes, counts, .. } =
             record.counts().enough();
         let mut lent = [nations, entries, holders, held, changes, counts].map(|n| vec![0; n]);
@@ -43,11 +62,11 @@ impl<'a> Chronicle<'a> {
         })?;
         let [mut nations, mut entries, mut holders, mut held, mut changes, counts] = lent;
         let parts = [
-            (&mut nations, 5),
-            (&mut entries, 3),
+            (&mut nations, NATION_WORDS),
+            (&mut entries, ENTRY_WORDS),
             (&mut holders, 1),
             (&mut held, 1),
-            (&mut changes, 4),
+            (&mut changes, CHANGE_WORDS),
         ];
         for ((words, width), count) in parts.into_iter().zip(counts) {
             words.truncate(width * count as usize);
@@ -67,8 +86,27 @@ impl<'a> Chronicle<'a> {
     /// assert_eq!(chronicle.record().bytes(), bytes);
     /// # Ok::<(), Refusal>(())
     /// ```
-    pub fn record(&self) -> &'a Record<'a> {
-        self.record
+    pub fn record(&self) -> &Record<'a> {
+        &self.record
+    }
+
+    /// The same, which lends nothing any more: lent bytes are copied.
+    ///
+    /// ```
+    /// use chronicle::{Chronicle, Record, Refusal};
+    ///
+    /// fn read(path: &str) -> Result<Chronicle<'static>, Refusal> {
+    ///     let bytes = std::fs::read(path).unwrap();
+    ///     Ok(Record::open(&bytes)?.into_chronicle()?.into_owned())
+    /// }
+    ///
+    /// assert_eq!(read("../samples/isles.atl")?.nations().len(), 11);
+    /// # Ok::<(), Refusal>(())
+    /// ```
+    pub fn into_owned(self) -> Chronicle<'static> {
+        let Chronicle { record, nations, entries, changes, holders, held } = self;
+        let record = record.into_owned();
+        Chronicle { record, nations, entries, changes, holders, held }
     }
 
     /// The same as words, to be lent to the [`raw`] calls or kept.
@@ -134,12 +172,12 @@ impl<'a> Chronicle<'a> {
     /// # Ok::<(), Refusal>(())
     /// ```
     pub fn stored_under(&self, tag: CountryTag) -> Option<Nation> {
-        let rows = self.nations.as_chunks::<5>().0;
+        let rows = self.nations.as_chunks::<NATION_WORDS>().0;
         let number = rows.iter().position(|row| row[2] == tag.word())?;
         self.nation(number)
     }
 
-    fn told(&self, number: usize, row: &[u32; 5]) -> Nation {
+    fn told(&self, number: usize, row: &[u32; NATION_WORDS]) -> Nation {
         let &[initial, latest, stored, first, count] = row;
         let [initial, latest, stored] = [initial, latest, stored].map(CountryTag::written);
         let behind = self.entries.as_chunks().0.get(first as usize..).unwrap_or(&[]);
@@ -162,7 +200,7 @@ impl<'a> Chronicle<'a> {
         self.entries.as_chunks().0.iter().map(Entry::written)
     }
 
-    /// Every change of a province's owner, as [`Record::owner_changes`] gives them.
+    /// Every change of a province's owner, as [`Record::province_owners`] gives them.
     ///
     /// ```
     /// use chronicle::{Record, Refusal};
@@ -170,7 +208,7 @@ impl<'a> Chronicle<'a> {
     /// let bytes = std::fs::read("../samples/isles.atl").unwrap();
     /// let record = Record::open(&bytes)?;
     /// let chronicle = record.chronicle()?;
-    /// assert!(chronicle.owner_changes().eq(record.owner_changes()?));
+    /// assert!(chronicle.owner_changes().eq(record.province_owners()?));
     /// # Ok::<(), Refusal>(())
     /// ```
     pub fn owner_changes(&self) -> impl ExactSizeIterator<Item = OwnerChange> + '_ {
@@ -212,19 +250,25 @@ impl<'a> Chronicle<'a> {
         self.record.countries().zip(self.held.iter().map(|&slots| slots as usize))
     }
 
-    /// Who entered which war, as attacker or defender, in the order of the record.
+    /// Who entered which war, when and on which side, in the order of the record.
     ///
     /// # Errors
     ///
     /// [`Refusal::NoRoom`] if the system starts no thread.
     ///
     /// ```
-    /// use chronicle::{Record, Refusal, WarParticipant};
+    /// use chronicle::{Record, Refusal, Side, WarParticipant};
     ///
     /// let bytes = std::fs::read("../samples/isles.atl").unwrap();
     /// let record = Record::open(&bytes)?;
     /// let entered = record.chronicle()?.war_participants()?;
-    /// let tyrone = WarParticipant { war: 1, tag: "TYR".parse()?, stored: "IRE".parse()? };
+    /// let tyrone = WarParticipant {
+    ///     war: 1,
+    ///     date: "1460-08-01".parse()?,
+    ///     side: Side::Defender,
+    ///     tag: "TYR".parse()?,
+    ///     stored: "IRE".parse()?,
+    /// };
     /// assert_eq!((entered.len(), entered[4]), (10, tyrone));
     /// # Ok::<(), Refusal>(())
     /// ```
@@ -232,7 +276,10 @@ impl<'a> Chronicle<'a> {
         let mut out = vec![0; self.record.counts().enough().bookings];
         let rows =
             deep(Depth::Changes, || self.rows().war_participants(self.record.bytes(), &mut out))?;
-        Ok(out.as_chunks().0.iter().take(rows).map(WarParticipant::written).collect())
+        let booked = out.as_chunks().0.iter().take(rows);
+        // A booking stands for each event that adds a tag to a war, in their order.
+        let told = booked.zip(self.record.war_entries());
+        Ok(told.map(|(row, event)| WarParticipant::written(row, event)).collect())
     }
 }
 

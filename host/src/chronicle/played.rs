@@ -3,6 +3,7 @@
 use super::Chronicle;
 use crate::deep::{deep, Depth};
 use crate::layout::Enough;
+use crate::rows::HISTORY_WORDS;
 use crate::values::{CountryTag, PlayerHistory};
 use crate::Refusal;
 
@@ -18,13 +19,13 @@ impl Chronicle<'_> {
     ///
     /// let bytes = std::fs::read("../samples/isles.atl").unwrap();
     /// let record = Record::open(&bytes)?;
-    /// let histories = record.chronicle()?.histories()?;
+    /// let histories = record.chronicle()?.player_histories()?;
     /// let initials: Vec<_> = histories.iter().map(|history| history.initial.as_str()).collect();
     /// assert_eq!(initials, ["TYR", "NED", "SCO"]);
     /// assert_eq!(histories[0].player_names[0].text(), Some("Ann"));
     /// # Ok::<(), Refusal>(())
     /// ```
-    pub fn histories(&self) -> Result<Vec<PlayerHistory>, Refusal> {
+    pub fn player_histories(&self) -> Result<Vec<PlayerHistory>, Refusal> {
         let [histories, names] = self.history_words()?;
         let strings = self.record.strings();
         let told = |row| PlayerHistory::written(row, &names, &strings);
@@ -58,7 +59,7 @@ impl Chronicle<'_> {
         let bytes = self.record.bytes();
         let counts =
             deep(Depth::Rows, || self.rows().player_histories(bytes, &mut histories, &mut names))?;
-        histories.truncate(7 * counts.histories);
+        histories.truncate(HISTORY_WORDS * counts.histories);
         names.truncate(counts.names);
         Ok([histories, names])
     }

@@ -3,7 +3,8 @@
 use super::Chronicle;
 use crate::deep::{deep, Depth};
 use crate::raw;
-use crate::values::{CountryTag, Date, TagData};
+use crate::rows::RESOLVED_WORDS;
+use crate::values::{CountryTag, Eu4Date, TagData};
 use crate::Refusal;
 
 impl Chronicle<'_> {
@@ -26,7 +27,7 @@ impl Chronicle<'_> {
     /// assert_eq!(chronicle.resolve(eng, "1448-05-31".parse()?)?, Some(britain));
     /// # Ok::<(), Refusal>(())
     /// ```
-    pub fn resolve(&self, tag: CountryTag, date: Date) -> Result<Option<TagData>, Refusal> {
+    pub fn resolve(&self, tag: CountryTag, date: Eu4Date) -> Result<Option<TagData>, Refusal> {
         let found = self.rows().resolve(tag.word(), date.word())?;
         Ok(found.map(TagData::written))
     }
@@ -64,7 +65,7 @@ impl Chronicle<'_> {
     /// assert_eq!(chronicle.at(day).initial(eng)?, None);
     /// # Ok::<(), Refusal>(())
     /// ```
-    pub fn at(&self, day: Date) -> TagResolverDated<'_> {
+    pub fn at(&self, day: Eu4Date) -> TagResolverDated<'_> {
         TagResolverDated { rows: self.rows(), day }
     }
 
@@ -87,22 +88,24 @@ impl Chronicle<'_> {
     /// ```
     pub fn resolve_each(
         &self,
-        questions: &[(CountryTag, Date)],
+        questions: &[(CountryTag, Eu4Date)],
     ) -> Result<Vec<Option<TagData>>, Refusal> {
-        let words = |&(tag, date): &(CountryTag, Date)| [tag.word(), date.word()];
+        let words = |&(tag, date): &(CountryTag, Eu4Date)| [tag.word(), date.word()];
+        let mut out = vec![0; RESOLVED_WORDS * questions.len()];
         let questions: Vec<u32> = questions.iter().flat_map(words).collect();
-        let mut out = vec![0; questions.len()];
         let rows = deep(Depth::Changes, || self.rows().resolve_each(&questions, &mut out))?;
-        let told = |&row: &[u32; 2]| (row != [0, 0]).then(|| TagData::written(row));
+        let told = |&row: &[u32; RESOLVED_WORDS]| {
+            (row != [0; RESOLVED_WORDS]).then(|| TagData::written(row))
+        };
         Ok(out.as_chunks().0.iter().take(rows).map(told).collect())
     }
 }
 
 /// A [`Chronicle`] asked about the tags worn on a day.
-#[derive(Clone, Copy, Debug)]
+#[derive(Clone, Copy, Debug, PartialEq, Eq, Hash)]
 pub struct TagResolverDated<'a> {
     rows: raw::Chronicle<'a>,
-    day: Date,
+    day: Eu4Date,
 }
 
 impl TagResolverDated<'_> {
@@ -123,7 +126,7 @@ impl TagResolverDated<'_> {
     /// assert_eq!(found.map(|found| found.current), Some("ULS".parse()?));
     /// # Ok::<(), Refusal>(())
     /// ```
-    pub fn resolve(&self, tag: CountryTag, date: Date) -> Result<Option<TagData>, Refusal> {
+    pub fn resolve(&self, tag: CountryTag, date: Eu4Date) -> Result<Option<TagData>, Refusal> {
         let found = self.rows.resolve_at(self.day.word(), tag.word(), date.word())?;
         Ok(found.map(TagData::written))
     }

@@ -48,7 +48,7 @@ mod linux {
 
     /// Those of the running thread; guard pages are not among them.
     pub fn bounds() -> Option<Bounds> {
-        let (mut attributes, mut low, mut size) = ([0; 7], null_mut(), 0);
+        let (mut attributes, mut low, mut size) = (Attributes::default(), null_mut(), 0);
         // SAFETY: each pointer is to a live local of the type that the function writes; the attributes
         // are read and destroyed only after the first call has made them.
         let known = unsafe {

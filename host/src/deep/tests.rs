@@ -95,3 +95,25 @@ fn each_depth_is_enough() {
         raw::write_page(&record(), b"IRE\n", &mut vec![0; LONGEST_PAGE]).map(drop)
     });
 }
+
+/// The bytes that the header names for a call.
+fn named(call: &str) -> usize {
+    let header = include_str!("../../../include/chronicle.h");
+    let (_, rest) = header.split_once(&format!("CHRONICLE_STACK_{call} = ")).expect(call);
+    let (kib, _) = rest.split_once(" * 1024").expect(call);
+    kib.parse::<usize>().expect(call) * 1024
+}
+
+#[test]
+fn each_depth_is_more_than_the_header_names() {
+    let depths = [
+        (Depth::Check, &["CHECK"][..]),
+        (Depth::Rows, &["PLAYERS", "LEDGERS"]),
+        (Depth::Changes, &["OWNERS", "BOOKINGS", "EACH"]),
+        (Depth::Nations, &["NATIONS"]),
+        (Depth::Page, &["PAGE"]),
+    ];
+    for (depth, calls) in depths {
+        assert!(calls.iter().all(|call| named(call) < depth as usize), "{depth:?}");
+    }
+}

@@ -31,7 +31,7 @@ impl Chronicle<'_> {
         // SAFETY: each pointer comes with the length of the live slice it belongs to; the function
         // reads three, writes within the fourth, and keeps none.
         let answer = unsafe {
-            c::war_participants(
+            c::chronicle_war_participants(
                 record.as_ptr(),
                 record.len(),
                 self.nations.as_ptr(),

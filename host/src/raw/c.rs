@@ -7,10 +7,15 @@ extern "C" {
     pub fn check(record: *const u8, len: usize) -> i64;
 
     /// Rows of four words.
-    pub fn province_owners(record: *const u8, len: usize, out: *mut u32, out_len: usize) -> i64;
+    pub fn chronicle_province_owners(
+        record: *const u8,
+        len: usize,
+        out: *mut u32,
+        out_len: usize,
+    ) -> i64;
 
     /// 2, the words written.
-    pub fn events_on(
+    pub fn chronicle_events_on(
         record: *const u8,
         len: usize,
         date: u32,
@@ -19,7 +24,7 @@ extern "C" {
     ) -> i64;
 
     /// 5, the counts written.
-    pub fn nation_events(
+    pub fn chronicle_nation_events(
         record: *const u8,
         len: usize,
         nations: *mut u32,
@@ -37,7 +42,7 @@ extern "C" {
     ) -> i64;
 
     /// 2, the words written, or 0 for none; so are the three below.
-    pub fn resolver_resolve(
+    pub fn chronicle_resolver_resolve(
         nations: *const u32,
         nations_len: usize,
         entries: *const u32,
@@ -49,7 +54,7 @@ extern "C" {
     ) -> i64;
 
     /// By the tag that a nation began with.
-    pub fn resolver_initial(
+    pub fn chronicle_resolver_initial(
         nations: *const u32,
         nations_len: usize,
         entries: *const u32,
@@ -60,7 +65,7 @@ extern "C" {
     ) -> i64;
 
     /// Of a chronicle as it stood on a day.
-    pub fn resolver_resolve_at(
+    pub fn chronicle_resolver_resolve_at(
         nations: *const u32,
         nations_len: usize,
         entries: *const u32,
@@ -73,7 +78,7 @@ extern "C" {
     ) -> i64;
 
     /// By the first tag, of a chronicle as it stood on a day.
-    pub fn resolver_initial_at(
+    pub fn chronicle_resolver_initial_at(
         nations: *const u32,
         nations_len: usize,
         entries: *const u32,
@@ -85,7 +90,7 @@ extern "C" {
     ) -> i64;
 
     /// Rows of two words, one for each question.
-    pub fn resolver_resolve_each(
+    pub fn chronicle_resolver_resolve_each(
         nations: *const u32,
         nations_len: usize,
         entries: *const u32,
@@ -97,7 +102,7 @@ extern "C" {
     ) -> i64;
 
     /// Rows of three words.
-    pub fn war_participants(
+    pub fn chronicle_war_participants(
         record: *const u8,
         len: usize,
         nations: *const u32,
@@ -109,7 +114,7 @@ extern "C" {
     ) -> i64;
 
     /// Rows of three words.
-    pub fn nation_ledger(
+    pub fn chronicle_nation_ledger(
         record: *const u8,
         len: usize,
         nations: *const u32,
@@ -122,7 +127,7 @@ extern "C" {
     ) -> i64;
 
     /// The rows that there are, at most so many.
-    pub fn nation_ledger_rows(
+    pub fn chronicle_nation_ledger_rows(
         record: *const u8,
         len: usize,
         nations: *const u32,
@@ -134,7 +139,7 @@ extern "C" {
     ) -> i64;
 
     /// Rows of three words, of all nations together.
-    pub fn nation_ledgers(
+    pub fn chronicle_nation_ledgers(
         record: *const u8,
         len: usize,
         nations: *const u32,
@@ -148,10 +153,10 @@ extern "C" {
     ) -> i64;
 
     /// Rows of two words.
-    pub fn players(record: *const u8, len: usize, out: *mut u32, out_len: usize) -> i64;
+    pub fn chronicle_players(record: *const u8, len: usize, out: *mut u32, out_len: usize) -> i64;
 
     /// Rows of seven words.
-    pub fn player_histories(
+    pub fn chronicle_player_histories(
         record: *const u8,
         len: usize,
         nations: *const u32,
@@ -165,7 +170,7 @@ extern "C" {
     ) -> i64;
 
     /// 1 with the tag's word written, or 0 for none.
-    pub fn starting_country(
+    pub fn chronicle_starting_country(
         histories: *const u32,
         histories_len: usize,
         nations: *const u32,

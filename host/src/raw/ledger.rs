@@ -38,7 +38,7 @@ impl Chronicle<'_> {
         // SAFETY: each pointer comes with the length of the live slice it belongs to; the function
         // reads three, writes within the fourth, and keeps none.
         let answer = unsafe {
-            c::nation_ledger(
+            c::chronicle_nation_ledger(
                 record.as_ptr(),
                 record.len(),
                 self.nations.as_ptr(),
@@ -79,7 +79,7 @@ impl Chronicle<'_> {
         // SAFETY: each pointer comes with the length of the live slice it belongs to; the function
         // only reads them and keeps none.
         let answer = unsafe {
-            c::nation_ledger_rows(
+            c::chronicle_nation_ledger_rows(
                 record.as_ptr(),
                 record.len(),
                 self.nations.as_ptr(),
@@ -123,7 +123,7 @@ impl Chronicle<'_> {
         // SAFETY: as for `nation_ledger`, with two slices that are written to; they are borrowed
         // apart, so that they do not overlap.
         let answer = unsafe {
-            c::nation_ledgers(
+            c::chronicle_nation_ledgers(
                 record.as_ptr(),
                 record.len(),
                 self.nations.as_ptr(),

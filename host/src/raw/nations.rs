@@ -1,6 +1,7 @@
 //! `nation_events`: the chronicle of a record.
 
 use super::{c, counted};
+use crate::rows::COUNT_WORDS;
 use crate::Refusal;
 
 /// The slices lent to [`nation_events`].
@@ -66,7 +67,7 @@ pub struct Room<'a> {
 pub fn nation_events(record: &[u8], room: Room<'_>) -> Result<(), Refusal> {
     // SAFETY: as for `province_owners`; the slices are borrowed apart, so that none overlap.
     let answer = unsafe {
-        c::nation_events(
+        c::chronicle_nation_events(
             record.as_ptr(),
             record.len(),
             room.nations.as_mut_ptr(),
@@ -83,6 +84,6 @@ pub fn nation_events(record: &[u8], room: Room<'_>) -> Result<(), Refusal> {
             room.counts.len(),
         )
     };
-    assert_eq!(counted("nation_events", answer)?, 5, "nation_events answers five counts");
+    assert_eq!(counted("nation_events", answer)?, COUNT_WORDS, "nation_events answers counts");
     Ok(())
 }

@@ -1,6 +1,7 @@
 //! Players, the countries they played and the one they began with.
 
 use super::{c, counted, Chronicle};
+use crate::rows::HISTORY_WORDS;
 use crate::Refusal;
 
 /// Writes the players of a record, two words each (string number of the name, tag), and says how
@@ -23,12 +24,13 @@ use crate::Refusal;
 pub fn players(record: &[u8], out: &mut [u32]) -> Result<usize, Refusal> {
     // SAFETY: each pointer comes with the length of the live slice it belongs to; the function
     // reads the one, writes within the other, and keeps neither.
-    let answer = unsafe { c::players(record.as_ptr(), record.len(), out.as_mut_ptr(), out.len()) };
+    let answer =
+        unsafe { c::chronicle_players(record.as_ptr(), record.len(), out.as_mut_ptr(), out.len()) };
     counted("players", answer)
 }
 
 /// How many histories and how many names were written.
-#[derive(Clone, Copy, Debug, PartialEq, Eq)]
+#[derive(Clone, Copy, Debug, Default, PartialEq, Eq, Hash)]
 pub struct HistoryCounts {
     /// Rows of seven words.
     pub histories: usize,
@@ -72,7 +74,7 @@ impl Chronicle<'_> {
         // SAFETY: each pointer comes with the length of the live slice it belongs to; the function
         // reads three, writes within the other two, which are borrowed apart, and keeps none.
         let answer = unsafe {
-            c::player_histories(
+            c::chronicle_player_histories(
                 record.as_ptr(),
                 record.len(),
                 self.nations.as_ptr(),
@@ -87,7 +89,7 @@ impl Chronicle<'_> {
         };
         let rows = counted("player_histories", answer)?;
         // The last history's names are the last of all.
-        let last = histories.as_chunks::<7>().0[..rows].last();
+        let last = histories.as_chunks::<HISTORY_WORDS>().0[..rows].last();
         let names = last.map_or(0, |&[.., first, count]| first as usize + count as usize);
         Ok(HistoryCounts { histories: rows, names })
     }
@@ -116,7 +118,7 @@ impl Chronicle<'_> {
         // SAFETY: each pointer comes with the length of the live slice it belongs to; the function
         // reads three, writes within the fourth, and keeps none.
         let answer = unsafe {
-            c::starting_country(
+            c::chronicle_starting_country(
                 histories.as_ptr(),
                 histories.len(),
                 self.nations.as_ptr(),

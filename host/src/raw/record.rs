@@ -1,6 +1,7 @@
 //! `check`, `province_owners` and `events_on`: what is asked of a record alone.
 
 use super::{c, counted, refusal};
+use crate::rows::RUN_WORDS;
 use crate::Refusal;
 
 /// Says whether the bytes are a packed record the chronicle accepts, and if not, why.
@@ -9,7 +10,7 @@ use crate::Refusal;
 ///
 /// # Panics
 ///
-/// If the library answers a number that 01 does not define for a record.
+/// If the library answers a number that is none of a record's (Rules 2.2).
 ///
 /// ```
 /// use chronicle::{raw::check, Refusal};
@@ -51,8 +52,9 @@ pub fn check(record: &[u8]) -> Result<(), Refusal> {
 pub fn province_owners(record: &[u8], out: &mut [u32]) -> Result<usize, Refusal> {
     // SAFETY: each pointer comes with the length of the live slice it belongs to; the function
     // reads the one, writes within the other, and keeps neither.
-    let answer =
-        unsafe { c::province_owners(record.as_ptr(), record.len(), out.as_mut_ptr(), out.len()) };
+    let answer = unsafe {
+        c::chronicle_province_owners(record.as_ptr(), record.len(), out.as_mut_ptr(), out.len())
+    };
     counted("province_owners", answer)
 }
 
@@ -74,8 +76,9 @@ pub fn province_owners(record: &[u8], out: &mut [u32]) -> Result<usize, Refusal>
 /// ```
 pub fn events_on(record: &[u8], date: u32, out: &mut [u32]) -> Result<(), Refusal> {
     // SAFETY: as for `province_owners`.
-    let answer =
-        unsafe { c::events_on(record.as_ptr(), record.len(), date, out.as_mut_ptr(), out.len()) };
-    assert_eq!(counted("events_on", answer)?, 2, "events_on answers two words");
+    let answer = unsafe {
+        c::chronicle_events_on(record.as_ptr(), record.len(), date, out.as_mut_ptr(), out.len())
+    };
+    assert_eq!(counted("events_on", answer)?, RUN_WORDS, "events_on answers a run");
     Ok(())
 }

@@ -2,10 +2,11 @@
 //! [`nation_events`](super::nation_events) writes them or as anybody else does.
 
 use super::{c, counted};
+use crate::rows::RESOLVED_WORDS;
 use crate::Refusal;
 
 /// The words of a chronicle: five for a nation, three for an entry.
-#[derive(Clone, Copy, Debug)]
+#[derive(Clone, Copy, Debug, PartialEq, Eq, Hash)]
 pub struct Chronicle<'a> {
     /// Initial, latest, stored, first entry, entry count.
     pub nations: &'a [u32],
@@ -14,7 +15,7 @@ pub struct Chronicle<'a> {
 }
 
 /// What a resolver is asked, tag and dates in words: anybody may ask with any.
-#[derive(Clone, Copy, Debug, PartialEq, Eq)]
+#[derive(Clone, Copy, Debug, PartialEq, Eq, PartialOrd, Ord, Hash)]
 pub enum Question {
     /// Who went by the tag on the date?
     Resolve {
@@ -47,7 +48,7 @@ pub enum Question {
 }
 
 /// A tag's word, and the word of the tag it is stored under.
-pub type TagData = [u32; 2];
+pub type TagData = [u32; RESOLVED_WORDS];
 
 impl Chronicle<'_> {
     /// Where the country that went by a tag on a date is now.
@@ -155,14 +156,16 @@ impl Chronicle<'_> {
         let answer = unsafe {
             match question {
                 Question::Resolve { tag, date } => {
-                    c::resolver_resolve(n, nl, e, el, tag, date, out, room)
+                    c::chronicle_resolver_resolve(n, nl, e, el, tag, date, out, room)
                 }
-                Question::Initial { tag } => c::resolver_initial(n, nl, e, el, tag, out, room),
+                Question::Initial { tag } => {
+                    c::chronicle_resolver_initial(n, nl, e, el, tag, out, room)
+                }
                 Question::ResolveAt { day, tag, date } => {
-                    c::resolver_resolve_at(n, nl, e, el, day, tag, date, out, room)
+                    c::chronicle_resolver_resolve_at(n, nl, e, el, day, tag, date, out, room)
                 }
                 Question::InitialAt { day, tag } => {
-                    c::resolver_initial_at(n, nl, e, el, day, tag, out, room)
+                    c::chronicle_resolver_initial_at(n, nl, e, el, day, tag, out, room)
                 }
             }
         };
@@ -188,7 +191,7 @@ impl Chronicle<'_> {
         // SAFETY: each pointer comes with the length of the live slice it belongs to; the function
         // reads three, writes within the fourth, and keeps none.
         let answer = unsafe {
-            c::resolver_resolve_each(
+            c::chronicle_resolver_resolve_each(
                 self.nations.as_ptr(),
                 self.nations.len(),
                 self.entries.as_ptr(),
@@ -203,10 +206,10 @@ impl Chronicle<'_> {
     }
 
     fn data(self, question: Question) -> Result<Option<TagData>, Refusal> {
-        let mut out = [0; 2];
+        let mut out = [0; RESOLVED_WORDS];
         match self.ask(question, &mut out)? {
             0 => Ok(None),
-            2 => Ok(Some(out)),
+            RESOLVED_WORDS => Ok(Some(out)),
             words => panic!("{question:?} is answered by {words} words"),
         }
     }

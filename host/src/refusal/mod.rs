@@ -1,4 +1,4 @@
-//! Why a call was refused, in 01's numbers and in plain words.
+//! Why a call was refused, by its number (Rules 2.2) and in plain words.
 
 mod shortage;
 
@@ -7,7 +7,9 @@ pub use shortage::{Lacking, Shortage};
 use std::error::Error;
 use std::fmt;
 
-/// Why a call was refused, by 01's numbers: 1 to 9 are the record's, 10 and 11 those of what was
+use crate::values::{NotADate, NotATag};
+
+/// Why a call was refused, by its number (Rules 2.2): 1 to 9 are the record's, 10 and 11 those of what was
 /// lent, 12 and 13 the question's.
 #[derive(Clone, Copy, Debug, PartialEq, Eq, PartialOrd, Ord, Hash)]
 #[non_exhaustive]
@@ -23,7 +25,7 @@ pub enum Refusal {
     /// 5: a day that no calendar without leap days has.
     BadDate,
     /// 6: a flag or a kind of war event that nothing defines.
-    UndefinedFlagOrKind,
+    UndefinedFlag,
     /// 7: two countries of one tag, two provinces of one id, or an id that is too large.
     Repeated,
     /// 8: a campaign that ends before it starts.
@@ -48,7 +50,7 @@ impl Refusal {
         Refusal::SizesDisagree,
         Refusal::BadTag,
         Refusal::BadDate,
-        Refusal::UndefinedFlagOrKind,
+        Refusal::UndefinedFlag,
         Refusal::Repeated,
         Refusal::DatesReversed,
         Refusal::LedgerYear,
@@ -70,7 +72,7 @@ impl Refusal {
         self.number() <= Refusal::LedgerYear.number()
     }
 
-    /// The refusal's number in 01.
+    /// The refusal's number (Rules 2.2).
     ///
     /// ```
     /// use chronicle::Refusal;
@@ -85,7 +87,7 @@ impl Refusal {
             Refusal::SizesDisagree => 3,
             Refusal::BadTag => 4,
             Refusal::BadDate => 5,
-            Refusal::UndefinedFlagOrKind => 6,
+            Refusal::UndefinedFlag => 6,
             Refusal::Repeated => 7,
             Refusal::DatesReversed => 8,
             Refusal::LedgerYear => 9,
@@ -126,9 +128,7 @@ impl Refusal {
             Refusal::BadDate => {
                 "a date in the record is no day of the calendar (29 February is none)"
             }
-            Refusal::UndefinedFlagOrKind => {
-                "a flag or a kind of war event in the record is unknown"
-            }
+            Refusal::UndefinedFlag => "a flag or a kind of war event in the record is unknown",
             Refusal::Repeated => {
                 "two countries share a tag, two provinces an id, or an id is too large"
             }
@@ -157,7 +157,7 @@ impl Refusal {
             }
             Refusal::BadTag => "pack it again with tags of ASCII letters, digits and `-` alone",
             Refusal::BadDate => "pack it again with days of the years 1 to 9999, without leap days",
-            Refusal::UndefinedFlagOrKind => {
+            Refusal::UndefinedFlag => {
                 "pack it again with the flag bits and the kinds 0 to 4 that the format defines"
             }
             Refusal::Repeated => {
@@ -188,6 +188,20 @@ impl fmt::Display for Refusal {
 }
 
 impl Error for Refusal {}
+
+/// A text that is no tag, where a call refuses a question with such a tag.
+impl From<NotATag> for Refusal {
+    fn from(_: NotATag) -> Refusal {
+        Refusal::BadQuestion
+    }
+}
+
+/// A text that is no day, where a call refuses a question with such a day.
+impl From<NotADate> for Refusal {
+    fn from(_: NotADate) -> Refusal {
+        Refusal::BadQuestion
+    }
+}
 
 #[cfg(test)]
 mod tests {

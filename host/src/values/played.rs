@@ -3,6 +3,7 @@
 use std::fmt;
 
 use super::CountryTag;
+use crate::rows::HISTORY_WORDS;
 
 /// A player's name, which may be any bytes.
 #[derive(Clone, Debug, PartialEq, Eq, PartialOrd, Ord, Hash)]
@@ -34,6 +35,25 @@ impl Name {
     }
 }
 
+impl AsRef<[u8]> for Name {
+    fn as_ref(&self) -> &[u8] {
+        &self.bytes
+    }
+}
+
+impl PartialEq<str> for Name {
+    fn eq(&self, text: &str) -> bool {
+        self.bytes == text.as_bytes()
+    }
+}
+
+impl PartialEq<&str> for Name {
+    fn eq(&self, text: &&str) -> bool {
+        *self == **text
+    }
+}
+
+/// Bytes that are no text are told as `\u{fffd}`.
 impl fmt::Display for Name {
     fn fmt(&self, f: &mut fmt::Formatter<'_>) -> fmt::Result {
         f.pad(&String::from_utf8_lossy(&self.bytes))
@@ -47,6 +67,12 @@ pub struct Player {
     pub name: Name,
     /// which country.
     pub tag: CountryTag,
+}
+
+impl fmt::Display for Player {
+    fn fmt(&self, f: &mut fmt::Formatter<'_>) -> fmt::Result {
+        f.pad(&format!("{} plays {}", self.name, self.tag))
+    }
 }
 
 /// A country that was played.
@@ -67,7 +93,11 @@ pub struct PlayerHistory {
 }
 
 impl PlayerHistory {
-    pub(crate) fn written(row: &[u32; 7], names: &[u32], strings: &[&[u8]]) -> PlayerHistory {
+    pub(crate) fn written(
+        row: &[u32; HISTORY_WORDS],
+        names: &[u32],
+        strings: &[&[u8]],
+    ) -> PlayerHistory {
         let &[initial, latest, stored, nation, human, first, count] = row;
         let [initial, latest, stored] = [initial, latest, stored].map(CountryTag::written);
         let own = names.iter().skip(first as usize).take(count as usize);
@@ -79,5 +109,12 @@ impl PlayerHistory {
             is_human: human != 0,
             player_names: own.map(|&name| Name::numbered(strings, name)).collect(),
         }
+    }
+}
+
+impl fmt::Display for PlayerHistory {
+    fn fmt(&self, f: &mut fmt::Formatter<'_>) -> fmt::Result {
+        let PlayerHistory { initial, latest, stored, .. } = self;
+        f.pad(&format!("{initial}, now {latest}, stored under {stored}"))
     }
 }

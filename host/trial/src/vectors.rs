@@ -22,7 +22,7 @@ pub struct Vector {
     pub record: Vec<u8>,
 }
 
-/// The whole list, the same every time: 01's edges, then seeded damage.
+/// The whole list, the same every time: the edges, then seeded damage.
 ///
 /// # Panics
 ///

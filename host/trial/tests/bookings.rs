@@ -1,4 +1,4 @@
-//! War bookings through the C function: 01's rules in small cases, every number, every cell, and
+//! War bookings through the C function: the rules in small cases, every number, every cell, and
 //! the stack.
 
 use std::thread;
@@ -86,7 +86,7 @@ fn every_room_from_none_to_more_than_enough() {
     }
 }
 
-/// 01's starred days, with somebody at war on them: ENG is GBR's before the switch and after it,
+/// The days of the known cases, with somebody at war on them: ENG is GBR's before the switch and after it,
 /// GBR only from that day on.
 #[test]
 fn worked_record_at_war() {

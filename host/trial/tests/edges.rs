@@ -1,4 +1,4 @@
-//! 01's edges and the order of the numbers, through the C function.
+//! The rules' edges and the order of the numbers, through the C function.
 
 use chronicle::raw::check;
 use chronicle::Refusal;

@@ -1,4 +1,4 @@
-//! Histories through the C function: 01's rules in small cases, every room, names, and the stack.
+//! Histories through the C function: the rules in small cases, every room, names, and the stack.
 
 use std::thread;
 

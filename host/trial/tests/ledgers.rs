@@ -1,4 +1,4 @@
-//! Ledgers through the C functions: 01's rules in small cases, every number, every cell, and the
+//! Ledgers through the C functions: the rules in small cases, every number, every cell, and the
 //! stack.
 
 use std::thread;
@@ -134,7 +134,7 @@ fn a_wrong_row_or_cell_is_noticed() {
     assert!(ledgers_told(OWNERS, &record, [90, 5], Ok((&words, &[19, 2, 6, 0, 0]))).is_err());
 }
 
-/// 01's starred case.
+/// The ledger of Rules 12.11.
 #[test]
 fn ledger_of_gbr() {
     let mut campaign = sample::worked();
@@ -205,7 +205,7 @@ fn values() {
     assert_eq!(OWNERS.ledgers(&[], 9), Err(Refusal::NotARecord));
 }
 
-/// More words than 32 bits count: docs/DECISIONS, "Ledger answers longer than 32 bits can count".
+/// More words than 32 bits count (Rules 7.10).
 #[test]
 fn an_overlong_ledger_is_refused() {
     let (campaign, nation) = extremes::overlong();

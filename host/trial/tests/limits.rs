@@ -85,6 +85,6 @@ fn last_rows_count_at_the_limits() {
     refused_after(|c| c.countries[1_999].tag = c.countries[0].tag, Refusal::Repeated);
     refused_after(|c| c.provinces[7_999].id = c.provinces[0].id, Refusal::Repeated);
     refused_after(|c| c.provinces[7_999].id = 8_001, Refusal::Repeated);
-    refused_after(|c| c.wars[4_999].events[19].kind = 5, Refusal::UndefinedFlagOrKind);
+    refused_after(|c| c.wars[4_999].events[19].kind = 5, Refusal::UndefinedFlag);
     refused_after(|c| c.ledger[1_999].points[499].year = 10_000, Refusal::LedgerYear);
 }

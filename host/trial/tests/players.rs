@@ -1,4 +1,4 @@
-//! Players and the starting country through the C functions: 01's rules in small cases, every number,
+//! Players and the starting country through the C functions: the rules in small cases, every number,
 //! every cell, and the stack.
 
 use std::thread;

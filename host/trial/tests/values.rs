@@ -3,7 +3,8 @@
 use std::thread;
 
 use chronicle::{
-    Chronicle, CountryTag, Date, EntryKind, Lacking, Name, Record, Refusal, Shortage, TagData,
+    Chronicle, CountryTag, EntryKind, Eu4Date, Lacking, Name, Record, Refusal, Shortage, Side,
+    TagData,
 };
 use chronicle_trial::adversary::{days_of, tags_of};
 use chronicle_trial::cases::Cases;
@@ -21,8 +22,8 @@ fn tag(bytes: Tag) -> CountryTag {
     CountryTag::create(bytes).expect("the model has tags")
 }
 
-fn date(word: pack::Date) -> Date {
-    Date::from_word(word).expect("the model has days")
+fn date(word: pack::Date) -> Eu4Date {
+    Eu4Date::from_word(word).expect("the model has days")
 }
 
 fn nation(told: chronicle::Nation) -> Nation {
@@ -90,11 +91,11 @@ fn of_record(
     campaign: &Campaign,
     expected: &model::Chronicle,
 ) -> Result<(), Refusal> {
-    let dates = [record.start_date(), record.current_date()].map(Date::word);
+    let dates = [record.start_date(), record.current_date()].map(Eu4Date::word);
     assert_eq!(dates, [campaign.start, campaign.current]);
     let flags = u8::from(record.is_ironman()) | u8::from(record.is_multiplayer()) << 1;
     assert_eq!(flags, campaign.flags);
-    let changes: Vec<Change> = record.owner_changes()?.into_iter().map(change).collect();
+    let changes: Vec<Change> = record.province_owners()?.into_iter().map(change).collect();
     assert_eq!(changes, expected.changes);
     let players = record.players()?.into_iter().map(|player| {
         assert_eq!(player.name.bytes, campaign.strings[player.name.number]);
@@ -125,14 +126,28 @@ fn of_chronicle(
         stored: entered.stored.bytes(),
     });
     assert_eq!(booked.collect::<Vec<_>>(), model::bookings(campaign, &nations));
+    entered_wars(chronicle, campaign)?;
     let ledgers: Vec<Vec<LedgerRow>> =
         nations.iter().map(|nation| model::ledger(campaign, nation)).collect();
     for (number, rows) in ledgers.iter().enumerate() {
-        assert_eq!(ledger(chronicle.ledger(number)?), *rows);
+        assert_eq!(ledger(chronicle.nation_ledger(number)?), *rows);
     }
-    assert_eq!(chronicle.ledgers()?.into_iter().map(ledger).collect::<Vec<_>>(), ledgers);
-    assert_eq!(chronicle.ledger(nations.len()), Err(Refusal::NoSuchNation));
+    assert_eq!(chronicle.nation_ledgers()?.into_iter().map(ledger).collect::<Vec<_>>(), ledgers);
+    assert_eq!(chronicle.nation_ledger(nations.len()), Err(Refusal::NoSuchNation));
     played(chronicle, campaign, &nations)
+}
+
+/// When and on which side, as the campaign has it.
+fn entered_wars(chronicle: &Chronicle<'_>, campaign: &Campaign) -> Result<(), Refusal> {
+    let told =
+        chronicle.war_participants()?.into_iter().map(|e| (e.date.word(), e.side, e.tag.bytes()));
+    let events = campaign.wars.iter().flat_map(|war| &war.events);
+    let entered = events.filter_map(|event| {
+        let side = [Side::Attacker, Side::Defender].get(usize::from(event.kind)).copied()?;
+        Some((event.date, side, event.tag))
+    });
+    assert!(told.eq(entered));
+    Ok(())
 }
 
 fn played(
@@ -144,7 +159,7 @@ fn played(
         assert_eq!(name.bytes, campaign.strings[name.number]);
         name.number
     };
-    let told = chronicle.histories()?.into_iter().map(|history| History {
+    let told = chronicle.player_histories()?.into_iter().map(|history| History {
         initial: history.initial.bytes(),
         latest: history.latest.bytes(),
         stored: history.stored.bytes(),
@@ -215,14 +230,14 @@ fn from_a_thread_of_64_kib() {
     let calls = move || {
         let record = Record::open(&bytes)?;
         let chronicle = record.chronicle()?;
-        assert_eq!(record.owner_changes()?.len(), chronicle.owner_changes().len());
+        assert_eq!(record.province_owners()?.len(), chronicle.owner_changes().len());
         record.events_on(record.start_date())?;
         record.players()?;
         chronicle.war_participants()?;
-        chronicle.ledger(0)?;
-        chronicle.histories()?;
+        chronicle.nation_ledger(0)?;
+        chronicle.player_histories()?;
         chronicle.starting_country()?;
-        let questions: Vec<(CountryTag, Date)> =
+        let questions: Vec<(CountryTag, Eu4Date)> =
             chronicle.nations().map(|nation| (nation.initial, record.start_date())).collect();
         let found = chronicle.resolve_each(&questions)?;
         assert_eq!(found[0], chronicle.resolve(questions[0].0, questions[0].1)?);
@@ -242,8 +257,8 @@ fn any_bytes() {
         assert_eq!(opened.as_ref().err().copied(), inspect(&case.record).err(), "{case}");
         let Ok(record) = opened else { continue };
         let chronicle = record.chronicle().expect("there is room");
-        assert!(chronicle.histories().is_ok() && chronicle.war_participants().is_ok());
-        assert_eq!(chronicle.ledgers().map(|all| all.len()), Ok(chronicle.nations().len()));
+        assert!(chronicle.player_histories().is_ok() && chronicle.war_participants().is_ok());
+        assert_eq!(chronicle.nation_ledgers().map(|all| all.len()), Ok(chronicle.nations().len()));
         assert!(record.players().is_ok() && record.page(&[CountryTag::NONE]).is_ok());
     }
 }
@@ -276,8 +291,10 @@ fn ledgers_longer_than_what_is_held() {
     campaign.provinces = vec![pack::Province { id: 1, owner: *b"ENG", events: vec![] }];
     let record = Record::open(pack(&campaign)).expect("it is accepted");
     let chronicle = record.chronicle().expect("there is room");
-    let Err(Refusal::NoRoom(Some(short))) = chronicle.ledger(0) else { panic!("there are more") };
+    let Err(Refusal::NoRoom(Some(short))) = chronicle.nation_ledger(0) else {
+        panic!("there are more")
+    };
     assert_eq!(short.room, Chronicle::MOST_LEDGER_ROWS);
     assert!(short.needed > 300_000_000, "{short}");
-    assert!(matches!(chronicle.ledgers(), Err(Refusal::NoRoom(Some(_)))));
+    assert!(matches!(chronicle.nation_ledgers(), Err(Refusal::NoRoom(Some(_)))));
 }

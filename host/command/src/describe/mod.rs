@@ -1,16 +1,17 @@
-//! Head and rows of a record in readable form, and where a refused one offends.
+//! What a file is: where a refused record offends, its head, and its rows in readable form.
 
+mod offences;
 mod rows;
-
-use std::ffi::OsString;
+mod sight;
 
 use chronicle::layout::{Counts, CURRENT_AT, FLAGS_AT, HEAD, HEAD_COUNTS, START_AT};
-use chronicle::{Record, Refusal};
-use chronicle_trial::offence::offence;
+use chronicle::Record;
 
-use crate::failure::{name, Failure};
-use crate::json::Object;
-use crate::output::{refused, Output};
+use crate::arguments::Question;
+use crate::failure::{name, Failure, REFUSED};
+use crate::input::length;
+use crate::output::Output;
+use crate::rows::Object;
 
 /// What each count of the head counts, in its order.
 const COUNTED: [&str; 10] = [
@@ -26,23 +27,32 @@ const COUNTED: [&str; 10] = [
     "ledger points",
 ];
 
-/// Describes any bytes, as far as they are a record.
-pub fn describe(bytes: &[u8], file: &OsString, out: &mut Output<'_>) -> Result<(), Failure> {
-    let opened = Record::open(bytes).err();
-    let verdict = if opened.is_some() { "refused" } else { "accepted" };
-    out.remark(format_args!("{}: {} bytes, {verdict}", name(file), bytes.len()))?;
+/// Of a refused record so many offences are told, unless another number is asked for.
+const MOST: usize = 20;
+
+/// Describes any bytes, as far as they are a record: what is wrong first.
+pub fn describe(bytes: &[u8], question: &Question, out: &mut Output<'_>) -> Result<(), Failure> {
+    let most = question.number("--most")?.unwrap_or(MOST);
+    let (file, opened) = (name(question.file()), Record::open(bytes).err());
+    match opened {
+        Some(refusal) => {
+            if let Some(sight) = sight::sight(bytes) {
+                out.row(format_args!("{file}: {sight}"), || sight.object())?;
+            }
+            offences::tell(bytes, &file, refusal, most, out)?;
+            out.detail(format_args!("{file}: {}, refused", length(bytes)))?;
+        }
+        None => out.detail(format_args!("{file}: {}, accepted", length(bytes)))?,
+    }
     if let Some(head) = bytes.first_chunk().filter(|head| head.starts_with(b"ATL")) {
         describe_head(head, out)?;
         let counts = Counts::read(head);
         // Where sections lie is known only if they are as the head says.
         if counts.within_limits() && bytes.len() >= counts.sections().strings {
-            rows::describe(bytes, &counts, out)?;
+            rows::describe(bytes, &counts, question.has("--rows"), out)?;
         }
     }
-    match opened {
-        Some(refusal) => Err(offends(bytes, refusal, out)?),
-        None => Ok(()),
-    }
+    opened.map_or(Ok(()), |_| Err(Failure::Told(REFUSED)))
 }
 
 fn describe_head(head: &[u8; HEAD], out: &mut Output<'_>) -> Result<(), Failure> {
@@ -70,28 +80,12 @@ fn describe_head(head: &[u8; HEAD], out: &mut Output<'_>) -> Result<(), Failure>
             .text("start", &start)
             .text("current", &current);
         for ((_, count), counted) in counts.into_iter().zip(COUNTED) {
-            object = object.plain(&counted.replace(' ', "_"), count);
+            object = object.plain(counted.replace(' ', "_"), count);
         }
         object
     })?;
     for ((letter, count), counted) in counts.into_iter().zip(COUNTED) {
-        out.remark(format_args!("  {letter}, {counted}: {count}"))?;
+        out.detail(format_args!("  {letter}, {counted}: {count}"))?;
     }
     Ok(())
-}
-
-/// Tells where the offence stands, by the independent checker.
-fn offends(bytes: &[u8], refusal: Refusal, out: &mut Output<'_>) -> Result<Failure, Failure> {
-    let place = offence(bytes).filter(|found| found.refusal == refusal);
-    out.remark(format_args!("{refusal}"))?;
-    match place {
-        Some(found) => out.row(format_args!("{found}"), || {
-            refused(refusal)
-                .plain("offset", found.offset)
-                .text("row", &found.row)
-                .text("found", &found.found)
-        })?,
-        None => out.row(format_args!("where it offends is not known"), || refused(refusal))?,
-    }
-    Ok(Failure::Told)
 }

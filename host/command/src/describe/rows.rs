@@ -1,51 +1,110 @@
 //! The sections' rows.
 
-use chronicle::layout::{self, Counts};
+use std::iter::repeat_n;
+use std::ops::Range;
+
+use chronicle::layout::{self, Counts, Sections};
 
 use crate::failure::Failure;
-use crate::json::{quoted, Object};
 use crate::output::Output;
+use crate::rows::{hexadecimal, quoted, Object};
+use crate::terminal::shown;
 
 /// What is told of a row: its text, and its keys with their values in JSON.
 type Told = (String, Vec<(&'static str, String)>);
 
 /// A section: what its rows are called, where it lies, their width, and what is told of one.
-type Section = (&'static str, std::ops::Range<usize>, usize, fn(&[u8]) -> Told);
+type Section = (&'static str, Range<usize>, usize, fn(&[u8]) -> Told);
 
-/// Prints the rows of every section of a record that is long enough for them.
-pub fn describe(bytes: &[u8], counts: &Counts, out: &mut Output<'_>) -> Result<(), Failure> {
+/// How the rows of a section are named that own others, by number and bytes.
+type Named = fn(usize, &[u8]) -> String;
+
+/// Tells how many rows every section of a record has that is long enough for them, and the rows if they are
+/// asked for.
+pub fn describe(
+    bytes: &[u8],
+    counts: &Counts,
+    with_rows: bool,
+    out: &mut Output<'_>,
+) -> Result<(), Failure> {
     let at = counts.sections();
-    let sections: [Section; 9] = [
-        ("country", at.countries, layout::COUNTRY, country),
-        ("previous tag", at.previous_tags, layout::PREVIOUS_TAG, previous_tag),
-        ("switch", at.switches, layout::SWITCH, switch),
-        ("province", at.provinces, layout::PROVINCE, province),
-        ("owner event", at.owner_events, layout::OWNER_EVENT, owner_event),
-        ("war", at.wars, layout::WAR, war),
-        ("war event", at.war_events, layout::WAR_EVENT, war_event),
-        ("ledger name", at.ledger_names, layout::LEDGER_NAME, ledger_name),
-        ("ledger point", at.points, layout::POINT, point),
-    ];
-    for (name, lies, width, told) in sections {
+    for (name, lies, width, told) in sections(&at) {
         let section = bytes.get(lies.clone()).unwrap_or(&[]);
         heading(name, section.len() / width, lies.start, section.len(), out)?;
-        for (row, bytes) in section.chunks_exact(width).enumerate() {
-            tell(name, row, lies.start + row * width, told(bytes), out)?;
+        if with_rows {
+            let mut owners = owners(bytes, name, &at);
+            for (row, bytes) in section.chunks_exact(width).enumerate() {
+                let place =
+                    Place { name, row, offset: lies.start + row * width, owner: owners.next() };
+                tell(place, told(bytes), out)?;
+            }
         }
     }
-    strings(bytes, at.strings, out)
+    strings(bytes, at.strings, with_rows, out)
+}
+
+fn sections(at: &Sections) -> [Section; 9] {
+    [
+        ("country", at.countries.clone(), layout::COUNTRY, country),
+        ("previous tag", at.previous_tags.clone(), layout::PREVIOUS_TAG, previous_tag),
+        ("switch", at.switches.clone(), layout::SWITCH, switch),
+        ("province", at.provinces.clone(), layout::PROVINCE, province),
+        ("owner event", at.owner_events.clone(), layout::OWNER_EVENT, owner_event),
+        ("war", at.wars.clone(), layout::WAR, war),
+        ("war event", at.war_events.clone(), layout::WAR_EVENT, war_event),
+        ("ledger name", at.ledger_names.clone(), layout::LEDGER_NAME, ledger_name),
+        ("ledger point", at.points.clone(), layout::POINT, point),
+    ]
+}
+
+/// For each row of a section that others own, the name of its owner.
+fn owners<'a>(bytes: &'a [u8], name: &str, at: &Sections) -> Box<dyn Iterator<Item = String> + 'a> {
+    let of_country: Named = |_, row| format!("country {}", tag(row, 0));
+    let (lie, width, count_at, named): (_, usize, usize, Named) = match name {
+        "previous tag" => (&at.countries, layout::COUNTRY, 8, of_country),
+        "switch" => (&at.countries, layout::COUNTRY, 10, of_country),
+        "owner event" => {
+            (&at.provinces, layout::PROVINCE, 5, |_, row| format!("province {}", short(row, 0)))
+        }
+        "war event" => (&at.wars, layout::WAR, 0, |number, _| format!("war {number}")),
+        "ledger point" => (&at.ledger_names, layout::LEDGER_NAME, 3, |_, row| {
+            format!("ledger of {}", tag(row, 0))
+        }),
+        _ => return Box::new(std::iter::empty()),
+    };
+    let rows = bytes.get(lie.clone()).unwrap_or(&[]).chunks_exact(width).enumerate();
+    Box::new(rows.flat_map(move |(number, row)| repeat_n(named(number, row), short(row, count_at))))
+}
+
+/// Where a row stands, and the name of the row that owns it.
+struct Place<'a> {
+    name: &'a str,
+    row: usize,
+    offset: usize,
+    owner: Option<String>,
 }
 
 /// Strings are as long as they say, up to the end of the record.
-fn strings(bytes: &[u8], start: usize, out: &mut Output<'_>) -> Result<(), Failure> {
+fn strings(
+    bytes: &[u8],
+    start: usize,
+    with_rows: bool,
+    out: &mut Output<'_>,
+) -> Result<(), Failure> {
     let mut rest = bytes.get(start..).unwrap_or(&[]);
     heading("string", strings_in(rest), start, rest.len(), out)?;
+    if !with_rows {
+        return Ok(());
+    }
     let (mut row, mut offset) = (0, start);
     while let Some((&length, behind)) = rest.split_first() {
         let (string, others) = behind.split_at(behind.len().min(usize::from(length)));
-        let text = quoted(&String::from_utf8_lossy(string));
-        let told = (text.clone(), vec![("text", text)]);
-        tell("string", row, offset, told, out)?;
+        let mut fields = vec![("text", quoted(&String::from_utf8_lossy(string)))];
+        if std::str::from_utf8(string).is_err() {
+            fields.push(("text_bytes", quoted(&hexadecimal(string))));
+        }
+        let told = (format!("\"{}\"", shown(string)), fields);
+        tell(Place { name: "string", row, offset, owner: None }, told, out)?;
         (row, offset, rest) = (row + 1, offset + 1 + string.len(), others);
     }
     Ok(())
@@ -68,18 +127,21 @@ fn heading(
     out: &mut Output<'_>,
 ) -> Result<(), Failure> {
     let rows = plural(rows, "row");
-    Ok(out.remark(format_args!("{name}: {rows}, {} at offset {start}", plural(length, "byte")))?)
+    Ok(out.detail(format_args!("{name}: {rows}, {} at offset {start}", plural(length, "byte")))?)
 }
 
 fn tell(
-    name: &str,
-    row: usize,
-    offset: usize,
+    Place { name, row, offset, owner }: Place<'_>,
     (text, fields): Told,
     out: &mut Output<'_>,
 ) -> Result<(), Failure> {
-    Ok(out.row(format_args!("  {row:>5}  at {offset:<8} {text}"), || {
+    let of = owner.as_ref().map_or_else(String::new, |owner| format!("  ({owner})"));
+    Ok(out.row(format_args!("  row {row:<6} at {offset:<8} {text}{of}"), || {
         let object = Object::new().text("section", name).plain("row", row).plain("offset", offset);
+        let object = match owner {
+            Some(owner) => object.text("of", owner),
+            None => object,
+        };
         fields.into_iter().fold(object, |object, (key, value)| object.plain(key, value))
     })?)
 }

@@ -1,21 +1,21 @@
 //! Days from left to right.
 
-use chronicle::Date;
+use chronicle::Eu4Date;
 
 /// Years stand at least as far apart.
 const APART: f64 = 56.0;
 
 /// The days that are shown, and where.
 pub struct Axis {
-    pub start: Date,
-    pub end: Date,
+    pub start: Eu4Date,
+    pub end: Eu4Date,
     pub left: f64,
     pub width: f64,
 }
 
 impl Axis {
     /// Where the beginning of a day is; days outside stand at the ends.
-    pub fn x(&self, day: Date) -> f64 {
+    pub fn x(&self, day: Eu4Date) -> f64 {
         let day = day.clamp(self.start, self.end).days() - self.start.days();
         self.left + self.width * f64::from(day) / f64::from(self.days())
     }
@@ -24,9 +24,10 @@ impl Axis {
         (self.end.days() - self.start.days()).max(1)
     }
 
-    /// How many days after a date something of this width ends.
-    pub fn after(&self, day: Date, width: f64) -> u32 {
-        day.days() + (width / self.width * f64::from(self.days())) as u32
+    /// The number of the day at a place.
+    pub fn day(&self, x: f64) -> u32 {
+        let share = ((x - self.left) / self.width).clamp(0.0, 1.0);
+        self.start.days() + (share * f64::from(self.days())) as u32
     }
 
     /// The first days of round years, as many as have room, each with its place.
@@ -37,8 +38,8 @@ impl Axis {
         let step = steps.into_iter().find(|&step| years / f64::from(step) <= most);
         let step = step.unwrap_or(10_000);
         let shown = (1..=9999_u16).filter(move |year| year % step == 0);
-        let first_day = |year| Date::new(year, 1, 1).map(|day| (day, year));
-        let within = |day: &Date| (self.start..=self.end).contains(day);
+        let first_day = |year| Eu4Date::new(year, 1, 1).map(|day| (day, year));
+        let within = |day: &Eu4Date| (self.start..=self.end).contains(day);
         shown
             .filter_map(first_day)
             .filter(move |(day, _)| within(day))
@@ -48,12 +49,12 @@ impl Axis {
 
 #[cfg(test)]
 mod tests {
-    use chronicle::Date;
+    use chronicle::Eu4Date;
 
     use super::Axis;
 
     fn axis(start: u32, end: u32) -> Axis {
-        let [start, end] = [start, end].map(|word| Date::from_word(word).expect("a day"));
+        let [start, end] = [start, end].map(|word| Eu4Date::from_word(word).expect("a day"));
         Axis { start, end, left: 100.0, width: 900.0 }
     }
 

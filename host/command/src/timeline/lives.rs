@@ -2,45 +2,66 @@
 
 use std::collections::BTreeSet;
 
-use chronicle::{Chronicle, CountryTag, Date, Entry, EntryKind, Nation};
+use chronicle::{Chronicle, CountryTag, Entry, EntryKind, Eu4Date, Nation};
 
 /// Days on which a nation held land, from the first to the one on which it lost all.
 #[derive(Clone, Copy, Debug, PartialEq, Eq)]
 pub struct Span {
-    pub start: Date,
-    pub end: Date,
+    pub start: Eu4Date,
+    pub end: Eu4Date,
 }
 
-/// A nation as it is drawn, from the start date on.
+/// A nation as it is drawn, from one day to another.
 #[derive(Debug)]
 pub struct Life {
     nation: Nation,
     /// In the order of days.
     pub spans: Vec<Span>,
-    /// The switches from the start on, each with the tag worn then.
-    pub switches: Vec<(Date, CountryTag)>,
-    /// The tag that it wears on the first day.
-    first_worn: CountryTag,
-    /// Whether it holds land at the end.
-    living: bool,
+    /// The switches in that time that came while it held land, or before it held land again, each with the tag
+    /// worn then.
+    pub switches: Vec<(Eu4Date, CountryTag)>,
+    /// The tags that it wears on the first day and on the last.
+    worn: [CountryTag; 2],
+    /// How it stands on the last day.
+    stands: Stands,
+    /// Whether something befell it after the first day, up to the last.
+    pub changed: bool,
+}
+
+/// How a nation stands on the last day that is drawn.
+#[derive(Clone, Copy, Debug, PartialEq, Eq)]
+enum Stands {
+    HoldingLand,
+    /// It lost the last on this day.
+    Ended(Eu4Date),
+    /// It holds land only later, from this day on.
+    NotYet(Eu4Date),
+    /// It held land before the first day of all.
+    Before,
 }
 
 /// The lives of all nations, in their order, from the start date to this one.
-pub fn of(chronicle: &Chronicle<'_>, end: Date) -> Vec<Life> {
+pub fn of(chronicle: &Chronicle<'_>, end: Eu4Date) -> Vec<Life> {
     let start = chronicle.record().start_date();
     let holding: BTreeSet<CountryTag> = chronicle.holders().filter_map(|(_, tag)| tag).collect();
     let life = |nation: Nation| {
         let living = holding.contains(&nation.stored);
-        let (spans, switches) =
-            (spans(&nation.entries, start, end, living), switches(&nation, start));
-        Life { first_worn: nation.worn_on(start), nation, spans, switches, living }
+        let spans = spans(&nation.entries, start, end, living);
+        let stands = match spans.last() {
+            Some(_) if living => Stands::HoldingLand,
+            Some(last) => Stands::Ended(last.end),
+            None => Stands::Before,
+        };
+        let (switches, worn) =
+            (switches(&nation, start), [start, end].map(|day| nation.worn_on(day)));
+        Life { nation, spans, switches, worn, stands, changed: false }.within(start, end)
     };
     chronicle.nations().map(life).collect()
 }
 
 /// Before its first Appeared or Annexed after the start a nation held land if that is an Annexed; without
 /// one it held land all the time if it does in the end.
-fn spans(entries: &[Entry], start: Date, end: Date, living: bool) -> Vec<Span> {
+fn spans(entries: &[Entry], start: Eu4Date, end: Eu4Date, living: bool) -> Vec<Span> {
     let mut lives = entries
         .iter()
         .filter(|entry| entry.date > start && !matches!(entry.kind, EntryKind::TagSwitch(_)))
@@ -62,7 +83,7 @@ fn spans(entries: &[Entry], start: Date, end: Date, living: bool) -> Vec<Span> {
     spans
 }
 
-fn switches(nation: &Nation, start: Date) -> Vec<(Date, CountryTag)> {
+fn switches(nation: &Nation, start: Eu4Date) -> Vec<(Eu4Date, CountryTag)> {
     let switch = |entry: &Entry| match entry.kind {
         EntryKind::TagSwitch(target) if entry.date > start => Some((entry.date, target)),
         _ => None,
@@ -71,9 +92,45 @@ fn switches(nation: &Nation, start: Date) -> Vec<(Date, CountryTag)> {
 }
 
 impl Life {
+    /// The part of it between two days.
+    pub fn within(mut self, from: Eu4Date, to: Eu4Date) -> Life {
+        let alive = self.stands == Stands::HoldingLand;
+        let last = self.spans.last().map(|span| span.end);
+        let behind_its_end = |date: Eu4Date| !alive && last.is_none_or(|last| date > last);
+        self.switches.retain(|&(date, _)| from < date && date <= to && !behind_its_end(date));
+        self.changed =
+            self.nation.entries.iter().any(|entry| from < entry.date && entry.date <= to);
+        self.worn = [from, to].map(|day| self.nation.worn_on(day));
+        let (before, first) =
+            (self.spans.iter().rfind(|span| span.start <= to), self.spans.first());
+        self.stands = match (before, first) {
+            (Some(span), _) if to < span.end || (alive && Some(span.end) == last) => {
+                Stands::HoldingLand
+            }
+            (Some(span), _) => Stands::Ended(span.end),
+            (None, Some(first)) => Stands::NotYet(first.start),
+            (None, None) => Stands::Before,
+        };
+        self.spans.retain(|span| span.start <= to && from <= span.end);
+        for span in &mut self.spans {
+            *span = Span { start: span.start.max(from), end: span.end.min(to) };
+        }
+        self
+    }
+
+    /// The tag that its country is stored under.
+    pub fn stored(&self) -> CountryTag {
+        self.nation.stored
+    }
+
+    /// The tag that it wears on the last day.
+    pub fn wears(&self) -> CountryTag {
+        self.worn[1]
+    }
+
     /// The tag that it began with, and the one that it wears on the first day if that is another.
     pub fn begins(&self) -> String {
-        let (initial, worn) = (self.nation.initial, self.first_worn);
+        let (initial, worn) = (self.nation.initial, self.worn[0]);
         if initial == worn {
             return initial.to_string();
         }
@@ -82,17 +139,18 @@ impl Life {
 
     /// The tag that it came to, and the year in which it ended.
     pub fn ends(&self) -> String {
-        let latest = self.nation.latest;
-        match self.spans.last() {
-            _ if self.living => latest.to_string(),
-            Some(span) => format!("{latest} † {}", span.end.year()),
-            None => format!("{latest} †"),
+        let worn = self.wears();
+        match self.stands {
+            Stands::HoldingLand => worn.to_string(),
+            Stands::Ended(day) => format!("{worn} † {}", day.year()),
+            Stands::NotYet(day) => format!("from {}", day.year()),
+            Stands::Before => format!("{worn} †"),
         }
     }
 
     /// Whether it holds land from a day on for so many days of the calendar.
-    pub fn held_on(&self, day: Date, until: u32) -> bool {
-        self.spans.iter().any(|span| span.start <= day && until <= span.end.days())
+    pub fn held_on(&self, day: u32, until: u32) -> bool {
+        self.spans.iter().any(|span| span.start.days() <= day && until <= span.end.days())
     }
 
     /// All of it in words.
@@ -112,17 +170,17 @@ impl Life {
 
 #[cfg(test)]
 mod tests {
-    use chronicle::{Date, Entry, EntryKind, Record};
+    use chronicle::{Entry, EntryKind, Eu4Date, Record};
     use chronicle_trial::adversary::{self, days_of};
-    use chronicle_trial::demand::Holding;
     use chronicle_trial::generate::Random;
+    use chronicle_trial::guarantee::Holding;
     use chronicle_trial::model::changes;
     use chronicle_trial::pack::pack;
 
     use super::{of, spans, Span};
 
-    fn day(word: u32) -> Date {
-        Date::from_word(word).expect("a day")
+    fn day(word: u32) -> Eu4Date {
+        Eu4Date::from_word(word).expect("a day")
     }
 
     fn held(entries: &[(u32, EntryKind)], living: bool) -> Vec<(u32, u32)> {

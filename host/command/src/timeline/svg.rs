@@ -5,10 +5,11 @@ use std::fmt::Write;
 /// How the classes look.
 const STYLE: &str =
     "text{font:11px ui-monospace,Menlo,Consolas,'DejaVu Sans Mono',monospace;fill:#222}\
-.title{font-size:14px}.years{text-anchor:middle;fill:#555}.left{text-anchor:end}\
+.title{font-size:14px}.years{text-anchor:middle;fill:#555}.left,.last{text-anchor:end}\
+.first,.last,.legend{fill:#555}\
 .worn{font-size:10px;fill:#fff}\
 .bare{font-size:10px;fill:#222;stroke:#fff;stroke-width:3px;paint-order:stroke}.year{stroke:#ddd}.gap{stroke:#999;stroke-dasharray:2 3}\
-.mark{stroke:#111;stroke-width:2}";
+.mark{stroke:#111;stroke-width:2}.lead{stroke:#111;stroke-width:.6}";
 
 /// A text at a place.
 pub struct Text<'a> {

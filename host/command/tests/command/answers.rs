@@ -1,6 +1,6 @@
 //! Each command's text on the samples; what they hold is told in chronicle_trial's sample tests.
 
-use super::{about, command, ended, run, sample, told};
+use super::{about, command, ended, only_remarked, remarked, run, sample, told};
 use std::fs::File;
 
 #[test]
@@ -29,27 +29,58 @@ fn on() {
     for date in ["1477-01-05", "1477.1.5", "14770105"] {
         assert_eq!(told(about("isles.atl", "on", &[date])), expected);
     }
-    let none = told(about("worked.atl", "on", &["1477-01-05"]));
-    assert_eq!(none, "no owner changed on 1477-01-05\n");
+    only_remarked(about("worked.atl", "on", &["1477-01-05"]), "no owner changed on 1477-01-05");
 }
 
 #[test]
 fn nations() {
     let expected = "\
-ENG, now GBR, stored under GBR
+ENG, now GBR, stored under GBR, living
   1446-01-01 is annexed
   1447-01-01 appears
   1448-06-01 becomes GBR
-FRA, now FRA, stored under FRA
+FRA, now FRA, stored under FRA, living
 ";
     assert_eq!(told(about("worked.atl", "nations", &[])), expected);
     let isles = told(about("isles.atl", "nations", &[]));
     let tyrone = "\
-TYR, now IRE, stored under IRE
+TYR, now IRE, stored under IRE, living
   1460-03-01 becomes ULS
   1465-03-01 becomes IRE
 ";
     assert!(isles.ends_with(tyrone), "{isles}");
+    let burgundy = "BUR, now BUR, stored under BUR, annexed\n  1477-01-05 is annexed\n";
+    assert!(isles.contains(burgundy), "{isles}");
+}
+
+/// Those whom the page calls living, each with what it holds.
+#[test]
+fn living() {
+    let expected = "\
+CAS, now SPA, stored under SPA, holds 4 provinces
+ENG, now GBR, stored under GBR, holds 3 provinces
+FRA, now FRA, stored under FRA, holds 4 provinces
+NED, now NED, stored under NED, holds 1 province
+POR, now POR, stored under POR, holds 1 province
+SCO, now SCO, stored under SCO, holds 1 province
+TYR, now IRE, stored under IRE, holds 3 provinces
+";
+    assert_eq!(told(about("isles.atl", "living", &[])), expected);
+    let tags = ["ARA", "BRI", "BUR", "SPA", "GBR", "FRA", "MUN", "NED", "POR", "SCO", "IRE"];
+    let page = told(about("isles.atl", "page", &tags));
+    for line in page.lines().skip(1) {
+        let stored = format!("stored under {},", &line[..3]);
+        assert_eq!(line.ends_with(" living"), expected.contains(&stored), "{line}");
+    }
+}
+
+#[test]
+fn holders() {
+    let expected = "province 0     nobody\nprovince 1     FRA\nprovince 2     GBR\n";
+    assert_eq!(told(about("worked.atl", "holders", &[])), expected);
+    let isles = told(about("isles.atl", "holders", &[]));
+    assert_eq!(isles.lines().count(), 19);
+    assert!(isles.contains("province 7     FRA\n"), "{isles}");
 }
 
 #[test]
@@ -72,8 +103,11 @@ fn initial() {
 #[test]
 fn wars() {
     let isles = told(about("isles.atl", "wars", &[]));
-    assert_eq!(isles.lines().nth(4), Some("war 1     TYR, stored under IRE"));
-    assert_eq!(told(about("worked.atl", "wars", &[])), "nobody entered a war\n");
+    assert_eq!(
+        isles.lines().nth(4),
+        Some("1460-08-01  war 1     TYR as defender, stored under IRE")
+    );
+    only_remarked(about("worked.atl", "wars", &[]), "nobody entered a war");
 }
 
 #[test]
@@ -82,14 +116,14 @@ fn ledger() {
     assert!(isles.starts_with("1445  TYR  4\n1446  TYR  0\n1447  TYR  5\n"), "{isles}");
     assert_eq!(isles.lines().count(), 106);
     assert!(isles.contains("\n1470  IRE  -3\n"));
-    let worked = told(about("worked.atl", "ledger", &["GBR"]));
-    assert_eq!(worked, "the ledger has no tag that it wore\n");
+    let worked = about("worked.atl", "ledger", &["GBR"]);
+    only_remarked(worked, "the ledger has no tag that it wore");
 }
 
 #[test]
 fn players() {
     assert_eq!(told(about("isles.atl", "players", &[])), "Ann plays IRE\nBob plays NED\n");
-    assert_eq!(told(about("worked.atl", "players", &[])), "nobody plays\n");
+    only_remarked(about("worked.atl", "players", &[]), "nobody plays");
 }
 
 #[test]
@@ -100,7 +134,7 @@ NED, now NED, stored under NED, human: Bob
 SCO, now SCO, stored under SCO: nobody
 ";
     assert_eq!(told(about("isles.atl", "histories", &[])), expected);
-    assert_eq!(told(about("worked.atl", "histories", &[])), "no country was played\n");
+    only_remarked(about("worked.atl", "histories", &[]), "no country was played");
 }
 
 #[test]
@@ -115,24 +149,34 @@ fn page() {
     let expected = "selected 2\nGBR ENG GBR 3 living\nFRA FRA FRA 0 living\n";
     assert_eq!(told(about("worked.atl", "page", &["GBR", "FRA"])), expected);
     assert_eq!(told(about("isles.atl", "page", &[])), "selected 0\n");
-    assert_eq!(told(about("worked.atl", "page", &["---"])), "selected 1\n--- absent\n");
+    let (page, _) = remarked(about("worked.atl", "page", &["---"]));
+    assert_eq!(page, "selected 1\n--- absent\n");
 }
 
 #[test]
 fn describe() {
-    let worked = told(about("worked.atl", "describe", &[]));
+    let short = told(about("worked.atl", "describe", &[]));
+    assert_eq!(short.lines().count(), 22, "{short}");
+    let worked = told(about("worked.atl", "describe", &["--rows"]));
+    assert!(short.lines().all(|line| worked.contains(line)), "{worked}");
     for part in [
         ": 103 bytes, accepted\n",
         "head: version 1, no flags, from 1444-11-11 to 1450-01-01\n",
         "country: 2 rows, 24 bytes at offset 44\n",
-        "      0  at 44       GBR, cities: 0, 0 previous tags, 1 switch\n",
-        "      0  at 68       1448-06-01 from ENG\n",
-        "      1  at 96       1447-01-01 to ENG\n",
+        "  row 0      at 44       GBR, cities: 0, 0 previous tags, 1 switch\n",
+        "  row 0      at 68       1448-06-01 from ENG  (country GBR)\n",
+        "  row 1      at 96       1447-01-01 to ENG  (province 2)\n",
     ] {
         assert!(worked.contains(part), "{part}{worked}");
     }
-    let isles = told(about("isles.atl", "describe", &[]));
-    for part in ["1453-07-17 ENG is in a battle\n", "1470: -3\n", "\"Ann\"\n", "ARA, cities: 0"] {
+    let isles = told(about("isles.atl", "describe", &["--rows"]));
+    for part in [
+        "1453-07-17 ENG is in a battle  (war 0)\n",
+        "1470: -3  (ledger of IRE)\n",
+        "\"Ann\"\n",
+        "ARA, cities: 0",
+        "1477-01-05 to FRA  (province 7)\n",
+    ] {
         assert!(isles.contains(part), "{part}{isles}");
     }
 }

@@ -1,10 +1,18 @@
 //! The command `chronicle`, run.
 
 mod answers;
+mod described;
+mod files;
+mod names;
 mod objects;
+mod pages;
 mod picture;
 mod pipes;
 mod refusals;
+mod shells;
+mod sights;
+mod tables;
+mod tags;
 mod usage;
 
 use std::ffi::OsStr;
@@ -39,6 +47,17 @@ fn run(arguments: &[impl AsRef<OsStr>]) -> Ran {
     ended(command().args(arguments).output().expect("it starts"))
 }
 
+/// What a line of the shell prints at a terminal; nothing where there is no `script` to be one.
+#[cfg(target_os = "linux")]
+fn at_terminal(line: &str) -> Option<String> {
+    let mut script = Command::new("script");
+    let Ok(output) = script.args(["-qec", line, "/dev/null"]).output() else {
+        eprintln!("script is not at hand: NOT run at a terminal: {line}");
+        return None;
+    };
+    Some(String::from_utf8(output.stdout).expect("it is text"))
+}
+
 fn sample(name: &str) -> PathBuf {
     Path::new(env!("CARGO_MANIFEST_DIR")).join("../../samples").join(name)
 }
@@ -56,6 +75,19 @@ fn about(sample_name: &str, command_name: &str, rest: &[&str]) -> Ran {
 fn told(ran: Ran) -> String {
     assert_eq!((ran.status, ran.err.as_str()), (0, ""), "{ran:?}");
     ran.out
+}
+
+/// What a run that ends well says beside its answer, and the answer.
+#[track_caller]
+fn remarked(ran: Ran) -> (String, String) {
+    assert_eq!(ran.status, 0, "{ran:?}");
+    (ran.out, ran.err)
+}
+
+/// A run without an answer that ends well, and what it remarks.
+#[track_caller]
+fn only_remarked(ran: Ran, remark: &str) {
+    assert_eq!(remarked(ran), (String::new(), format!("chronicle: {remark}\n")));
 }
 
 /// A file in a folder of its own, which vanishes with this.

@@ -3,7 +3,7 @@
 use chronicle_trial::pack::pack;
 use chronicle_trial::sample::isles;
 
-use super::{about, run, told, written};
+use super::{about, remarked, run, told, written};
 
 /// The lines that a command about a sample prints for programs.
 fn lines(sample: &str, command: &str, rest: &[&str]) -> Vec<String> {
@@ -19,8 +19,13 @@ fn of_every_command() {
     assert_eq!(first("owners", &[]), change);
     assert_eq!(first("on", &["1450-06-01"]), change);
     assert_eq!(first("resolve", &["TYR", "1444-11-11"]), r#"{"current":"IRE","stored":"IRE"}"#);
-    assert_eq!(first("initial", &["XXX"]), r#"{"current":null,"stored":null}"#);
-    assert_eq!(first("wars", &[]), r#"{"war":0,"tag":"FRA","stored":"FRA"}"#);
+    let (initial, _) = remarked(about("isles.atl", "initial", &["XXX", "--json"]));
+    assert_eq!(initial, "{\"current\":null,\"stored\":null}\n");
+    assert_eq!(first("holders", &[]), r#"{"province":0,"holder":null}"#);
+    let spain = r#"{"number":3,"initial":"CAS","latest":"SPA","stored":"SPA","held":4}"#;
+    assert_eq!(first("living", &[]), spain);
+    let france = r#"{"war":0,"date":"1444-11-11","side":"attacker","tag":"FRA","stored":"FRA"}"#;
+    assert_eq!(first("wars", &[]), france);
     assert_eq!(first("ledger", &["IRE"]), r#"{"year":1445,"tag":"TYR","value":4}"#);
     assert_eq!(first("players", &[]), r#"{"name":"Ann","tag":"IRE","string":0}"#);
     let history = r#"{"initial":"TYR","latest":"IRE","stored":"IRE","nation":10,"human":true,"names":["Ann"],"strings":[0]}"#;
@@ -32,12 +37,12 @@ fn of_every_command() {
 fn of_nations() {
     let expected = [
         concat!(
-            r#"{"number":0,"initial":"ENG","latest":"GBR","stored":"GBR","entries":["#,
+            r#"{"number":0,"initial":"ENG","latest":"GBR","stored":"GBR","state":"living","entries":["#,
             r#"{"date":"1446-01-01","kind":"annexed","target":null},"#,
             r#"{"date":"1447-01-01","kind":"appeared","target":null},"#,
             r#"{"date":"1448-06-01","kind":"switch","target":"GBR"}]}"#
         ),
-        r#"{"number":1,"initial":"FRA","latest":"FRA","stored":"FRA","entries":[]}"#,
+        r#"{"number":1,"initial":"FRA","latest":"FRA","stored":"FRA","state":"living","entries":[]}"#,
     ];
     assert_eq!(lines("worked.atl", "nations", &[]), expected);
 }
@@ -49,13 +54,17 @@ fn of_a_page() {
         r#"{"tag":"GBR","initial":"ENG","latest":"GBR","entries":3,"state":"living"}"#,
         r#"{"tag":"SCO","state":"absent"}"#,
     ];
-    assert_eq!(lines("worked.atl", "page", &["GBR", "SCO"]), expected);
+    let (page, _) = remarked(about("worked.atl", "page", &["GBR", "SCO", "--json"]));
+    assert_eq!(page.lines().collect::<Vec<_>>(), expected);
     assert_eq!(lines("worked.atl", "page", &[]), [r#"{"selected":0}"#]);
 }
 
 #[test]
 fn of_a_description() {
-    let lines = lines("worked.atl", "describe", &[]);
+    let head_alone = lines("worked.atl", "describe", &[]);
+    assert_eq!(head_alone.len(), 1);
+    let lines = lines("worked.atl", "describe", &["--rows"]);
+    assert_eq!(lines[0], head_alone[0]);
     let head = concat!(
         r#"{"section":"head","row":0,"offset":0,"version":1,"ironman":false,"multiplayer":false,"#,
         r#""start":"1444-11-11","current":"1450-01-01","countries":2,"provinces":2,"#,
@@ -63,16 +72,18 @@ fn of_a_description() {
         r#""ledger_names":0,"ledger_points":0}"#
     );
     assert_eq!((lines.len(), lines[0].as_str()), (8, head));
-    let switch = r#"{"section":"switch","row":0,"offset":68,"date":"1448-06-01","from":"ENG"}"#;
+    let switch = r#"{"section":"switch","row":0,"offset":68,"of":"country GBR","date":"1448-06-01","from":"ENG"}"#;
     assert_eq!(lines[3], switch);
 }
 
 /// Every key that a command prints is named by its help.
 #[test]
 fn keys_are_documented() {
-    let asked: [(&str, &[&str]); 14] = [
+    let asked: [(&str, &[&str]); 16] = [
         ("check", &[]),
-        ("describe", &[]),
+        ("describe", &["--rows"]),
+        ("holders", &[]),
+        ("living", &[]),
         ("owners", &[]),
         ("on", &["1450-06-01"]),
         ("nations", &[]),
@@ -114,7 +125,7 @@ fn of_names_that_are_no_text() {
         r#"\n","tag":"IRE","string":0,"name_bytes":"4122ff0a"}"#
     );
     assert_eq!(first(&["--json"]), object);
-    assert_eq!(first(&[]), "A\"\u{fffd}\u{fffd} plays IRE");
+    assert_eq!(first(&[]), "A\"\\xff\\n plays IRE");
 }
 
 /// Where there is nothing to tell, there is no object.

@@ -3,8 +3,6 @@
 use std::fs;
 
 use chronicle_trial::edges;
-use chronicle_trial::extremes::pages;
-use chronicle_trial::pack::pack;
 
 use super::{about, run, sample, written, Ran, Written};
 
@@ -54,21 +52,23 @@ fn of_a_record_for_programs() {
 
 #[test]
 fn of_a_description() {
-    let ran = run(&["describe", cut().text()]);
+    let file = cut();
+    let ran = run(&["describe", file.text()]);
     assert_eq!((ran.status, ran.err.as_str()), (1, ""));
-    let place =
-        "at offset 102, in the rows: the record ends after 102 bytes, and its rows need 103\n";
-    assert!(ran.out.ends_with(&format!("{WORDS}{place}")), "{}", ran.out);
+    let place = "the end of the record, at offset 102: the record ends after 102 bytes, and its rows need 103";
+    assert!(ran.out.starts_with(&format!("{}: {place}\n{WORDS}", file.text())), "{}", ran.out);
 
     let mut bytes = fs::read(sample("isles.atl")).expect("the sample is there");
     bytes[44 + 12] = b'!';
     let file = written("bad_tag.atl", &bytes);
     let ran = run(&["describe", file.text(), "--json"]);
     let object = concat!(
-        r#""offset":56,"row":"country 1","found":"its tag has the bytes [33, 66, 82] (`!BR`)"}"#,
-        "\n"
+        r#","place":"country !BR (row 1)","section":"country","row":1,"offset":56,"#,
+        r#""found":"its tag is `!BR`, the bytes [21, 42, 52]","row_offset":56,"#,
+        r#""bytes":"214252000300000001000100"}"#
     );
-    assert!(ran.status == 1 && ran.out.ends_with(object), "{}", ran.out);
+    let first = ran.out.lines().next().unwrap_or_default();
+    assert!(ran.status == 1 && first.ends_with(object), "{first}");
 }
 
 /// Whatever the bytes, a description ends by itself, with 1 where the record is refused.
@@ -87,7 +87,9 @@ fn of_descriptions_of_every_edge() {
 fn of_a_question() {
     let refused = |command, rest: &[&str], number: u8, more: &str| {
         let ran = about("worked.atl", command, rest);
-        assert_eq!((ran.status, ran.out.as_str()), (1, ""), "{ran:?}");
+        // A bad tag or date is wrong usage.
+        let status = if number == 12 { 2 } else { 1 };
+        assert_eq!((ran.status, ran.out.as_str()), (status, ""), "{ran:?}");
         assert!(ran.err.contains(&format!(": refused {number}: ")), "{ran:?}");
         assert!(ran.err.ends_with(&format!("\n{more}\n")), "{ran:?}");
     };
@@ -96,19 +98,9 @@ fn of_a_question() {
     refused("initial", &["ENG", "--at", "yesterday"], 12, "`yesterday` is no day");
     refused("page", &["GBR", "gb"], 12, "`gb` is no tag");
     let ran = about("worked.atl", "page", &["gb", "--json"]);
-    assert!(ran.status == 1 && ran.out.ends_with("\"found\":\"`gb` is no tag\"}\n"), "{ran:?}");
+    assert!(ran.status == 2 && ran.out.ends_with("\"found\":\"`gb` is no tag\"}\n"), "{ran:?}");
+    refused("timeline", &["--from", "1444-02-30"], 12, "`1444-02-30` is no day");
+    refused("timeline", &["GBR", "--to=later"], 12, "`later` is no day");
     let none = "no nation is stored under SCO: `chronicle nations` lists them";
     refused("ledger", &["SCO"], 13, none);
-}
-
-/// A page says what it does not hold.
-#[test]
-fn of_a_page() {
-    let file = written("many_changes.atl", &pack(&pages::to_and_fro(4_001)));
-    let ran = run(&["page", file.text()]);
-    let told = "refused 10: the answer has no room (a page holds 4000 owner changes, and this \
-                record has 4001); ask for the nations instead, which have no such limit\n";
-    assert!(ran.status == 1 && ran.err.ends_with(told), "{ran:?}");
-    let ran = run(&["page", file.text(), "--json"]);
-    assert!(ran.out.ends_with("\"room\":4000,\"needed\":4001}\n"), "{ran:?}");
 }

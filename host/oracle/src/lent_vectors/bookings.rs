@@ -1,5 +1,6 @@
 //! War bookings.
 
+use chronicle::rows::BOOKING_WORDS;
 use chronicle::Refusal;
 use chronicle_trial::generate::Random;
 use chronicle_trial::pack::{pack, Campaign};
@@ -33,7 +34,7 @@ pub fn booked(random: &mut Random, campaign: &Campaign, nations: &[Nation]) -> V
 fn falsified(random: &mut Random, vector: &Vector) -> Vector {
     let mut vector = Vector { falsified: true, ..vector.clone() };
     let rows = vector.answers.as_mut().expect("the Rust refuses nothing");
-    let row = 3 * random.below(rows.len() / 3);
+    let row = BOOKING_WORDS * random.below(rows.len() / BOOKING_WORDS);
     match random.below(4) {
         0 => rows[row + 2] = tag_word(NOBODY),
         1 => rows[row] += 1,

@@ -1,5 +1,6 @@
 //! Ledgers: of one nation with the number of its rows, and of all nations.
 
+use chronicle::rows::LEDGER_WORDS;
 use chronicle::Refusal;
 use chronicle_trial::adversary::ledgers;
 use chronicle_trial::generate::Random;
@@ -153,7 +154,7 @@ fn falsified_all(random: &mut Random, vector: &Vector) -> Vector {
 /// A row has another tag, year or value, or is missing, or all are refused.
 fn falsify_rows(random: &mut Random, vector: &mut Vector) {
     let rows = vector.answers.as_mut().expect("the Rust refuses nothing");
-    let row = 3 * random.below(rows.len() / 3);
+    let row = LEDGER_WORDS * random.below(rows.len() / LEDGER_WORDS);
     match random.below(5) {
         0 => rows[row] = tag_word(NOBODY),
         1 => rows[row + 1] += 1,

@@ -1,29 +1,8 @@
 //! The stored sample of what is answered of lent chronicles, which the proved program replays
 //! without Rust at hand: the resolver's answers, war bookings, ledgers, players, histories and
-//! starting countries, as the Rust gives them.
+//! starting countries, as the Rust gives them. [`chronicle_trial::stored`] has the form.
 //!
-//! One file, vectors back to back; every number is 32 bits, low byte first. A vector has
-//!
-//! - how many numbers follow;
-//! - ten of them: its kind (0 resolver, 1 bookings, 2 a nation's ledger, 3 the ledgers of all, 4
-//!   players, 5 histories, 6 starting country), 1 if an answer is falsified, nation words, entry
-//!   words, questions asked one at a time, words asked at once, cells lent for the answers to those
-//!   or for rows, their refusal's number or 0, words of their answers or rows, bytes of the record;
-//! - the nation words and the entry words;
-//! - seven words for each question asked one at a time: form (0 resolve, 1 initial, 2 and 3 the
-//!   same set to a day), day, tag, date, and the answer: the refusal's number or 0, current and
-//!   stored tag or zeros; what a form does not take is 0;
-//! - what is asked at once: of the resolver, tag and date each; for a ledger the nation's number
-//!   and, about the number of its rows, how many are counted at most, the refusal's number or 0,
-//!   and that number; for all ledgers the cells lent for their numbers of rows, and these; for
-//!   histories the cells lent for names, and the names; for a starting country the history words.
-//!   What is refused has neither numbers of rows nor names;
-//! - the answers to the questions, two words each; the bookings or ledger rows, three words each;
-//!   two words for a player, seven for a history, one for the starting country;
-//! - the bytes of the record, which all but the resolver's and the starting country's have. Players
-//!   have no nation words and no entry words.
-//!
-//! What is refused is refused by 01 alone: the Rust has no say in it.
+//! What is refused is refused by the rules alone: the Rust has no say in it.
 
 mod bookings;
 mod ledgers;
@@ -36,7 +15,8 @@ use chronicle_trial::generate::Random;
 use chronicle_trial::lists::altered;
 use chronicle_trial::model::nations_told;
 use chronicle_trial::pack::{Campaign, Tag};
-use chronicle_trial::rows::{Nation, Question, Resolved};
+use chronicle_trial::rows::Nation;
+use chronicle_trial::stored::{bytes, Kind, Vector};
 use chronicle_trial::unpack::unpack;
 
 use crate::rust::Rust;
@@ -55,45 +35,14 @@ const EVERY: usize = 8;
 /// The tag of no campaign that is drawn.
 const NOBODY: Tag = *b"0zZ";
 
-/// What an answer tells, or a refusal.
-type Outcome<T> = Result<T, Refusal>;
-
-/// What a vector is about.
-#[derive(Clone, Copy, Debug, PartialEq, Eq)]
-#[allow(missing_docs)]
-pub enum Kind {
-    Resolver,
-    Bookings,
-    Ledger,
-    Ledgers,
-    Players,
-    Histories,
-    Starting,
-}
-
 /// Makes another vector of one.
 type Other = fn(&mut Random, &Vector) -> Vector;
-
-/// What is asked about a lent chronicle, and what is to be answered.
-#[derive(Clone, Debug)]
-#[allow(missing_docs)]
-pub struct Vector {
-    pub kind: Kind,
-    pub falsified: bool,
-    pub record: Vec<u8>,
-    pub nations: Vec<u32>,
-    pub entries: Vec<u32>,
-    pub single: Vec<(Question, Outcome<Option<Resolved>>)>,
-    pub many: Vec<u32>,
-    /// Cells lent for the answers to the many, or for rows.
-    pub room: usize,
-    pub answers: Outcome<Vec<u32>>,
-}
 
 /// The list, the same every time.
 ///
 /// ```
-/// use chronicle_oracle::lent_vectors::{list, Kind};
+/// use chronicle_oracle::lent_vectors::list;
+/// use chronicle_trial::stored::Kind;
 ///
 /// for kind in [Kind::Resolver, Kind::Bookings, Kind::Ledger, Kind::Ledgers, Kind::Histories] {
 ///     let vectors: Vec<_> = list().into_iter().filter(|vector| vector.kind == kind).collect();
@@ -137,7 +86,7 @@ pub fn list() -> Vec<Vector> {
 /// assert!(file().len() < 700_000);
 /// ```
 pub fn file() -> Vec<u8> {
-    list().iter().flat_map(Vector::bytes).collect()
+    bytes(&list())
 }
 
 /// A campaign's own nations, and these told anew.
@@ -211,48 +160,6 @@ fn without_room(random: &mut Random, vector: &Vector) -> Vector {
     let needed = vector.answers.as_ref().map_or(0, Vec::len);
     let room = random.pick(&[0, needed - 1]);
     Vector { room, answers: Err(Refusal::NoRoom(None)), ..vector.clone() }
-}
-
-impl Vector {
-    /// As it is stored.
-    fn bytes(&self) -> Vec<u8> {
-        let answers = self.answers.as_deref().unwrap_or_default();
-        let head = [
-            self.kind as u32,
-            u32::from(self.falsified),
-            count(self.nations.len()),
-            count(self.entries.len()),
-            count(self.single.len()),
-            count(self.many.len()),
-            count(self.room),
-            number(&self.answers),
-            count(answers.len()),
-            count(self.record.len()),
-        ];
-        let single = self.single.iter().flat_map(|(question, answer)| row(*question, *answer));
-        let mut words: Vec<u32> = [&head[..], &self.nations, &self.entries].concat();
-        words.extend(single);
-        words.extend([&self.many, answers].concat());
-        words.insert(0, count(words.len()));
-        let mut bytes: Vec<u8> = words.into_iter().flat_map(u32::to_le_bytes).collect();
-        bytes.extend(&self.record);
-        bytes
-    }
-}
-
-fn row(question: Question, answer: Outcome<Option<Resolved>>) -> [u32; 7] {
-    let [form, day, tag, date] = match question {
-        Question::Resolve { tag, date } => [0, 0, tag, date],
-        Question::Initial { tag } => [1, 0, tag, 0],
-        Question::ResolveAt { day, tag, date } => [2, day, tag, date],
-        Question::InitialAt { day, tag } => [3, day, tag, 0],
-    };
-    let [current, stored] = answer.ok().flatten().map_or([0; 2], |found| found.words());
-    [form, day, tag, date, number(&answer), current, stored]
-}
-
-fn number<T>(outcome: &Outcome<T>) -> u32 {
-    outcome.as_ref().err().map_or(0, |refusal| u32::from(refusal.number()))
 }
 
 fn count(length: usize) -> u32 {

@@ -1,5 +1,6 @@
 //! Players, histories and starting countries.
 
+use chronicle::rows::{HISTORY_WORDS, PLAYER_WORDS};
 use chronicle::Refusal;
 use chronicle_trial::adversary::{draw_bare, players, tags_of};
 use chronicle_trial::generate::Random;
@@ -81,7 +82,7 @@ fn histories_of(random: &mut Random, campaign: &Campaign, nations: &[Nation]) ->
     let room = [rows.len() + random.below(3), names.len() + random.below(3)];
     let vector = bare(Kind::Histories, room[0], rows);
     let many = [&[count(room[1])][..], &names].concat();
-    Vector { record, many, ..vector.by(nations) }
+    Vector { record, many, ..by(vector, nations) }
 }
 
 /// Of altered histories, every other time.
@@ -94,7 +95,7 @@ fn start_of(random: &mut Random, campaign: &Campaign, nations: &[Nation]) -> Vec
     let played: Vec<_> = told.iter().map(|history| player_history(history, &theirs)).collect();
     let start = Rust::of(campaign).starting_country(&played).map(tag_word);
     let vector = bare(Kind::Starting, 0, start.into_iter().collect());
-    Vector { many: history_words(&told), ..vector.by(nations) }
+    Vector { many: history_words(&told), ..by(vector, nations) }
 }
 
 /// A vector that lends neither a record nor a chronicle.
@@ -112,11 +113,9 @@ fn bare(kind: Kind, room: usize, answers: Vec<u32>) -> Vector {
     }
 }
 
-impl Vector {
-    /// The same with these nations lent.
-    fn by(self, nations: &[Nation]) -> Vector {
-        Vector { nations: nation_words(nations), entries: entry_words(nations), ..self }
-    }
+/// The same with these nations lent.
+fn by(vector: Vector, nations: &[Nation]) -> Vector {
+    Vector { nations: nation_words(nations), entries: entry_words(nations), ..vector }
 }
 
 /// What is refused has no names.
@@ -131,7 +130,7 @@ fn settled(mut vector: Vector) -> Vector {
 fn falsified_players(random: &mut Random, vector: &Vector) -> Vector {
     let mut vector = Vector { falsified: true, ..vector.clone() };
     let rows = vector.answers.as_mut().expect("the Rust refuses nothing");
-    let row = 2 * random.below(rows.len() / 2);
+    let row = PLAYER_WORDS * random.below(rows.len() / PLAYER_WORDS);
     match random.below(4) {
         0 => rows[row] += 1,
         1 => rows[row + 1] = tag_word(NOBODY),
@@ -145,7 +144,7 @@ fn falsified_players(random: &mut Random, vector: &Vector) -> Vector {
 fn falsified_histories(random: &mut Random, vector: &Vector) -> Vector {
     let mut vector = Vector { falsified: true, ..vector.clone() };
     let rows = vector.answers.as_mut().expect("the Rust refuses nothing");
-    let row = 7 * random.below(rows.len() / 7);
+    let row = HISTORY_WORDS * random.below(rows.len() / HISTORY_WORDS);
     let names = vector.many.len() - 1;
     match random.below(7) {
         0 => rows[row] = tag_word(NOBODY),

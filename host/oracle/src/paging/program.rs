@@ -4,7 +4,7 @@ use chronicle_trial::adversary::selections::{draw, selection, spoiled};
 use chronicle_trial::generate::Random;
 use chronicle_trial::model;
 use chronicle_trial::pack::{pack, Campaign};
-use chronicle_trial::program::{printed, Folder};
+use chronicle_trial::program::{printed, remark, Folder};
 
 use super::Paged;
 use crate::rust::Rust;
@@ -46,7 +46,8 @@ impl Printed {
         let expected = printed(page);
         std::fs::write(self.folder.campaign(), paged.record).map_err(|error| error.to_string())?;
         let output = self.folder.run(selection);
-        if output.stdout == expected && output.stderr.is_empty() && output.status.success() {
+        let said = output.stderr == remark(selection).as_bytes();
+        if output.stdout == expected && said && output.status.success() {
             return Ok(());
         }
         let expected = String::from_utf8_lossy(&expected).into_owned();

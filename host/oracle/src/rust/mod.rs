@@ -1,4 +1,4 @@
-//! The Rust's answers, as the rows of 01.
+//! The Rust's answers, as the rows of the rules.
 
 mod falsified;
 mod players;

@@ -11,7 +11,7 @@ pub use ledgers::LEDGER_CASES;
 use std::collections::{BTreeMap, BTreeSet};
 use std::fmt;
 
-use chronicle_trial::demand::Met;
+use chronicle_trial::guarantee::Met;
 use chronicle_trial::model::Chronicle;
 use chronicle_trial::pack::{Campaign, Country, Province, Tag, NONE};
 use chronicle_trial::rows::{Change, Entry, Kind, Nation};
@@ -73,18 +73,18 @@ impl Seen {
         self.0.iter().map(|(&what, &times)| (what, times))
     }
 
-    /// Adds what demand 3 met.
+    /// Adds what the guarantee met.
     ///
     /// ```
-    /// use chronicle_trial::demand::{Met, Premise};
+    /// use chronicle_trial::guarantee::{Met, Premise};
     /// use chronicle_oracle::seen::Seen;
     ///
     /// let (mut seen, mut met) = (Seen::default(), Met::default());
     /// met.add(Premise::Alone, true);
-    /// seen.demand(&met);
-    /// assert_eq!(seen.times("demand: worn alone"), 1);
+    /// seen.guarantee(&met);
+    /// assert_eq!(seen.times("guarantee: worn alone"), 1);
     /// ```
-    pub fn demand(&mut self, met: &Met) {
+    pub fn guarantee(&mut self, met: &Met) {
         met.all().for_each(|(what, times)| self.add(what, times));
     }
 

@@ -1,10 +1,11 @@
 //! Every answer of both, as lines of text.
 
 use chronicle::raw::{Chronicle, TagData};
+use chronicle::rows::{CHANGE_WORDS, ENTRY_WORDS, NATION_WORDS};
 use chronicle::Refusal;
 use chronicle_trial::adversary::selections::selection;
 use chronicle_trial::adversary::tags_of;
-use chronicle_trial::demand::Written;
+use chronicle_trial::guarantee::Written;
 use chronicle_trial::pack::{pack, Campaign, Date, Tag};
 use chronicle_trial::rows::{
     history_words, tag_of_word, tag_word, Booking, Change, Entry, History, Kind, LedgerRow, Nation,
@@ -145,7 +146,7 @@ fn of_library(campaign: &Campaign, asked: &Asked) -> Result<Answers, Refusal> {
     })
 }
 
-fn change(&[date, id, from, to]: &[u32; 4]) -> Change {
+fn change(&[date, id, from, to]: &[u32; CHANGE_WORDS]) -> Change {
     Change { date, id: id as u16, from: tag_of_word(from), to: tag_of_word(to) }
 }
 
@@ -162,7 +163,7 @@ fn unnamed(history: &told::NamedHistory<'_>) -> History {
 
 fn nations(written: &Written) -> Vec<Nation> {
     let entries = written.entries.as_chunks().0;
-    let entry = |&[date, kind, target]: &[u32; 3]| Entry {
+    let entry = |&[date, kind, target]: &[u32; ENTRY_WORDS]| Entry {
         date,
         kind: match kind {
             0 => Kind::Switch(tag_of_word(target)),
@@ -170,7 +171,7 @@ fn nations(written: &Written) -> Vec<Nation> {
             _ => Kind::Annexed,
         },
     };
-    let nation = |&[initial, latest, stored, first, count]: &[u32; 5]| {
+    let nation = |&[initial, latest, stored, first, count]: &[u32; NATION_WORDS]| {
         let [initial, latest, stored] = [initial, latest, stored].map(tag_of_word);
         let own = &entries[first as usize..][..count as usize];
         Nation { initial, latest, stored, entries: own.iter().map(entry).collect() }

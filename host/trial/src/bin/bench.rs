@@ -13,7 +13,7 @@ use std::process::{exit, Command, Stdio};
 use std::thread;
 use std::time::{Duration, Instant};
 
-use chronicle::layout::{Counts, HEAD_COUNTS};
+use chronicle::layout::{Counts, Enough, HEAD_COUNTS, LIMITS};
 use chronicle::raw::check;
 use chronicle_trial::generate::{about_600_kb, at_limits, counts_of, sized};
 use chronicle_trial::pack::{pack, Campaign};
@@ -176,11 +176,12 @@ type Stacked = (&'static str, usize, fn(&[u8]) -> bool);
 const STACKED: &[Stacked] = &[
     ("check", 256, |record| check(record).is_ok()),
     ("province_owners", 1_024, |record| {
-        let mut out = vec![0; 4 * 60_000];
+        let mut out = vec![0; LIMITS.enough().changes];
         chronicle::raw::province_owners(record, &mut out).is_ok()
     }),
     ("nation_events", 1_536, |record| {
-        let mut lent = [2_000 * 5, 140_000 * 3, 8_001, 2_000, 60_000 * 4, 5].map(|n| vec![0; n]);
+        let Enough { nations, entries, holders, held, changes, counts, .. } = LIMITS.enough();
+        let mut lent = [nations, entries, holders, held, changes, counts].map(|n| vec![0; n]);
         let [nations, entries, holders, held, changes, counts] =
             lent.each_mut().map(|cells| &mut cells[..]);
         let room = chronicle::raw::Room { nations, entries, holders, held, changes, counts };

@@ -1,5 +1,5 @@
-//! Compares the proved `check` with the independent checker on many records, and tries demand 3 on
-//! those that are accepted.
+//! Compares the proved `check` with the independent checker on many records, and tries the
+//! guarantee (Rules 12.4 to 12.7) on those that are accepted.
 //!
 //! `differential [CALLS] [SEED]`; one difference ends the run, its record in difference.atl.
 
@@ -9,8 +9,8 @@ use std::process::ExitCode;
 use chronicle::raw::check;
 use chronicle_trial::cases::Cases;
 use chronicle_trial::damage::Target;
-use chronicle_trial::demand::{self, Met};
 use chronicle_trial::generate::{campaign, Knobs, Random};
+use chronicle_trial::guarantee::{self, Met};
 use chronicle_trial::pack::{pack, Campaign};
 use chronicle_trial::unpack::unpack;
 use chronicle_trial::{number, reference, sample, wars};
@@ -44,7 +44,7 @@ fn arguments() -> Option<(u64, u64)> {
     arguments.next().is_none().then_some(given)
 }
 
-/// How many records were tried, how often each number came, and what demand 3 met.
+/// How many records were tried, how often each number came, and what the guarantee met.
 struct Run {
     calls: u64,
     seen: [u64; 10],
@@ -93,21 +93,21 @@ impl Run {
             return Err(self.stored(record, &differs));
         }
         match unpack(record) {
-            Ok(campaign) => self.demand(record, campaign),
+            Ok(campaign) => self.guarantee(record, campaign),
             Err(_) => Ok(()),
         }
     }
 
-    /// Tries demand 3 on an accepted record, and on the same with one war more.
-    fn demand(&mut self, record: &[u8], mut campaign: Campaign) -> Result<(), String> {
+    /// Tries the guarantee on an accepted record, and on the same with one war more.
+    fn guarantee(&mut self, record: &[u8], mut campaign: Campaign) -> Result<(), String> {
         let (random, met) = (&mut self.random, &mut self.met);
         let war = wars::draw(random, &campaign, 1, MORE_EVENTS);
-        if let Err(error) = demand::tried(record, &campaign, usize::MAX, random, met) {
+        if let Err(error) = guarantee::tried(record, &campaign, usize::MAX, random, met) {
             return Err(self.stored(record, &error));
         }
         campaign.wars.extend(war);
         let record = pack(&campaign);
-        demand::tried(&record, &campaign, usize::MAX, random, met)
+        guarantee::tried(&record, &campaign, usize::MAX, random, met)
             .map_err(|error| self.stored(&record, &error))
     }
 
@@ -129,7 +129,7 @@ impl Run {
             eprintln!("some number never came: the run says too little");
             return ExitCode::FAILURE;
         }
-        print!("demand 3 on the accepted ones:\n{}", self.met);
+        print!("the guarantee on the accepted ones:\n{}", self.met);
         let never = self.met.never();
         if !never.is_empty() {
             eprintln!("never met, so the run says too little: {}", never.join("; "));

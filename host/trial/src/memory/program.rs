@@ -108,3 +108,22 @@ impl Drop for Folder {
 pub fn printed(page: Result<Vec<u8>, Refusal>) -> Vec<u8> {
     page.unwrap_or_else(|refusal| format!("refused {}\n", refusal.number()).into_bytes())
 }
+
+/// The most bytes of a selection that the program reads: one more than a page takes.
+const MOST_READ: usize = 65_537;
+
+/// What the program says on standard error of a selection: that it has a carriage return, if it has one.
+///
+/// ```
+/// use chronicle_trial::program::remark;
+///
+/// assert_eq!(remark(b"GBR\nFRA\n"), "");
+/// assert!(remark(b"GBR\r\n").starts_with("page: the selection has a carriage return"));
+/// ```
+pub fn remark(selection: &[u8]) -> &'static str {
+    let read = &selection[..selection.len().min(MOST_READ)];
+    match read.contains(&b'\r') {
+        true => "page: the selection has a carriage return: a line feed alone ends each tag\n",
+        false => "",
+    }
+}

@@ -1,4 +1,4 @@
-//! 01, "Owner changes".
+//! Owner changes (Rules 3).
 
 use crate::pack::{Campaign, Date, Province};
 use crate::rows::{Change, Run};

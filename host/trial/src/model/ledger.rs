@@ -1,4 +1,4 @@
-//! 01, "Ledger".
+//! Ledgers (Rules 7).
 
 use crate::pack::{Campaign, Date, Point, Tag};
 use crate::rows::{Kind, LedgerRow, Nation};

@@ -1,4 +1,4 @@
-//! 01's answers, worked out from a campaign in the plainest way, from the text of 01 alone.
+//! The answers, worked out from a campaign in the plainest way, from the text of the rules alone.
 //!
 //! It shares nothing with the proved functions nor with the Rust they were ported from, keeps no
 //! running counts (who holds what is looked up afresh), and is what both are compared with: the

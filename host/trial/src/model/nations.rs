@@ -1,4 +1,4 @@
-//! 01, "Nations".
+//! Nations (Rules 4).
 
 use std::collections::{BTreeMap, BTreeSet};
 
@@ -184,7 +184,7 @@ mod tests {
         assert_eq!(entries(&sample::worked(), b"FRA"), []);
     }
 
-    /// 01's starred case: both tags are stored under GBR, and the slot still changes hands.
+    /// Both tags are stored under GBR, and the slot still changes hands.
     #[test]
     fn only_slot_passing_to_its_own_holder() {
         let mut campaign = sample::worked();

@@ -1,4 +1,4 @@
-//! 01, "Page".
+//! The page (Rules 9).
 
 use chronicle::Refusal;
 

@@ -1,4 +1,4 @@
-//! 01, "Players".
+//! Players, histories and the starting country (Rules 8).
 
 use crate::pack::{
     Campaign, Country, Tag, HAS_SWITCHED_NATION, HUMAN, IRONMAN, MULTIPLAYER, WAS_PLAYER,

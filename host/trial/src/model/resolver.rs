@@ -1,4 +1,4 @@
-//! 01, "Resolver". The nations may be any list: also unsorted, with unsorted entries.
+//! The resolver (Rules 5). The nations may be any list: also unsorted, with unsorted entries.
 
 use crate::pack::{Date, Tag};
 use crate::rows::{tag_of_word, Kind, Nation, Question, Resolved};

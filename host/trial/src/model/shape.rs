@@ -1,4 +1,4 @@
-//! 01, "Nations" and "Players", near their ends: which words are a chronicle's, and which histories'.
+//! Which words are a chronicle's (Rules 4.20), and which histories' (Rules 8.13).
 
 use crate::pack::{Date, Tag};
 use crate::reference::{check_date, check_tag};

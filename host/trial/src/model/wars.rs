@@ -1,4 +1,4 @@
-//! 01, "War bookings".
+//! War bookings (Rules 6).
 
 use std::collections::BTreeMap;
 

@@ -1,4 +1,4 @@
-//! 01's calendar: years 1 to 9999, no leap days.
+//! The calendar (Rules 1.3): years 1 to 9999, no leap days.
 
 use crate::pack::Date;
 

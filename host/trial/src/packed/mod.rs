@@ -1,8 +1,6 @@
-//! The packed record: its calendar, its writer, its reader, its independent checker, and where it
-//! offends.
+//! The packed record: its calendar, its writer, its reader and its independent checker.
 
 pub mod calendar;
-pub mod offence;
 pub mod pack;
 pub mod reference;
 pub mod unpack;

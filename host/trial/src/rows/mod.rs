@@ -1,4 +1,4 @@
-//! The rows of the answers, as values and as the 32-bit words that 01 writes for them.
+//! The rows of the answers, as values and as the 32-bit words that stand for them.
 
 mod ledger;
 mod players;

@@ -2,15 +2,10 @@
 
 use chronicle::layout::{Counts, LIMITS};
 use chronicle::raw::Chronicle;
+use chronicle::rows::{LEDGER_WORDS, NATION_WORDS};
 use chronicle::Refusal;
 
 use crate::rows::LedgerRow;
-
-/// Words of a nation row.
-const NATION: usize = 5;
-
-/// Words of a ledger row.
-const ROW: usize = 3;
 
 /// The ledger of one nation, counted first; over so many rows there is no room.
 pub fn of_one(
@@ -23,7 +18,7 @@ pub fn of_one(
     if count > most {
         return Err(Refusal::NoRoom(None));
     }
-    let mut out = vec![0; ROW * count];
+    let mut out = vec![0; LEDGER_WORDS * count];
     rows.nation_ledger(record, nation, &mut out)?;
     Ok(values(&out))
 }
@@ -34,13 +29,13 @@ pub fn of_all(
     record: &[u8],
     most: usize,
 ) -> Result<Vec<Vec<LedgerRow>>, Refusal> {
-    let mut counts = vec![0; rows.nations.len() / NATION];
+    let mut counts = vec![0; rows.nations.len() / NATION_WORDS];
     let mut room = most.min(points(record));
     loop {
-        let mut out = vec![0; ROW * room];
+        let mut out = vec![0; LEDGER_WORDS * room];
         match rows.nation_ledgers(record, &mut out, &mut counts) {
             Err(Refusal::NoRoom(_)) if room < most => room = most.min(2 * room + 1),
-            answer => return answer.map(|rows| apart(&out[..ROW * rows], &counts)),
+            answer => return answer.map(|rows| apart(&out[..LEDGER_WORDS * rows], &counts)),
         }
     }
 }
@@ -57,7 +52,7 @@ fn values(words: &[u32]) -> Vec<LedgerRow> {
 /// Each nation's rows by themselves.
 fn apart(mut words: &[u32], counts: &[u64]) -> Vec<Vec<LedgerRow>> {
     let own = |&count: &u64| {
-        let (own, others) = words.split_at(ROW * count as usize);
+        let (own, others) = words.split_at(LEDGER_WORDS * count as usize);
         words = others;
         values(own)
     };

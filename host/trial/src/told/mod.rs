@@ -8,6 +8,7 @@ pub use players::{Name, NamedHistory, NamedPlayer};
 
 use chronicle::layout::{Counts, LIMITS};
 use chronicle::raw::{self, Chronicle};
+use chronicle::rows::{BOOKING_WORDS, HISTORY_WORDS, PLAYER_WORDS};
 use chronicle::Refusal;
 
 use crate::pack::Tag;
@@ -136,7 +137,7 @@ pub trait Told {
 impl Told for Chronicle<'_> {
     fn bookings(self, record: &[u8]) -> Result<Vec<Booking>, Refusal> {
         let events = record.first_chunk().map_or(0, |head| Counts::read(head).war_events);
-        let mut out = vec![0; 3 * events.min(LIMITS.war_events)];
+        let mut out = vec![0; BOOKING_WORDS * events.min(LIMITS.war_events)];
         let rows = self.war_participants(record, &mut out)?;
         Ok(out.as_chunks().0[..rows].iter().copied().map(Booking::told).collect())
     }
@@ -151,11 +152,11 @@ impl Told for Chronicle<'_> {
 
     fn named_histories(self, record: &[u8]) -> Result<Vec<NamedHistory<'_>>, Refusal> {
         let countries = record.first_chunk().map_or(0, |head| Counts::read(head).countries);
-        let mut histories = vec![0; 7 * countries.min(LIMITS.countries)];
+        let mut histories = vec![0; HISTORY_WORDS * countries.min(LIMITS.countries)];
         let mut names = vec![0; pairs(record)];
         let counts = self.player_histories(record, &mut histories, &mut names)?;
         let strings = players::strings(record);
-        let named = |&row: &[u32; 7]| NamedHistory::told(row, &names, &strings);
+        let named = |&row: &[u32; HISTORY_WORDS]| NamedHistory::told(row, &names, &strings);
         Ok(histories.as_chunks().0[..counts.histories].iter().map(named).collect())
     }
 
@@ -186,10 +187,10 @@ impl Told for Chronicle<'_> {
 /// assert_eq!(named_players(b"ATL"), Err(Refusal::NotARecord));
 /// ```
 pub fn named_players(record: &[u8]) -> Result<Vec<NamedPlayer<'_>>, Refusal> {
-    let mut out = vec![0; 2 * pairs(record)];
+    let mut out = vec![0; PLAYER_WORDS * pairs(record)];
     let rows = raw::players(record, &mut out)?;
     let strings = players::strings(record);
-    let named = |&row: &[u32; 2]| {
+    let named = |&row: &[u32; PLAYER_WORDS]| {
         let Player { name, tag } = Player::told(row);
         NamedPlayer { name: Name::numbered(&strings, name), tag }
     };

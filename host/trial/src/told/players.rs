@@ -1,6 +1,7 @@
 //! Players and histories as values, with their names.
 
 use chronicle::layout::Counts;
+use chronicle::rows::HISTORY_WORDS;
 
 use crate::pack::Tag;
 use crate::rows::History;
@@ -54,7 +55,11 @@ pub struct NamedHistory<'a> {
 }
 
 impl<'a> NamedHistory<'a> {
-    pub(super) fn told(row: [u32; 7], names: &[u32], strings: &[&'a [u8]]) -> NamedHistory<'a> {
+    pub(super) fn told(
+        row: [u32; HISTORY_WORDS],
+        names: &[u32],
+        strings: &[&'a [u8]],
+    ) -> NamedHistory<'a> {
         let History { initial, latest, stored, nation, human, names } = History::told(row, names);
         let names = names.into_iter().map(|name| Name::numbered(strings, name)).collect();
         NamedHistory { initial, latest, stored, nation, human, names }

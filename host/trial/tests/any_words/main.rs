@@ -1,5 +1,5 @@
 //! Whatever words are lent to resolver, bookings, ledgers, histories and starting countries, they
-//! answer as 01 says that they do, or refuse.
+//! answer as the rules say, or refuse.
 
 mod ledgers;
 mod players;

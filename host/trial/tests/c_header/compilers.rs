@@ -1,12 +1,31 @@
 //! The compilers at hand, and what is built by them.
 
+use std::collections::BTreeSet;
 use std::env;
 use std::fmt;
 use std::fs;
 use std::path::{Path, PathBuf};
 use std::process::{Command, Output};
 
-const WARNINGS: [&str; 4] = ["-Wall", "-Wextra", "-Wpedantic", "-Werror"];
+const WARNINGS: [&str; 6] = ["-Wall", "-Wextra", "-Wpedantic", "-Wshadow", "-Wundef", "-Werror"];
+
+/// The languages that the header serves, from the oldest to the newest.
+const C: [&[&str]; 5] = [
+    &["-x", "c", "-std=c89"],
+    &["-x", "c", "-std=c99"],
+    &["-x", "c", "-std=c11"],
+    &["-x", "c", "-std=c17"],
+    &["-x", "c", "-std=c2x"],
+];
+
+/// The same of C++.
+const CPP: [&[&str]; 5] = [
+    &["-x", "c++", "-std=c++98"],
+    &["-x", "c++", "-std=c++11"],
+    &["-x", "c++", "-std=c++14"],
+    &["-x", "c++", "-std=c++17"],
+    &["-x", "c++", "-std=c++20"],
+];
 
 /// A compiler with the language that it is told to read.
 pub struct Compiler {
@@ -44,10 +63,33 @@ pub fn cpp() -> Option<Compiler> {
     compiler
 }
 
+/// Every language by every compiler: the one that is named or usual, gcc's and clang's, as far as they are
+/// at hand.
+pub fn all() -> Vec<Compiler> {
+    let no_cpp = cpp().is_none();
+    let of = |variable, usual, others: [&str; 2], languages: [&'static [&'static str]; 5]| {
+        let named = env::var(variable).unwrap_or_else(|_| String::from(usual));
+        let commands = others.map(String::from).into_iter().chain([named]).filter(|c| is_there(c));
+        let commands: BTreeSet<String> = commands.collect();
+        let each = move |command: String| {
+            languages.map(|language| Compiler { command: command.clone(), language })
+        };
+        commands.into_iter().flat_map(each).collect::<Vec<_>>()
+    };
+    let mut all = of("CC", "cc", ["gcc", "clang"], C);
+    if !no_cpp {
+        all.extend(of("CXX", "c++", ["g++", "clang++"], CPP));
+    }
+    all
+}
+
+fn is_there(command: &str) -> bool {
+    Command::new(command).arg("--version").output().is_ok()
+}
+
 fn found(variable: &str, usual: &str, language: &'static [&'static str]) -> Option<Compiler> {
     let command = env::var(variable).unwrap_or_else(|_| usual.to_string());
-    let there = Command::new(&command).arg("--version").output().is_ok();
-    there.then_some(Compiler { command, language })
+    is_there(&command).then_some(Compiler { command, language })
 }
 
 impl Compiler {
@@ -61,6 +103,16 @@ impl Compiler {
         program
     }
 
+    /// Compiles and links sources with these arguments, and neither the header nor libpage.a of the
+    /// repository.
+    pub fn with(&self, name: &str, sources: &[PathBuf], arguments: &[&str]) -> PathBuf {
+        let program = built(name);
+        let mut command = Command::new(&self.command);
+        command.args(self.language).args(WARNINGS).args(sources).args(["-x", "none"]);
+        run(command.args(arguments).arg("-o").arg(&program));
+        program
+    }
+
     /// The sources as one object, not linked with anything.
     pub fn object(&self, name: &str, sources: &[&str]) -> PathBuf {
         let object = built(&format!("{name}.o"));
@@ -71,13 +123,19 @@ impl Compiler {
     fn compile(&self, sources: &[&str]) -> Command {
         let mut command = Command::new(&self.command);
         command.args(self.language).args(WARNINGS).arg("-I").arg(at("../../include"));
-        command.args(sources.iter().map(|source| at("tests/c_header").join(source)));
+        command.args(paths(sources));
         command
     }
 }
 
-fn at(path: &str) -> PathBuf {
+/// A path from the folder of this package.
+pub fn at(path: &str) -> PathBuf {
     Path::new(env!("CARGO_MANIFEST_DIR")).join(path)
+}
+
+/// Where sources stand.
+pub fn paths(sources: &[&str]) -> Vec<PathBuf> {
+    sources.iter().map(|source| at("tests/c_header").join(source)).collect()
 }
 
 /// A file of these tests.

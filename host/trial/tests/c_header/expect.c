@@ -52,10 +52,10 @@ void chronicle_of(const struct record *record, const uint32_t *counts, struct ch
     fresh(rows->held, COUNT_OF(rows->held));
     fresh(rows->changes, COUNT_OF(rows->changes));
     fresh(rows->counts, COUNT_OF(rows->counts));
-    equal("nation_events",
-          nation_events(record->bytes, record->length, rows->nations, COUNT_OF(rows->nations), rows->entries, COUNT_OF(rows->entries),
-                        rows->holders, COUNT_OF(rows->holders), rows->held, COUNT_OF(rows->held), rows->changes,
-                        COUNT_OF(rows->changes), rows->counts, COUNT_OF(rows->counts)),
+    equal("chronicle_nation_events",
+          chronicle_nation_events(record->bytes, record->length, rows->nations, COUNT_OF(rows->nations), rows->entries,
+                                  COUNT_OF(rows->entries), rows->holders, COUNT_OF(rows->holders), rows->held, COUNT_OF(rows->held),
+                                  rows->changes, COUNT_OF(rows->changes), rows->counts, COUNT_OF(rows->counts)),
           CHRONICLE_COUNT_WORDS);
     cells("its counts", rows->counts, counts, CHRONICLE_COUNT_WORDS, CHRONICLE_COUNT_WORDS);
     rows->nation_words = (size_t)counts[CHRONICLE_COUNT_NATIONS] * CHRONICLE_NATION_WORDS;

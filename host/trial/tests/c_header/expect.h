@@ -15,7 +15,7 @@ struct record {
     size_t length;
 };
 
-/* What nation_events wrote of a record. */
+/* What chronicle_nation_events wrote of a record. */
 struct chronicle {
     uint32_t nations[16 * CHRONICLE_NATION_WORDS];
     uint32_t entries[32 * CHRONICLE_ENTRY_WORDS];

@@ -29,11 +29,11 @@ static void bookings(const struct record *record, const struct chronicle *rows) 
         row[CHRONICLE_BOOKING_STORED] = TAG(BOOKINGS[i].stored);
     }
     fresh(out, COUNT_OF(out));
-    equal("war_participants",
-          war_participants(record->bytes, record->length, rows->nations, rows->nation_words, rows->entries, rows->entry_words, out,
-                           COUNT_OF(out)),
+    equal("chronicle_war_participants",
+          chronicle_war_participants(record->bytes, record->length, rows->nations, rows->nation_words, rows->entries,
+                                     rows->entry_words, out, COUNT_OF(out)),
           (int64_t)COUNT_OF(BOOKINGS));
-    cells("war_participants", out, expected, COUNT_OF(expected), COUNT_OF(out));
+    cells("chronicle_war_participants", out, expected, COUNT_OF(expected), COUNT_OF(out));
 }
 
 /* Ann and Bob; the game's own name is nobody's, and a name without a tag counts for nothing. */
@@ -45,8 +45,8 @@ static void played(const struct record *record) {
     expected[CHRONICLE_PLAYER_WORDS + CHRONICLE_PLAYER_NAME] = 4;
     expected[CHRONICLE_PLAYER_WORDS + CHRONICLE_PLAYER_TAG] = TAG("NED");
     fresh(out, COUNT_OF(out));
-    equal("players", players(record->bytes, record->length, out, COUNT_OF(out)), 2);
-    cells("players", out, expected, COUNT_OF(expected), COUNT_OF(out));
+    equal("chronicle_players", chronicle_players(record->bytes, record->length, out, COUNT_OF(out)), 2);
+    cells("chronicle_players", out, expected, COUNT_OF(expected), COUNT_OF(out));
 }
 
 /* One history's words, its three tags as one text. */
@@ -75,20 +75,22 @@ static void recalled(const struct record *record, const struct chronicle *rows) 
     fresh(out, COUNT_OF(out));
     fresh(names, COUNT_OF(names));
     fresh(tag, COUNT_OF(tag));
-    equal("player_histories",
-          player_histories(record->bytes, record->length, rows->nations, rows->nation_words, rows->entries, rows->entry_words, out,
-                           COUNT_OF(out), names, COUNT_OF(names)),
+    equal("chronicle_player_histories",
+          chronicle_player_histories(record->bytes, record->length, rows->nations, rows->nation_words, rows->entries,
+                                     rows->entry_words, out, COUNT_OF(out), names, COUNT_OF(names)),
           3);
-    cells("player_histories", out, expected, COUNT_OF(expected), COUNT_OF(out));
+    cells("chronicle_player_histories", out, expected, COUNT_OF(expected), COUNT_OF(out));
     cells("their names", names, NAMES, COUNT_OF(NAMES), COUNT_OF(names));
     equal("no history",
-          starting_country(NULL, 0, rows->nations, rows->nation_words, rows->entries, rows->entry_words, tag, COUNT_OF(tag)), 0);
+          chronicle_starting_country(NULL, 0, rows->nations, rows->nation_words, rows->entries, rows->entry_words, tag,
+                                     COUNT_OF(tag)),
+          0);
     cells("no history", tag, NULL, 0, COUNT_OF(tag));
-    equal("starting_country",
-          starting_country(out, COUNT_OF(expected), rows->nations, rows->nation_words, rows->entries, rows->entry_words, tag,
-                           COUNT_OF(tag)),
+    equal("chronicle_starting_country",
+          chronicle_starting_country(out, COUNT_OF(expected), rows->nations, rows->nation_words, rows->entries, rows->entry_words,
+                                     tag, COUNT_OF(tag)),
           1);
-    cells("starting_country", tag, tyrone, 1, COUNT_OF(tag));
+    cells("chronicle_starting_country", tag, tyrone, 1, COUNT_OF(tag));
 }
 
 /* A living nation, one that is gone, one that never had land, and one asked for under a tag that it is not stored under. */
@@ -96,8 +98,7 @@ static void printed(const struct record *record) {
     static const char SELECTION[] = "IRE\nBUR\nNOR\nTYR\n";
     static const char PAGE[] = "selected 4\nIRE TYR IRE 2 living\nBUR BUR BUR 1 annexed\nNOR absent\nTYR absent\n";
     uint8_t out[15 + 25 * 4];
-    equal("page",
-          page(record->bytes, record->length, (const uint8_t *)SELECTION, sizeof SELECTION - 1, out, sizeof out),
+    equal("page", page(record->bytes, record->length, (const uint8_t *)SELECTION, sizeof SELECTION - 1, out, sizeof out),
           (int64_t)sizeof PAGE - 1);
     equal("its text", memcmp(out, PAGE, sizeof PAGE - 1), 0);
 }

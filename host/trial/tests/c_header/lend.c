@@ -52,9 +52,10 @@ static size_t count(const struct lent *lent, int offset, int bytes) {
 
 int64_t chronicle_of(struct lent *l) {
     uint32_t counts[CHRONICLE_COUNT_WORDS];
-    int64_t answer = nation_events(l->record.bytes, l->record.length, l->nations.words, l->nations.length, l->entries.words,
-                                   l->entries.length, l->holders.words, l->holders.length, l->held.words, l->held.length,
-                                   l->changes.words, l->changes.length, counts, CHRONICLE_COUNT_WORDS);
+    int64_t answer =
+        chronicle_nation_events(l->record.bytes, l->record.length, l->nations.words, l->nations.length, l->entries.words,
+                                l->entries.length, l->holders.words, l->holders.length, l->held.words, l->held.length,
+                                l->changes.words, l->changes.length, counts, CHRONICLE_COUNT_WORDS);
     if (answer >= 0) {
         l->nations.length = (size_t)counts[CHRONICLE_COUNT_NATIONS] * CHRONICLE_NATION_WORDS;
         l->entries.length = (size_t)counts[CHRONICLE_COUNT_ENTRIES] * CHRONICLE_ENTRY_WORDS;
@@ -84,8 +85,8 @@ static void ledgers(struct lent *l) {
     l->few_nation_words = FEW * CHRONICLE_NATION_WORDS;
     l->few_entry_words = (last[CHRONICLE_NATION_FIRST_ENTRY] + last[CHRONICLE_NATION_ENTRY_COUNT]) * CHRONICLE_ENTRY_WORDS;
     for (nation = 0; nation < FEW; nation++) {
-        rows += (size_t)nation_ledger_rows(l->record.bytes, l->record.length, l->nations.words, l->nations.length,
-                                           l->entries.words, l->entries.length, nation, SIZE_MAX);
+        rows += (size_t)chronicle_nation_ledger_rows(l->record.bytes, l->record.length, l->nations.words, l->nations.length,
+                                                     l->entries.words, l->entries.length, nation, SIZE_MAX);
     }
     l->rows = words(rows * CHRONICLE_LEDGER_WORDS + 409615);
 }
@@ -94,8 +95,8 @@ static void ledgers(struct lent *l) {
 static void histories(struct lent *l, size_t countries) {
     int64_t rows;
     l->histories = words(countries * CHRONICLE_HISTORY_WORDS);
-    rows = player_histories(l->record.bytes, l->record.length, l->nations.words, l->nations.length, l->entries.words,
-                            l->entries.length, l->histories.words, l->histories.length, l->names.words, l->names.length);
+    rows = chronicle_player_histories(l->record.bytes, l->record.length, l->nations.words, l->nations.length, l->entries.words,
+                                      l->entries.length, l->histories.words, l->histories.length, l->names.words, l->names.length);
     if (rows < 0) {
         fail("no histories");
     }

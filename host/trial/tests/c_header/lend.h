@@ -37,7 +37,7 @@ void read_files(const char *record, const char *page, const char *selection, str
 /* Lends, and fills nations, entries, questions and histories; ends the program where it cannot. */
 void lend(struct lent *lent);
 
-/* nation_events into what is lent. */
+/* chronicle_nation_events into what is lent. */
 int64_t chronicle_of(struct lent *lent);
 
 void give_back(struct lent *lent);

@@ -1,4 +1,4 @@
-/* The calls that are lent a chronicle, on the worked record and 01's starred cases: the resolver and the ledgers. */
+/* The calls that are lent a chronicle, on the worked record and the known cases: the resolver and the ledgers. */
 #include "expect.h"
 
 #include <string.h>
@@ -30,16 +30,16 @@ static void each(const struct chronicle *rows) {
     uint32_t out[COUNT_OF(ANSWERS) + 1];
     uint32_t spoiled[CHRONICLE_QUESTION_WORDS];
     fresh(out, COUNT_OF(out));
-    equal("resolver_resolve_each",
-          resolver_resolve_each(rows->nations, rows->nation_words, rows->entries, rows->entry_words, QUESTIONS, COUNT_OF(QUESTIONS), out,
-                                COUNT_OF(out)),
+    equal("chronicle_resolver_resolve_each",
+          chronicle_resolver_resolve_each(rows->nations, rows->nation_words, rows->entries, rows->entry_words, QUESTIONS,
+                                          COUNT_OF(QUESTIONS), out, COUNT_OF(out)),
           4);
-    cells("resolver_resolve_each", out, ANSWERS, COUNT_OF(ANSWERS), COUNT_OF(out));
+    cells("chronicle_resolver_resolve_each", out, ANSWERS, COUNT_OF(ANSWERS), COUNT_OF(out));
     spoiled[CHRONICLE_QUESTION_TAG] = GBR;
     spoiled[CHRONICLE_QUESTION_DATE] = 14440229;
     equal("a question with no date",
-          resolver_resolve_each(rows->nations, rows->nation_words, rows->entries, rows->entry_words, spoiled, COUNT_OF(spoiled), out,
-                                COUNT_OF(out)),
+          chronicle_resolver_resolve_each(rows->nations, rows->nation_words, rows->entries, rows->entry_words, spoiled,
+                                          COUNT_OF(spoiled), out, COUNT_OF(out)),
           -CHRONICLE_REFUSED_BAD_QUESTION);
 }
 
@@ -55,19 +55,22 @@ void resolver(const struct record *worked) {
     e = rows.entry_words;
 
     fresh(out, COUNT_OF(out));
-    answered("GBR on 14480531", resolver_resolve(nations, n, entries, e, GBR, 14480531, out, COUNT_OF(out)), out, 0, 0);
-    answered("ENG, initial, set to 14480531", resolver_initial_at(nations, n, entries, e, 14480531, ENG, out, COUNT_OF(out)), out, 0, 0);
-    equal("one word", resolver_resolve(nations, n, entries, e, ENG, 14480531, out, 1), -CHRONICLE_REFUSED_NO_ROOM);
-    equal("torn rows", resolver_resolve(nations, n - 1, entries, e, ENG, 14480531, out, 2), -CHRONICLE_REFUSED_NOT_WELL_SHAPED);
-    equal("no tag", resolver_initial(nations, n, entries, e, 0, out, COUNT_OF(out)), -CHRONICLE_REFUSED_BAD_QUESTION);
+    answered("GBR on 14480531", chronicle_resolver_resolve(nations, n, entries, e, GBR, 14480531, out, COUNT_OF(out)), out, 0, 0);
+    answered("ENG, initial, set to 14480531",
+             chronicle_resolver_initial_at(nations, n, entries, e, 14480531, ENG, out, COUNT_OF(out)), out, 0, 0);
+    equal("one word", chronicle_resolver_resolve(nations, n, entries, e, ENG, 14480531, out, 1), -CHRONICLE_REFUSED_NO_ROOM);
+    equal("torn rows", chronicle_resolver_resolve(nations, n - 1, entries, e, ENG, 14480531, out, 2),
+          -CHRONICLE_REFUSED_NOT_WELL_SHAPED);
+    equal("no tag", chronicle_resolver_initial(nations, n, entries, e, 0, out, COUNT_OF(out)), -CHRONICLE_REFUSED_BAD_QUESTION);
     cells("refused", out, NULL, 0, COUNT_OF(out));
-    answered("GBR on 14480601", resolver_resolve(nations, n, entries, e, GBR, 14480601, out, COUNT_OF(out)), out, GBR, GBR);
-    answered("ENG, set to 14480531", resolver_resolve_at(nations, n, entries, e, 14480531, ENG, 14480531, out, COUNT_OF(out)), out,
-             ENG, GBR);
-    answered("ENG, initial", resolver_initial(nations, n, entries, e, ENG, out, COUNT_OF(out)), out, GBR, GBR);
+    answered("GBR on 14480601", chronicle_resolver_resolve(nations, n, entries, e, GBR, 14480601, out, COUNT_OF(out)), out, GBR,
+             GBR);
+    answered("ENG, set to 14480531",
+             chronicle_resolver_resolve_at(nations, n, entries, e, 14480531, ENG, 14480531, out, COUNT_OF(out)), out, ENG, GBR);
+    answered("ENG, initial", chronicle_resolver_initial(nations, n, entries, e, ENG, out, COUNT_OF(out)), out, GBR, GBR);
     fresh(out, COUNT_OF(out));
-    answered("ENG, initial, set to 14480601", resolver_initial_at(nations, n, entries, e, 14480601, ENG, out, COUNT_OF(out)), out,
-             GBR, GBR);
+    answered("ENG, initial, set to 14480601",
+             chronicle_resolver_initial_at(nations, n, entries, e, 14480601, ENG, out, COUNT_OF(out)), out, GBR, GBR);
     each(&rows);
 }
 
@@ -90,11 +93,11 @@ static void all_ledgers(const struct record *record, const struct chronicle *row
     uint32_t out[6 * CHRONICLE_LEDGER_WORDS + 1];
     uint64_t counts[3] = {7, 7, 7};
     fresh(out, COUNT_OF(out));
-    equal("nation_ledgers",
-          nation_ledgers(record->bytes, record->length, rows->nations, rows->nation_words, rows->entries, rows->entry_words, out,
-                         COUNT_OF(out), counts, COUNT_OF(counts)),
+    equal("chronicle_nation_ledgers",
+          chronicle_nation_ledgers(record->bytes, record->length, rows->nations, rows->nation_words, rows->entries,
+                                   rows->entry_words, out, COUNT_OF(out), counts, COUNT_OF(counts)),
           6);
-    cells("nation_ledgers", out, expected, COUNT_OF(out) - 1, COUNT_OF(out));
+    cells("chronicle_nation_ledgers", out, expected, COUNT_OF(out) - 1, COUNT_OF(out));
     equal("rows of GBR", (int64_t)counts[0], 6);
     equal("rows of FRA", (int64_t)counts[1], 0);
     equal("the count behind", (int64_t)counts[2], 7);
@@ -108,12 +111,14 @@ static void one_ledger(const struct record *record, const struct chronicle *rows
     const size_t length = record->length, n = rows->nation_words, e = rows->entry_words;
     uint32_t out[6 * CHRONICLE_LEDGER_WORDS + 1];
     fresh(out, COUNT_OF(out));
-    equal("no such nation", nation_ledger(bytes, length, nations, n, entries, e, 2, out, COUNT_OF(out)), -CHRONICLE_REFUSED_NO_SUCH_NATION);
+    equal("no such nation", chronicle_nation_ledger(bytes, length, nations, n, entries, e, 2, out, COUNT_OF(out)),
+          -CHRONICLE_REFUSED_NO_SUCH_NATION);
     cells("no such nation", out, NULL, 0, COUNT_OF(out));
-    equal("nation_ledger_rows", nation_ledger_rows(bytes, length, nations, n, entries, e, 0, SIZE_MAX), 6);
-    equal("nation_ledger_rows, five at most", nation_ledger_rows(bytes, length, nations, n, entries, e, 0, 5), 5);
-    equal("nation_ledger", nation_ledger(bytes, length, nations, n, entries, e, 0, out, COUNT_OF(out)), 6);
-    cells("nation_ledger", out, expected, COUNT_OF(out) - 1, COUNT_OF(out));
+    equal("chronicle_nation_ledger_rows", chronicle_nation_ledger_rows(bytes, length, nations, n, entries, e, 0, SIZE_MAX), 6);
+    equal("chronicle_nation_ledger_rows, five at most", chronicle_nation_ledger_rows(bytes, length, nations, n, entries, e, 0, 5),
+          5);
+    equal("chronicle_nation_ledger", chronicle_nation_ledger(bytes, length, nations, n, entries, e, 0, out, COUNT_OF(out)), 6);
+    cells("chronicle_nation_ledger", out, expected, COUNT_OF(out) - 1, COUNT_OF(out));
     equal("ledger's tag", out[CHRONICLE_LEDGER_TAG], ENG);
     equal("ledger's year", out[CHRONICLE_LEDGER_YEAR], 1445);
     equal("ledger's value", out[CHRONICLE_LEDGER_VALUE], 10);

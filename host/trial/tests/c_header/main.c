@@ -4,7 +4,7 @@
 #include <stdio.h>
 #include <string.h>
 
-/* The page of 01's worked record, and the numbers of one that does not fit and of a selection that is none. */
+/* The page of the worked record, and the numbers of one that does not fit and of a selection that is none. */
 static void printed(const struct record *worked) {
     static const char SELECTION[] = "GBR\nFRA\n";
     static const char PAGE[] = "selected 2\nGBR ENG GBR 3 living\nFRA FRA FRA 0 living\n.";
@@ -32,14 +32,15 @@ static void nothing(const struct record *worked) {
     n = rows.nation_words;
     e = rows.entry_words;
     fresh(out, COUNT_OF(out));
-    equal("no booking", war_participants(bytes, length, rows.nations, n, rows.entries, e, out, COUNT_OF(out)), 0);
-    equal("no ledger row", nation_ledger(bytes, length, rows.nations, n, rows.entries, e, 1, out, COUNT_OF(out)), 0);
-    equal("no row to come", nation_ledger_rows(bytes, length, rows.nations, n, rows.entries, e, 1, 9), 0);
-    equal("no ledgers", nation_ledgers(bytes, length, rows.nations, n, rows.entries, e, out, COUNT_OF(out), counts, 2), 0);
+    equal("no booking", chronicle_war_participants(bytes, length, rows.nations, n, rows.entries, e, out, COUNT_OF(out)), 0);
+    equal("no ledger row", chronicle_nation_ledger(bytes, length, rows.nations, n, rows.entries, e, 1, out, COUNT_OF(out)), 0);
+    equal("no row to come", chronicle_nation_ledger_rows(bytes, length, rows.nations, n, rows.entries, e, 1, 9), 0);
+    equal("no ledgers", chronicle_nation_ledgers(bytes, length, rows.nations, n, rows.entries, e, out, COUNT_OF(out), counts, 2),
+          0);
     equal("their counts", (int64_t)(counts[0] + counts[1]), 0);
-    equal("no player", players(bytes, length, out, COUNT_OF(out)), 0);
-    equal("no history", player_histories(bytes, length, rows.nations, n, rows.entries, e, out, 4, out + 4, 4), 0);
-    equal("no start", starting_country(NULL, 0, rows.nations, n, rows.entries, e, out, COUNT_OF(out)), 0);
+    equal("no player", chronicle_players(bytes, length, out, COUNT_OF(out)), 0);
+    equal("no history", chronicle_player_histories(bytes, length, rows.nations, n, rows.entries, e, out, 4, out + 4, 4), 0);
+    equal("no start", chronicle_starting_country(NULL, 0, rows.nations, n, rows.entries, e, out, COUNT_OF(out)), 0);
     cells("nothing", out, NULL, 0, COUNT_OF(out));
 }
 
@@ -48,21 +49,21 @@ static void empty(void) {
     const uint32_t gbr = CHRONICLE_TAG('G', 'B', 'R'), day = 14480601;
     const int64_t none = -CHRONICLE_REFUSED_NOT_A_RECORD;
     equal("check", -check(NULL, 0), none);
-    equal("province_owners", province_owners(NULL, 0, NULL, 0), none);
-    equal("events_on", events_on(NULL, 0, day, NULL, 0), none);
-    equal("nation_events", nation_events(NULL, 0, NULL, 0, NULL, 0, NULL, 0, NULL, 0, NULL, 0, NULL, 0), none);
-    equal("resolver_resolve", resolver_resolve(NULL, 0, NULL, 0, gbr, day, NULL, 0), 0);
-    equal("resolver_initial", resolver_initial(NULL, 0, NULL, 0, gbr, NULL, 0), 0);
-    equal("resolver_resolve_at", resolver_resolve_at(NULL, 0, NULL, 0, day, gbr, day, NULL, 0), 0);
-    equal("resolver_initial_at", resolver_initial_at(NULL, 0, NULL, 0, day, gbr, NULL, 0), 0);
-    equal("resolver_resolve_each", resolver_resolve_each(NULL, 0, NULL, 0, NULL, 0, NULL, 0), 0);
-    equal("war_participants", war_participants(NULL, 0, NULL, 0, NULL, 0, NULL, 0), none);
-    equal("nation_ledger", nation_ledger(NULL, 0, NULL, 0, NULL, 0, 0, NULL, 0), none);
-    equal("nation_ledger_rows", nation_ledger_rows(NULL, 0, NULL, 0, NULL, 0, 0, 0), none);
-    equal("nation_ledgers", nation_ledgers(NULL, 0, NULL, 0, NULL, 0, NULL, 0, NULL, 0), none);
-    equal("players", players(NULL, 0, NULL, 0), none);
-    equal("player_histories", player_histories(NULL, 0, NULL, 0, NULL, 0, NULL, 0, NULL, 0), none);
-    equal("starting_country", starting_country(NULL, 0, NULL, 0, NULL, 0, NULL, 0), 0);
+    equal("chronicle_province_owners", chronicle_province_owners(NULL, 0, NULL, 0), none);
+    equal("chronicle_events_on", chronicle_events_on(NULL, 0, day, NULL, 0), none);
+    equal("chronicle_nation_events", chronicle_nation_events(NULL, 0, NULL, 0, NULL, 0, NULL, 0, NULL, 0, NULL, 0, NULL, 0), none);
+    equal("chronicle_resolver_resolve", chronicle_resolver_resolve(NULL, 0, NULL, 0, gbr, day, NULL, 0), 0);
+    equal("chronicle_resolver_initial", chronicle_resolver_initial(NULL, 0, NULL, 0, gbr, NULL, 0), 0);
+    equal("chronicle_resolver_resolve_at", chronicle_resolver_resolve_at(NULL, 0, NULL, 0, day, gbr, day, NULL, 0), 0);
+    equal("chronicle_resolver_initial_at", chronicle_resolver_initial_at(NULL, 0, NULL, 0, day, gbr, NULL, 0), 0);
+    equal("chronicle_resolver_resolve_each", chronicle_resolver_resolve_each(NULL, 0, NULL, 0, NULL, 0, NULL, 0), 0);
+    equal("chronicle_war_participants", chronicle_war_participants(NULL, 0, NULL, 0, NULL, 0, NULL, 0), none);
+    equal("chronicle_nation_ledger", chronicle_nation_ledger(NULL, 0, NULL, 0, NULL, 0, 0, NULL, 0), none);
+    equal("chronicle_nation_ledger_rows", chronicle_nation_ledger_rows(NULL, 0, NULL, 0, NULL, 0, 0, 0), none);
+    equal("chronicle_nation_ledgers", chronicle_nation_ledgers(NULL, 0, NULL, 0, NULL, 0, NULL, 0, NULL, 0), none);
+    equal("chronicle_players", chronicle_players(NULL, 0, NULL, 0), none);
+    equal("chronicle_player_histories", chronicle_player_histories(NULL, 0, NULL, 0, NULL, 0, NULL, 0, NULL, 0), none);
+    equal("chronicle_starting_country", chronicle_starting_country(NULL, 0, NULL, 0, NULL, 0, NULL, 0), 0);
     equal("page", page(NULL, 0, NULL, 0, NULL, 0), none);
 }
 

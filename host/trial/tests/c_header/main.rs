@@ -5,8 +5,11 @@
 //! CHRONICLE_NO_CXX=1 leaves C++ out.
 
 mod compilers;
+mod installed;
+mod numbers;
 mod readme;
 mod stacks;
+mod standards;
 
 use std::collections::BTreeSet;
 use std::process::Command;
@@ -63,6 +66,13 @@ fn the_header_declares_what_the_archive_has() {
     assert_eq!(declared().len(), 17);
 }
 
+/// A program may have a `players`, a `nation_events` of its own.
+#[test]
+fn every_name_but_two_is_chronicle_s() {
+    let others = declared().into_iter().filter(|name| !name.starts_with("chronicle_"));
+    assert_eq!(others.collect::<Vec<_>>(), ["check", "page"]);
+}
+
 /// What the archive needs of others is named in the header's head.
 #[test]
 fn the_archive_needs_what_the_header_says() {
@@ -79,9 +89,11 @@ fn the_cases_use_the_whole_header() {
     let called = symbols(&["-u", object.to_str().expect("a path in UTF-8")]);
     assert_eq!(declared().difference(&called).collect::<Vec<_>>(), [] as [&String; 0]);
 
-    let sources: String = compilers::sources(&CASES) + &compilers::sources(&stacks::SOURCES);
+    let sources = [&CASES[..], &stacks::SOURCES, &standards::SOURCES].concat();
+    let sources = compilers::sources(&sources);
     let names = HEADER.split(|c: char| !c.is_ascii_alphanumeric() && c != '_');
     let names: BTreeSet<&str> = names.filter(|name| name.starts_with("CHRONICLE_")).collect();
-    let unused = names.into_iter().filter(|name| *name != "CHRONICLE_H" && !sources.contains(name));
+    let own = ["CHRONICLE_", "CHRONICLE_H", "CHRONICLE_INLINE"];
+    let unused = names.into_iter().filter(|name| !own.contains(name) && !sources.contains(name));
     assert_eq!(unused.collect::<Vec<_>>(), [] as [&str; 0]);
 }

@@ -46,12 +46,12 @@ static void refused(const char *what, const struct record *record, int64_t numbe
     equal(what, check(record->bytes, record->length), number);
     if (number != 0) {
         fresh(lent, COUNT_OF(lent));
-        equal(what, province_owners(record->bytes, record->length, lent, COUNT_OF(lent)), -number);
+        equal(what, chronicle_province_owners(record->bytes, record->length, lent, COUNT_OF(lent)), -number);
         cells(what, lent, NULL, 0, COUNT_OF(lent));
     }
 }
 
-/* Numbers 1 to 8 by a byte each; the first starred case of 01 is that 103 bytes pass and 102 do not. */
+/* Numbers 1 to 8 by a byte each; 103 bytes pass and 102 do not. */
 void refusals(const struct record *worked) {
     struct record record;
     size_t i;
@@ -75,21 +75,24 @@ void owners(const struct record *worked) {
     uint32_t run[CHRONICLE_RUN_WORDS + 1];
 
     fresh(lent, COUNT_OF(lent));
-    equal("no room", province_owners(worked->bytes, worked->length, lent, COUNT_OF(CHANGES) - 1), -CHRONICLE_REFUSED_NO_ROOM);
+    equal("no room", chronicle_province_owners(worked->bytes, worked->length, lent, COUNT_OF(CHANGES) - 1),
+          -CHRONICLE_REFUSED_NO_ROOM);
     cells("no room", lent, NULL, 0, COUNT_OF(lent));
-    equal("province_owners", province_owners(worked->bytes, worked->length, lent, COUNT_OF(lent)), 2);
-    cells("province_owners", lent, CHANGES, COUNT_OF(CHANGES), COUNT_OF(lent));
+    equal("chronicle_province_owners", chronicle_province_owners(worked->bytes, worked->length, lent, COUNT_OF(lent)), 2);
+    cells("chronicle_province_owners", lent, CHANGES, COUNT_OF(CHANGES), COUNT_OF(lent));
     equal("second id", lent[CHRONICLE_CHANGE_WORDS + CHRONICLE_CHANGE_ID], 2);
     equal("first date", lent[CHRONICLE_CHANGE_DATE], 14460101);
     equal("first from", lent[CHRONICLE_CHANGE_FROM], ENG);
     equal("first to", lent[CHRONICLE_CHANGE_TO], FRA);
 
     fresh(run, COUNT_OF(run));
-    equal("no date", events_on(worked->bytes, worked->length, 14440229, run, COUNT_OF(run)), -CHRONICLE_REFUSED_BAD_QUESTION);
-    equal("one word", events_on(worked->bytes, worked->length, 14470101, run, 1), -CHRONICLE_REFUSED_NO_ROOM);
+    equal("no date", chronicle_events_on(worked->bytes, worked->length, 14440229, run, COUNT_OF(run)),
+          -CHRONICLE_REFUSED_BAD_QUESTION);
+    equal("one word", chronicle_events_on(worked->bytes, worked->length, 14470101, run, 1), -CHRONICLE_REFUSED_NO_ROOM);
     cells("refused", run, NULL, 0, COUNT_OF(run));
-    equal("events_on", events_on(worked->bytes, worked->length, 14470101, run, COUNT_OF(run)), CHRONICLE_RUN_WORDS);
-    cells("events_on", run, RUN, CHRONICLE_RUN_WORDS, COUNT_OF(run));
+    equal("chronicle_events_on", chronicle_events_on(worked->bytes, worked->length, 14470101, run, COUNT_OF(run)),
+          CHRONICLE_RUN_WORDS);
+    cells("chronicle_events_on", run, RUN, CHRONICLE_RUN_WORDS, COUNT_OF(run));
     equal("run's first", run[CHRONICLE_RUN_FIRST], 1);
     equal("run's count", run[CHRONICLE_RUN_COUNT], 1);
 }

@@ -23,11 +23,11 @@ static int64_t run_check(struct lent *l) {
 }
 
 static int64_t run_owners(struct lent *l) {
-    return province_owners(l->record.bytes, l->record.length, l->changes.words, l->changes.length);
+    return chronicle_province_owners(l->record.bytes, l->record.length, l->changes.words, l->changes.length);
 }
 
 static int64_t run_events_on(struct lent *l) {
-    return events_on(l->record.bytes, l->record.length, 14440228, l->out.words, l->out.length);
+    return chronicle_events_on(l->record.bytes, l->record.length, 14440228, l->out.words, l->out.length);
 }
 
 static int64_t run_nations(struct lent *l) {
@@ -35,62 +35,62 @@ static int64_t run_nations(struct lent *l) {
 }
 
 static int64_t run_resolve(struct lent *l) {
-    return resolver_resolve(l->nations.words, l->nations.length, l->entries.words, l->entries.length, l->nations.words[0], 99991231,
-                            l->out.words, l->out.length);
+    return chronicle_resolver_resolve(l->nations.words, l->nations.length, l->entries.words, l->entries.length, l->nations.words[0],
+                                      99991231, l->out.words, l->out.length);
 }
 
 static int64_t run_initial(struct lent *l) {
-    return resolver_initial(l->nations.words, l->nations.length, l->entries.words, l->entries.length, l->nations.words[0],
-                            l->out.words, l->out.length);
+    return chronicle_resolver_initial(l->nations.words, l->nations.length, l->entries.words, l->entries.length, l->nations.words[0],
+                                      l->out.words, l->out.length);
 }
 
 static int64_t run_resolve_at(struct lent *l) {
-    return resolver_resolve_at(l->nations.words, l->nations.length, l->entries.words, l->entries.length, 99991231,
-                               l->nations.words[0], 99991231, l->out.words, l->out.length);
+    return chronicle_resolver_resolve_at(l->nations.words, l->nations.length, l->entries.words, l->entries.length, 99991231,
+                                         l->nations.words[0], 99991231, l->out.words, l->out.length);
 }
 
 static int64_t run_initial_at(struct lent *l) {
-    return resolver_initial_at(l->nations.words, l->nations.length, l->entries.words, l->entries.length, 99991231,
-                               l->nations.words[0], l->out.words, l->out.length);
+    return chronicle_resolver_initial_at(l->nations.words, l->nations.length, l->entries.words, l->entries.length, 99991231,
+                                         l->nations.words[0], l->out.words, l->out.length);
 }
 
 static int64_t run_each(struct lent *l) {
-    return resolver_resolve_each(l->nations.words, l->nations.length, l->entries.words, l->entries.length, l->questions.words,
-                                 l->questions.length, l->out.words, l->out.length);
+    return chronicle_resolver_resolve_each(l->nations.words, l->nations.length, l->entries.words, l->entries.length,
+                                           l->questions.words, l->questions.length, l->out.words, l->out.length);
 }
 
 static int64_t run_bookings(struct lent *l) {
-    return war_participants(l->record.bytes, l->record.length, l->nations.words, l->nations.length, l->entries.words,
-                            l->entries.length, l->out.words, l->out.length);
+    return chronicle_war_participants(l->record.bytes, l->record.length, l->nations.words, l->nations.length, l->entries.words,
+                                      l->entries.length, l->out.words, l->out.length);
 }
 
 static int64_t run_ledger(struct lent *l) {
-    return nation_ledger(l->record.bytes, l->record.length, l->nations.words, l->nations.length, l->entries.words,
-                         l->entries.length, 0, l->rows.words, l->rows.length);
+    return chronicle_nation_ledger(l->record.bytes, l->record.length, l->nations.words, l->nations.length, l->entries.words,
+                                   l->entries.length, 0, l->rows.words, l->rows.length);
 }
 
 static int64_t run_ledger_rows(struct lent *l) {
-    return nation_ledger_rows(l->record.bytes, l->record.length, l->nations.words, l->nations.length, l->entries.words,
-                              l->entries.length, 0, SIZE_MAX);
+    return chronicle_nation_ledger_rows(l->record.bytes, l->record.length, l->nations.words, l->nations.length, l->entries.words,
+                                        l->entries.length, 0, SIZE_MAX);
 }
 
 static int64_t run_ledgers(struct lent *l) {
-    return nation_ledgers(l->record.bytes, l->record.length, l->nations.words, l->few_nation_words, l->entries.words,
-                          l->few_entry_words, l->rows.words, l->rows.length, l->counts, FEW);
+    return chronicle_nation_ledgers(l->record.bytes, l->record.length, l->nations.words, l->few_nation_words, l->entries.words,
+                                    l->few_entry_words, l->rows.words, l->rows.length, l->counts, FEW);
 }
 
 static int64_t run_players(struct lent *l) {
-    return players(l->record.bytes, l->record.length, l->out.words, l->out.length);
+    return chronicle_players(l->record.bytes, l->record.length, l->out.words, l->out.length);
 }
 
 static int64_t run_histories(struct lent *l) {
-    return player_histories(l->record.bytes, l->record.length, l->nations.words, l->nations.length, l->entries.words,
-                            l->entries.length, l->out.words, l->out.length, l->names.words, l->names.length);
+    return chronicle_player_histories(l->record.bytes, l->record.length, l->nations.words, l->nations.length, l->entries.words,
+                                      l->entries.length, l->out.words, l->out.length, l->names.words, l->names.length);
 }
 
 static int64_t run_start(struct lent *l) {
-    return starting_country(l->histories.words, l->histories.length, l->nations.words, l->nations.length, l->entries.words,
-                            l->entries.length, l->out.words, l->out.length);
+    return chronicle_starting_country(l->histories.words, l->histories.length, l->nations.words, l->nations.length,
+                                      l->entries.words, l->entries.length, l->out.words, l->out.length);
 }
 
 static int64_t run_page(struct lent *l) {
@@ -100,21 +100,21 @@ static int64_t run_page(struct lent *l) {
 
 static const struct call CALLS[] = {
     {"check", CHRONICLE_STACK_CHECK, run_check},
-    {"province_owners", CHRONICLE_STACK_OWNERS, run_owners},
-    {"events_on", CHRONICLE_STACK_OWNERS, run_events_on},
-    {"nation_events", CHRONICLE_STACK_NATIONS, run_nations},
-    {"resolver_resolve", CHRONICLE_STACK_RESOLVER, run_resolve},
-    {"resolver_initial", CHRONICLE_STACK_RESOLVER, run_initial},
-    {"resolver_resolve_at", CHRONICLE_STACK_RESOLVER, run_resolve_at},
-    {"resolver_initial_at", CHRONICLE_STACK_RESOLVER, run_initial_at},
-    {"resolver_resolve_each", CHRONICLE_STACK_EACH, run_each},
-    {"war_participants", CHRONICLE_STACK_BOOKINGS, run_bookings},
-    {"nation_ledger", CHRONICLE_STACK_LEDGERS, run_ledger},
-    {"nation_ledger_rows", CHRONICLE_STACK_LEDGERS, run_ledger_rows},
-    {"nation_ledgers", CHRONICLE_STACK_LEDGERS, run_ledgers},
-    {"players", CHRONICLE_STACK_PLAYERS, run_players},
-    {"player_histories", CHRONICLE_STACK_PLAYERS, run_histories},
-    {"starting_country", CHRONICLE_STACK_PLAYERS, run_start},
+    {"chronicle_province_owners", CHRONICLE_STACK_OWNERS, run_owners},
+    {"chronicle_events_on", CHRONICLE_STACK_OWNERS, run_events_on},
+    {"chronicle_nation_events", CHRONICLE_STACK_NATIONS, run_nations},
+    {"chronicle_resolver_resolve", CHRONICLE_STACK_RESOLVER, run_resolve},
+    {"chronicle_resolver_initial", CHRONICLE_STACK_RESOLVER, run_initial},
+    {"chronicle_resolver_resolve_at", CHRONICLE_STACK_RESOLVER, run_resolve_at},
+    {"chronicle_resolver_initial_at", CHRONICLE_STACK_RESOLVER, run_initial_at},
+    {"chronicle_resolver_resolve_each", CHRONICLE_STACK_EACH, run_each},
+    {"chronicle_war_participants", CHRONICLE_STACK_BOOKINGS, run_bookings},
+    {"chronicle_nation_ledger", CHRONICLE_STACK_LEDGERS, run_ledger},
+    {"chronicle_nation_ledger_rows", CHRONICLE_STACK_LEDGERS, run_ledger_rows},
+    {"chronicle_nation_ledgers", CHRONICLE_STACK_LEDGERS, run_ledgers},
+    {"chronicle_players", CHRONICLE_STACK_PLAYERS, run_players},
+    {"chronicle_player_histories", CHRONICLE_STACK_PLAYERS, run_histories},
+    {"chronicle_starting_country", CHRONICLE_STACK_PLAYERS, run_start},
     {"page", CHRONICLE_STACK_PAGE, run_page},
 };
 

@@ -7,10 +7,11 @@ use std::thread;
 
 use chronicle::layout::{Counts, Enough};
 use chronicle::raw::{self, Chronicle, Room};
+use chronicle::rows::{ENTRY_WORDS, HISTORY_WORDS, LEDGER_WORDS, NATION_WORDS};
 use chronicle::Refusal;
 use chronicle_trial::adversary::players;
-use chronicle_trial::demand::Written;
 use chronicle_trial::extremes::{self, pages::whole_page};
+use chronicle_trial::guarantee::Written;
 use chronicle_trial::pack::pack;
 
 use crate::compilers::{built, c99, run};
@@ -38,7 +39,11 @@ fn at_limits(number: usize) -> Vec<u8> {
 /// The C program with a page and a selection as large as may be, and one of the records. The name keeps tests
 /// apart that run beside each other.
 fn program(name: &str, number: usize) -> Command {
-    let program = c99().program(name, &SOURCES, &["-O1", "-pthread"]);
+    given(c99().program(name, &SOURCES, &["-O1", "-pthread"]), name, number)
+}
+
+/// A run of the program on those files.
+pub fn given(program: PathBuf, name: &str, number: usize) -> Command {
     let mut command = Command::new(program);
     command.arg(stored(&format!("{name}.atl"), &at_limits(number)));
     command.arg(stored(&format!("{name}_page.atl"), &pack(&whole_page(600))));
@@ -133,19 +138,19 @@ fn about_lent_rows(record: &[u8]) {
     within("BOOKINGS", || rows.war_participants(record, &mut out));
     within("PLAYERS", || raw::players(record, &mut out));
     let told = within("PLAYERS", || rows.player_histories(record, &mut out, &mut names));
-    let histories = &out[..7 * told.histories];
+    let histories = &out[..HISTORY_WORDS * told.histories];
     within("PLAYERS", || rows.starting_country(histories, &mut [0]));
     ledgers(record, &nations, &entries);
 }
 
 fn ledgers(record: &[u8], nations: &[u32], entries: &[u32]) {
-    let nations = &nations[..5 * FEW];
+    let nations = &nations[..NATION_WORDS * FEW];
     let [.., first, count] = nations else { unreachable!("a row has five words") };
-    let rows = Chronicle { nations, entries: &entries[..3 * (first + count) as usize] };
+    let rows = Chronicle { nations, entries: &entries[..ENTRY_WORDS * (first + count) as usize] };
     let counted =
         |nation| within("LEDGERS", move || rows.nation_ledger_rows(record, nation, usize::MAX));
     let all: usize = (0..FEW).map(counted).sum();
-    let (mut out, mut counts) = (vec![0; 3 * all], [0; FEW]);
+    let (mut out, mut counts) = (vec![0; LEDGER_WORDS * all], [0; FEW]);
     within("LEDGERS", || rows.nation_ledger(record, 0, &mut out));
     within("LEDGERS", || rows.nation_ledgers(record, &mut out, &mut counts));
 }

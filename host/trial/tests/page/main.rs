@@ -1,4 +1,4 @@
-//! The page through the C function: 01's rules in small cases, each refusal, and every room.
+//! The page through the C function: the rules in small cases, each refusal, and every room.
 
 mod limits;
 

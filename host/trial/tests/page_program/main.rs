@@ -10,8 +10,11 @@ use std::time::Duration;
 
 use chronicle_trial::extremes::pages::{one_slot, padded, to_and_fro};
 use chronicle_trial::pack::pack;
-use chronicle_trial::program::{printed, Folder};
+use chronicle_trial::program::{printed, remark, Folder};
 use chronicle_trial::{edges, model, sample};
+
+/// What is said of a file that cannot be read.
+const UNREAD: &str = "page: campaign.atl cannot be read, and counts as empty\n";
 
 const TWO: &str = "selected 2\nGBR ENG GBR 3 living\nFRA FRA FRA 0 living\n";
 
@@ -23,8 +26,14 @@ fn with(record: &[u8]) -> Folder {
 
 #[track_caller]
 fn prints(output: &Output, expected: &str) {
+    remarks(output, expected, "");
+}
+
+/// Prints this, and says that on standard error.
+#[track_caller]
+fn remarks(output: &Output, expected: &str, remark: &str) {
     assert_eq!(String::from_utf8_lossy(&output.stdout), expected);
-    assert_eq!(String::from_utf8_lossy(&output.stderr), "");
+    assert_eq!(String::from_utf8_lossy(&output.stderr), remark);
     assert!(output.status.success(), "{output:?}");
 }
 
@@ -51,11 +60,19 @@ fn edges_of_the_record() {
 #[test]
 fn no_file() {
     let folder = Folder::new();
-    prints(&folder.run(b"GBR\n"), "refused 1\n");
-    prints(&folder.run(b"GBR"), "refused 1\n");
-    prints(&folder.run(&[b'x'; 65_537]), "refused 10\n");
+    remarks(&folder.run(b"GBR\n"), "refused 1\n", UNREAD);
+    remarks(&folder.run(b"GBR"), "refused 1\n", UNREAD);
+    remarks(&folder.run(&[b'x'; 65_537]), "refused 10\n", UNREAD);
     create_dir(folder.campaign()).expect("the folder can be written to");
-    prints(&folder.run(b"GBR\n"), "refused 1\n");
+    remarks(&folder.run(b"GBR\n"), "refused 1\n", UNREAD);
+}
+
+/// A selection written with carriage returns is refused, and why stands on standard error.
+#[test]
+fn carriage_returns() {
+    let selection = b"GBR\r\nFRA\r\n";
+    assert!(remark(selection).contains("carriage return"));
+    remarks(&with(sample::WORKED).run(selection), "refused 12\n", remark(selection));
 }
 
 /// 5 GB that take no room on the disk: no more of them is read than is needed to refuse.
@@ -140,8 +157,8 @@ fn reads_that_fail_behind_some_bytes() {
         child.stdin.take().expect("a pipe").write_all(b"GBR\nFRA\n").expect("a pipe has room");
         child.wait_with_output().expect("the program ends")
     };
-    prints(&run("file", "50"), "refused 1\n");
-    prints(&run("file", "103"), "refused 1\n");
+    remarks(&run("file", "50"), "refused 1\n", UNREAD);
+    remarks(&run("file", "103"), "refused 1\n", UNREAD);
     for (bytes, page) in
         [("4", "selected 1\nGBR ENG GBR 3 living\n"), ("8", TWO), ("3", "refused 12\n")]
     {

@@ -18,6 +18,14 @@ fn it_is_the_one_in_this_folder() {
 }
 
 #[test]
+fn readme_is_short() {
+    assert!(README.lines().count() <= 120, "{} lines", README.lines().count());
+    for line in README.lines() {
+        assert!(line.chars().count() <= 100, "over 100 columns: {line}");
+    }
+}
+
+#[test]
 fn it_runs_where_the_samples_are() {
     std::env::set_current_dir(concat!(env!("CARGO_MANIFEST_DIR"), "/../..")).expect("it is there");
     example::run().expect("the sample is accepted, and its tags and dates are good");

@@ -3,6 +3,7 @@
 
 use std::hint::black_box;
 
+use chronicle::rows::BOOKING_WORDS;
 use chronicle_oracle::rust::{nation_events, Rust};
 use chronicle_trial::extremes::{self, at_war, nations, switching};
 use chronicle_trial::generate::{counts_of, sized};
@@ -100,7 +101,7 @@ fn theirs(given: &Given) -> Timed {
 
 fn ours(given: &Given) -> Option<Timed> {
     let rows = chronicle::raw::Chronicle { nations: &given.nations, entries: &given.entries };
-    let mut out = vec![0; 3 * given.war_events];
+    let mut out = vec![0; BOOKING_WORDS * given.war_events];
     let before = spent();
     let answered = black_box(rows.war_participants(black_box(&given.record), &mut out));
     let time = spent() - before;

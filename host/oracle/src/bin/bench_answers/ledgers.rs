@@ -3,6 +3,7 @@
 
 use std::hint::black_box;
 
+use chronicle::rows::LEDGER_WORDS;
 use chronicle_oracle::rust::{nation_events, Rust};
 use chronicle_trial::extremes::{self, yearly};
 use chronicle_trial::generate::{at_limits, counts_of, sized};
@@ -113,7 +114,7 @@ mod library {
     fn alone(given: &Given, nation: usize) -> Vec<u32> {
         let (rows, record) = (lent(given), black_box(&given.record[..]));
         let count = rows.nation_ledger_rows(record, nation, given.rows).expect("it is listed");
-        let mut out = vec![0; 3 * count];
+        let mut out = vec![0; LEDGER_WORDS * count];
         rows.nation_ledger(record, nation, &mut out).expect(ROOM);
         out
     }
@@ -148,7 +149,8 @@ mod library {
 
     /// The cells have been written before, as those of a host that lends them again.
     pub fn together(given: &Given) -> Option<Timed> {
-        let (mut out, mut counts) = (vec![1; 3 * given.rows], vec![1; given.theirs.len()]);
+        let (mut out, mut counts) =
+            (vec![1; LEDGER_WORDS * given.rows], vec![1; given.theirs.len()]);
         let before = spent();
         let rows = lent(given).nation_ledgers(black_box(&given.record), &mut out, &mut counts);
         let time = spent() - before;
@@ -164,8 +166,8 @@ mod library {
         Some((ledgers.iter().map(Vec::len).sum(), time))
     }
 
-    /// Docs/DECISIONS, "Ledger answers longer than 32 bits can count": with a few cells lent it is
-    /// refused without a walk through all rows.
+    /// A ledger longer than 32 bits can count (Rules 7.10): with a few cells lent it is refused
+    /// without a walk through all rows.
     pub fn refusal(rounds: usize) {
         let (campaign, nation) = overlong();
         let record = pack(&campaign);

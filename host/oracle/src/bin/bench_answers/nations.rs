@@ -2,6 +2,7 @@
 
 use std::hint::black_box;
 
+use chronicle::rows::{CHANGE_WORDS, COUNT_WORDS, ENTRY_WORDS, NATION_WORDS};
 use chronicle_oracle::rust::Rust;
 use chronicle_trial::extremes::{late_changes, nations, rising};
 use chronicle_trial::generate::{counts_of, sized};
@@ -59,8 +60,14 @@ pub fn ours(record: &[u8], campaign: &Campaign) -> Option<Timed> {
     let events: usize = campaign.provinces.iter().map(|province| province.events.len()).sum();
     let switches: usize = campaign.countries.iter().map(|c| c.switches.len()).sum();
     let [countries, provinces] = [campaign.countries.len(), campaign.provinces.len()];
-    let cells =
-        [5 * countries, 3 * (2 * events + switches), provinces + 1, countries, 4 * events, 5];
+    let cells = [
+        NATION_WORDS * countries,
+        ENTRY_WORDS * (2 * events + switches),
+        provinces + 1,
+        countries,
+        CHANGE_WORDS * events,
+        COUNT_WORDS,
+    ];
     let mut lent = cells.map(|length| vec![0; length]);
     let [nations, entries, holders, held, changes, counts] = lent.each_mut().map(|v| &mut v[..]);
     let room = chronicle::raw::Room { nations, entries, holders, held, changes, counts };

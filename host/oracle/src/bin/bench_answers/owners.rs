@@ -2,6 +2,7 @@
 
 use std::hint::black_box;
 
+use chronicle::rows::CHANGE_WORDS;
 use chronicle_oracle::rust::Rust;
 use chronicle_trial::extremes::{in_order, owners, reversed, rising};
 use chronicle_trial::pack::{pack, Campaign};
@@ -73,7 +74,7 @@ fn theirs(rust: &Rust) -> Timed {
 
 fn ours(record: &[u8], campaign: &Campaign) -> Option<Timed> {
     let events: usize = campaign.provinces.iter().map(|province| province.events.len()).sum();
-    let mut out = vec![0; 4 * events];
+    let mut out = vec![0; CHANGE_WORDS * events];
     let before = spent();
     let rows = black_box(chronicle::raw::province_owners(black_box(record), &mut out));
     let time = spent() - before;

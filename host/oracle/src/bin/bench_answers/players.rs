@@ -4,6 +4,7 @@
 use std::hint::black_box;
 use std::time::Duration;
 
+use chronicle::rows::{HISTORY_WORDS, PLAYER_WORDS};
 use chronicle_oracle::rust::{nation_events, Rust};
 use chronicle_trial::adversary::players::at_limits;
 use chronicle_trial::extremes;
@@ -147,7 +148,7 @@ mod ours {
 
     /// Pairs of players and tags.
     pub fn players(given: &Given) -> Option<Timed> {
-        let mut out = vec![0; 2 * given.counts[1]];
+        let mut out = vec![0; PLAYER_WORDS * given.counts[1]];
         let before = spent();
         let answered = black_box(chronicle::raw::players(black_box(&given.record), &mut out));
         let time = spent() - before;
@@ -157,7 +158,8 @@ mod ours {
     /// A history for each country that was played.
     pub fn histories(given: &Given) -> Option<Timed> {
         let rows = Chronicle { nations: &given.nations, entries: &given.entries };
-        let [mut out, mut names] = [7 * given.counts[0], given.counts[1]].map(|n| vec![0; n]);
+        let [mut out, mut names] =
+            [HISTORY_WORDS * given.counts[0], given.counts[1]].map(|n| vec![0; n]);
         let before = spent();
         let record = black_box(&given.record);
         let answered = black_box(rows.player_histories(record, &mut out, &mut names));

@@ -1,6 +1,10 @@
 //! Each call, and what the Rust does for the same answer.
 
 use chronicle::raw::{self, Chronicle, Room};
+use chronicle::rows::{
+    BOOKING_WORDS, CHANGE_WORDS, COUNT_WORDS, ENTRY_WORDS, HISTORY_WORDS, LEDGER_WORDS,
+    NATION_WORDS, RUN_WORDS,
+};
 use chronicle_oracle::paging;
 use chronicle_oracle::rust::{Resolver, Rust};
 use chronicle_trial::reference::refusal_number;
@@ -55,13 +59,13 @@ fn check(given: &Given, rounds: usize) -> Option<Best> {
 }
 
 fn province_owners(given: &Given, rounds: usize) -> Option<Best> {
-    let mut out = vec![1; 4 * given.counts.owner_events];
+    let mut out = vec![1; CHANGE_WORDS * given.counts.owner_events];
     let ours = || raw::province_owners(&given.record, &mut out).expect(ROOM);
     Some(race(rounds, || given.rust.owners(), ours))
 }
 
 fn events_on(given: &Given, rounds: usize) -> Option<Best> {
-    let mut out = [1; 2];
+    let mut out = [1; RUN_WORDS];
     let theirs = || {
         let owners = given.rust.owners();
         (chronicle_oracle::rust::events_on(&owners, DAY).count, owners)
@@ -71,14 +75,14 @@ fn events_on(given: &Given, rounds: usize) -> Option<Best> {
 
 fn nation_events(given: &Given, rounds: usize) -> Option<Best> {
     let counts = &given.counts;
-    let entries = 3 * (counts.switches + 2 * counts.owner_events);
+    let entries = ENTRY_WORDS * (counts.switches + 2 * counts.owner_events);
     let cells = [
-        5 * counts.countries,
+        NATION_WORDS * counts.countries,
         entries,
         counts.provinces + 1,
         counts.countries,
-        4 * counts.owner_events,
-        5,
+        CHANGE_WORDS * counts.owner_events,
+        COUNT_WORDS,
     ];
     let mut lent = cells.map(|length| vec![1; length]);
     let ours = || {
@@ -139,7 +143,7 @@ fn resolve_each(given: &Given, rounds: usize) -> Option<Best> {
 }
 
 fn war_participants(given: &Given, rounds: usize) -> Option<Best> {
-    let mut out = vec![1; 3 * given.counts.war_events];
+    let mut out = vec![1; BOOKING_WORDS * given.counts.war_events];
     let ours = || lent(given).war_participants(&given.record, &mut out).expect(ROOM);
     Some(race(rounds, || given.rust.war_participants(&given.theirs), ours))
 }
@@ -149,7 +153,7 @@ fn their_ledger(given: &Given) -> Vec<LedgerPoint> {
 }
 
 fn nation_ledger(given: &Given, rounds: usize) -> Option<Best> {
-    let mut out = vec![1; 3 * given.nation_rows];
+    let mut out = vec![1; LEDGER_WORDS * given.nation_rows];
     let ours = || lent(given).nation_ledger(&given.record, given.nation, &mut out).expect(ROOM);
     Some(race(rounds, || their_ledger(given), ours))
 }
@@ -160,7 +164,7 @@ fn nation_ledger_rows(given: &Given, rounds: usize) -> Option<Best> {
 }
 
 fn nation_ledgers(given: &Given, rounds: usize) -> Option<Best> {
-    let (mut out, mut counts) = (vec![1; 3 * given.rows], vec![1; given.theirs.len()]);
+    let (mut out, mut counts) = (vec![1; LEDGER_WORDS * given.rows], vec![1; given.theirs.len()]);
     let theirs = || -> Vec<_> {
         given.theirs.iter().map(|nation| given.rust.ledger_points(nation)).collect()
     };
@@ -175,7 +179,7 @@ fn players(given: &Given, rounds: usize) -> Option<Best> {
 }
 
 fn player_histories(given: &Given, rounds: usize) -> Option<Best> {
-    let mut out = vec![1; 7 * given.counts.countries];
+    let mut out = vec![1; HISTORY_WORDS * given.counts.countries];
     let mut names = vec![1; given.counts.strings];
     let ours = || lent(given).player_histories(&given.record, &mut out, &mut names).expect(ROOM);
     Some(race(rounds, || given.rust.histories(&given.theirs), ours))

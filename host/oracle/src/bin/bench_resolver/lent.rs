@@ -4,6 +4,7 @@ use std::hint::black_box;
 use std::time::Duration;
 
 use chronicle::raw::Chronicle;
+use chronicle::rows::{QUESTION_WORDS, RESOLVED_WORDS};
 use chronicle_oracle::rust::{bytes, nation_events};
 use chronicle_oracle::save;
 use chronicle_oracle::timed::{race, spent};
@@ -99,7 +100,7 @@ impl Lent {
     }
 
     /// Asks us one question; the two words of the answer, and the time.
-    pub fn ask(&self, question: Question) -> ([u32; 2], Duration) {
+    pub fn ask(&self, question: Question) -> ([u32; RESOLVED_WORDS], Duration) {
         let mut out = [0; 2];
         let before = spent();
         let answer = self.rows().ask(black_box(question), black_box(&mut out));
@@ -111,10 +112,11 @@ impl Lent {
     /// Many questions at once, by turns.
     pub fn race_many(&self, name: &str, many: usize, rounds: usize) {
         let asked = self.many(many);
-        let question = |&[tag, date]: &[u32; 2]| (save::tag(tag_of_word(tag)), save::date(date));
+        let question =
+            |&[tag, date]: &[u32; QUESTION_WORDS]| (save::tag(tag_of_word(tag)), save::date(date));
         let questions: Vec<_> = asked.iter().map(question).collect();
         let mut found = vec![None; many];
-        let mut out = vec![0; 2 * many];
+        let mut out = vec![0; RESOLVED_WORDS * many];
         let theirs = |_: usize| {
             let before = spent();
             let resolver = TagResolver::create(black_box(&self.theirs));
@@ -139,7 +141,7 @@ impl Lent {
     }
 
     /// Questions about tags and days of the list.
-    pub fn many(&self, many: usize) -> Vec<[u32; 2]> {
+    pub fn many(&self, many: usize) -> Vec<[u32; RESOLVED_WORDS]> {
         let mut tags: Vec<u32> = self.nations.iter().map(|n| tag_word(n.initial)).collect();
         let mut days = vec![10101];
         for entry in self.nations.iter().flat_map(|nation| &nation.entries) {
@@ -165,6 +167,6 @@ fn answered(resolver: &TagResolver, question: Question) -> Option<TagData> {
     }
 }
 
-fn words(data: TagData) -> [u32; 2] {
+fn words(data: TagData) -> [u32; RESOLVED_WORDS] {
     [data.current, data.stored].map(|tag| tag_word(bytes(tag)))
 }

@@ -5,6 +5,7 @@ use std::process::ExitCode;
 use std::sync::Arc;
 use std::thread;
 
+use chronicle::rows::RESOLVED_WORDS;
 use chronicle_oracle::timed::heading;
 use chronicle_trial::extremes::{self, nations};
 use chronicle_trial::model;
@@ -107,7 +108,7 @@ fn stack(lent: Lent) {
     }
     within(many, move || {
         let asked = lent.many(MANY);
-        let mut out = vec![0; 2 * MANY];
+        let mut out = vec![0; RESOLVED_WORDS * MANY];
         assert_eq!(lent.rows().resolve_each(asked.as_flattened(), &mut out), Ok(MANY));
     });
     println!("\nstack: each form ran in a thread of {STACK_OF_ONE} KiB, many questions in one of {STACK_OF_MANY} KiB");

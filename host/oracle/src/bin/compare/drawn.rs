@@ -3,14 +3,14 @@
 use chronicle_oracle::{ledgers, paging, playing, resolving};
 use chronicle_trial::adversary::players;
 use chronicle_trial::cases::Cases;
-use chronicle_trial::demand::Met;
 use chronicle_trial::generate::Random;
+use chronicle_trial::guarantee::Met;
 use chronicle_trial::pack::pack;
 use chronicle_trial::unpack::unpack;
 
 use crate::limits;
 use crate::progress::Progress;
-use crate::run::{stored, Run, SOME};
+use crate::run::{stored, Run, Stopped, SOME};
 
 /// Shorter runs may miss a hard case by chance.
 const ENOUGH: u64 = 10_000;
@@ -32,8 +32,9 @@ const LOOKED_FOR: [&str; 10] = [
     "row: player",
 ];
 
-/// Compares them all, and those at the limits, and says what was met; what each met at the limits is told apart.
-pub fn all(run: &mut Run, campaigns: u64, seed: u64, extremes: usize) -> Result<(), String> {
+/// Compares them all, and those at the limits, and says what was met; what each met at the limits is told apart. Gives
+/// what was compared.
+pub fn all(run: &mut Run, campaigns: u64, seed: u64, extremes: usize) -> Result<String, Stopped> {
     let of_the_library = resolving::looked_for()
         .chain(ledgers::looked_for())
         .chain(playing::looked_for())
@@ -41,17 +42,22 @@ pub fn all(run: &mut Run, campaigns: u64, seed: u64, extremes: usize) -> Result<
     for what in LOOKED_FOR.into_iter().chain(of_the_library) {
         run.seen.add(what, 0);
     }
-    run.seen.demand(&Met::default());
+    run.seen.guarantee(&Met::default());
     small(run, campaigns, seed)?;
     damaged(run, campaigns / 4, seed)?;
-    near_limits_of_pages(run, seed)?;
-    limits::all(run, extremes, seed)?;
+    let pages = near_limits_of_pages(run, seed)?;
+    let at_limits = limits::all(run, extremes, seed)?;
     println!("\n{}", run.seen);
     let never = run.seen.never();
     if campaigns >= ENOUGH && !never.is_empty() {
-        return Err(format!("never met, so the run says too little: {}", never.join("; ")));
+        let message = format!("never met, so the run says too little: {}", never.join("; "));
+        return Err(Stopped::TooLittle(message));
     }
-    Ok(())
+    let damaged = campaigns / 4;
+    Ok(format!(
+        "{campaigns} small campaigns, {damaged} damaged records, {pages} pages near their limits and {at_limits} \
+         of the campaigns at the limits, seed {seed}"
+    ))
 }
 
 fn small(run: &mut Run, campaigns: u64, seed: u64) -> Result<(), String> {
@@ -73,7 +79,7 @@ fn small(run: &mut Run, campaigns: u64, seed: u64) -> Result<(), String> {
     Ok(())
 }
 
-/// What 01 refuses, the Rust has no say in; what it accepts, all are asked about again.
+/// What the rules refuse, the Rust has no say in; what it accepts, all are asked about again.
 fn damaged(run: &mut Run, records: u64, seed: u64) -> Result<(), String> {
     let mut cases = Cases::new(seed);
     let mut progress = Progress::of("damaged records", records);
@@ -90,7 +96,7 @@ fn damaged(run: &mut Run, records: u64, seed: u64) -> Result<(), String> {
     Ok(())
 }
 
-fn near_limits_of_pages(run: &mut Run, seed: u64) -> Result<(), String> {
+fn near_limits_of_pages(run: &mut Run, seed: u64) -> Result<usize, String> {
     let program = paging::Printed::new(seed);
     let mut seen = std::mem::take(&mut run.seen);
     let pages = paging::near_limits(
@@ -100,5 +106,5 @@ fn near_limits_of_pages(run: &mut Run, seed: u64) -> Result<(), String> {
     )?;
     run.seen = seen;
     println!("{pages} pages near their limits, seed {seed}: no difference");
-    Ok(())
+    Ok(pages)
 }

@@ -1,4 +1,4 @@
-//! Campaigns at 01's limits.
+//! Campaigns at the limits of a record (Rules 1.4).
 
 use chronicle_oracle::compare::compare_with;
 use chronicle_oracle::seen::Seen;
@@ -13,20 +13,20 @@ use crate::run::{Run, SOME};
 const MET: [&str; 5] = [
     "row: booking",
     "library: booking",
-    "demand: a nation on a day",
+    "guarantee: a nation on a day",
     "row: player",
     "row: history",
 ];
 
-/// Compares the first so many of them.
-pub fn all(run: &Run, extremes: usize, seed: u64) -> Result<(), String> {
+/// Compares the first so many of them, and says how many there were.
+pub fn all(run: &Run, extremes: usize, seed: u64) -> Result<usize, String> {
     for (number, (name, campaign)) in extremes::ALL.iter().take(extremes).enumerate() {
         eprintln!("at the limits, {name}");
         let told = one(run, &players::at_limits(campaign(), number), seed)
             .map_err(|difference| format!("{name}: {difference}"))?;
         println!("at the limits, {name}: no difference; {told}");
     }
-    Ok(())
+    Ok(extremes.min(extremes::ALL.len()))
 }
 
 /// Compares a campaign, and tells what was met.
@@ -47,19 +47,19 @@ fn one(run: &Run, campaign: &Campaign, seed: u64) -> Result<String, String> {
     ))
 }
 
-/// Bookings and demand 3. The Rust gives fewer rows where a list is too large for it.
+/// Bookings and the guarantee. The Rust gives fewer rows where a list is too large for it.
 fn at_war(seen: &Seen) -> String {
     let times = |what: &str| seen.times(what);
-    let [attacks, defends] =
-        ["attacker", "defender"].map(|side| times(&format!("demand: worn alone, joins as {side}")));
+    let [attacks, defends] = ["attacker", "defender"]
+        .map(|side| times(&format!("guarantee: worn alone, joins as {side}")));
     format!(
         "bookings: {} rows by the Rust, {} by the library ({} of the lists too large for the \
-         Rust); demand 3: {} pairs, {} worn alone, {} joining alone",
+         Rust); guarantee: {} pairs, {} worn alone, {} joining alone",
         times("row: booking"),
         times("library: booking"),
         times("list: too large for the Rust's resolver"),
-        times("demand: a nation on a day"),
-        times("demand: worn alone"),
+        times("guarantee: a nation on a day"),
+        times("guarantee: worn alone"),
         attacks + defends,
     )
 }

@@ -8,10 +8,10 @@ use chronicle_trial::pack::pack;
 use chronicle_trial::unpack::unpack;
 
 use crate::progress::Progress;
-use crate::run::{asked_about, stored, Run};
+use crate::run::{asked_about, stored, Run, Stopped};
 
-/// Compares each record, and says what was met.
-pub fn all(run: &mut Run, records: &[PathBuf]) -> Result<(), String> {
+/// Compares each record, and says what was met. Gives what was compared.
+pub fn all(run: &mut Run, records: &[PathBuf]) -> Result<String, Stopped> {
     let mut refused = 0;
     let mut progress = Progress::of("records", records.len() as u64);
     for (number, path) in records.iter().enumerate() {
@@ -21,9 +21,10 @@ pub fn all(run: &mut Run, records: &[PathBuf]) -> Result<(), String> {
         refused += usize::from(!one(run, &bytes, number as u64).map_err(told)?);
     }
     drop(progress);
-    println!("{} records, {refused} of them refused: no difference\n", records.len());
+    let compared = format!("{} records, {refused} of them refused", records.len());
+    println!("{compared}: no difference\n");
     println!("{}", run.seen);
-    Ok(())
+    Ok(compared)
 }
 
 /// Compares a record; whether it is accepted.

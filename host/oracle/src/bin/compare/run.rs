@@ -20,6 +20,21 @@ const SMALL: usize = 20_000;
 /// With more bytes than this, to compare everything at each try would take very long.
 const LARGE: usize = 2_000_000;
 
+/// Why a run does not end well.
+#[derive(Debug)]
+pub enum Stopped {
+    /// At a difference, or where something cannot be read.
+    Difference(String),
+    /// It went through, and met too little.
+    TooLittle(String),
+}
+
+impl From<String> for Stopped {
+    fn from(message: String) -> Stopped {
+        Stopped::Difference(message)
+    }
+}
+
 /// What is compared with, and what was met.
 pub struct Run {
     falsified: Option<Falsified>,

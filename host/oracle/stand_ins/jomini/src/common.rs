@@ -1,4 +1,4 @@
-//! jomini's date, by the order of 01 and the day number of 02 K8.
+//! jomini's date: its order is that of numbers (Rules 1.3), its days are counted without leap days.
 
 /// Days before each month's first; there are no leap days.
 const DAYS_BEFORE: [u32; 12] = [0, 31, 59, 90, 120, 151, 181, 212, 243, 273, 304, 334];
@@ -9,9 +9,8 @@ pub trait PdsDate {
     fn year(&self) -> i16;
 }
 
-/// A date as 01 writes it: year×10000 + month×100 + day.
-///
-/// One number, since "date order is number order": no date the Rust could have compares quicker.
+/// A date as a record has it (Rules 1.3), a single number: no date the Rust could have compares
+/// quicker.
 #[derive(Clone, Copy, Debug, PartialEq, Eq, PartialOrd, Ord, Hash)]
 pub struct Date(u32);
 
@@ -21,12 +20,12 @@ impl Date {
         Date(year as u32 * 10_000 + u32::from(month) * 100 + u32::from(day))
     }
 
-    /// The date 01 writes as this number, taken to be good.
+    /// The date that a record writes as this number, taken to be good.
     pub fn from_number(number: u32) -> Date {
         Date(number)
     }
 
-    /// The number 01 writes for this date.
+    /// The number that a record has for this date.
     pub fn number(self) -> u32 {
         self.0
     }

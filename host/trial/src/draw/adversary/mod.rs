@@ -1,6 +1,6 @@
 //! Small campaigns that are hard to agree about: few tags, few dates, and everything meets.
 //!
-//! Every campaign drawn here is one whose record 01 accepts, and its strings are UTF-8; players that
+//! Every campaign drawn here is one whose record is accepted, and its strings are UTF-8; players that
 //! are added to it may have other names.
 
 pub mod ledgers;

@@ -113,9 +113,9 @@ impl Target {
                 unreachable!("a flip is a write");
             };
             let both = [value, 1 << bit];
-            self.add(Refusal::UndefinedFlagOrKind, offset, 1, &both);
+            self.add(Refusal::UndefinedFlag, offset, 1, &both);
         }
-        self.add(Refusal::UndefinedFlagOrKind, offset, 1, &[0, 3, 7, 255]);
+        self.add(Refusal::UndefinedFlag, offset, 1, &[0, 3, 7, 255]);
     }
 
     pub(super) fn add_countries(&mut self, at: &Sections) {
@@ -163,7 +163,7 @@ impl Target {
         for offset in at.war_events.clone().step_by(layout::WAR_EVENT) {
             self.add_date(offset);
             let kinds = [0, 1, 2, 3, 4, 5, 6, 7, 8, 128, 132, 255];
-            self.add(Refusal::UndefinedFlagOrKind, offset + 4, 1, &kinds);
+            self.add(Refusal::UndefinedFlag, offset + 4, 1, &kinds);
             self.add_tag(offset + 5);
         }
     }

@@ -1,4 +1,4 @@
-//! Records at the edges of 01's rules, each with the number that 01 gives it.
+//! Records at the edges of the rules, each with the number that they give it (Rules 2).
 //!
 //! The numbers are written here by hand; neither checker is asked.
 

@@ -56,8 +56,7 @@ pub fn yearly(campaign: Campaign) -> Campaign {
 /// Words of the ledger that [`overlong`] has.
 pub const OVERLONG_WORDS: usize = 4_914_708_480;
 
-/// A campaign and a nation whose ledger has more words than 32 bits can count: docs/DECISIONS,
-/// "Ledger answers longer than 32 bits can count".
+/// A campaign and a nation whose ledger has more words than 32 bits can count (Rules 7.10).
 ///
 /// ```
 /// use chronicle_trial::{extremes::overlong, model::spans};

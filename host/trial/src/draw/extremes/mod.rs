@@ -1,4 +1,4 @@
-//! Campaigns at 01's limits, each with a shape that somebody's algorithm may dislike.
+//! Campaigns at the limits (Rules 1.4), each with a shape that somebody's algorithm may dislike.
 
 mod ledgers;
 pub mod pages;

@@ -1,12 +1,12 @@
-//! Counts by 01's letters.
+//! Counts by the letters of Rules 1.4.
 
 use chronicle::layout::Counts;
 
-/// Counts by 01's letters; those not named are 0.
+/// Counts by the letters of Rules 1.4; those not named are 0.
 ///
 /// # Panics
 ///
-/// If a letter is none of 01's.
+/// If a letter is none of those.
 ///
 /// ```
 /// use chronicle_trial::generate::counts_of;
@@ -34,6 +34,6 @@ fn place(counts: &mut Counts, letter: char) -> &mut usize {
         'V' => &mut counts.war_events,
         'G' => &mut counts.ledger_names,
         'Y' => &mut counts.points,
-        _ => panic!("01 has no count {letter}"),
+        _ => panic!("the head has no count {letter}"),
     }
 }

@@ -1,6 +1,6 @@
 //! Seeded campaigns: ordinary ones, small adversarial ones, and ones of a wanted size.
 //!
-//! Every campaign made here is one whose record 01 accepts.
+//! Every campaign made here is one whose record is accepted.
 
 mod counts;
 mod game;

@@ -1,4 +1,4 @@
-//! The worked record of 01, and a richer one of our own.
+//! The worked record (Rules 9.10), and a richer one of our own.
 
 mod isles;
 

@@ -1,4 +1,4 @@
-//! An independent checker of packed records, written from 01 alone.
+//! An independent checker of packed records, written from the rules alone.
 //!
 //! It shares nothing with the proved function and is what that function is compared with, in
 //! answers and in time.
@@ -38,7 +38,7 @@ pub fn refusal_number(record: &[u8]) -> u8 {
     crate::number(inspect(record))
 }
 
-/// Makes 01's checks in 01's order: 1, 2, 3, then fields in file order, then 7, then 8.
+/// Makes the checks in the order of Rules 2.12: 1, 2, 3, then fields in file order, then 7, then 8.
 ///
 /// ```
 /// use chronicle::Refusal;
@@ -175,7 +175,7 @@ fn check_province(row: &[u8; layout::PROVINCE]) -> Result<(), Refusal> {
 
 fn check_war_event(row: &[u8; layout::WAR_EVENT]) -> Result<(), Refusal> {
     check_date(date_at(row, 0))?;
-    require(row[4] <= LAST_KIND, Refusal::UndefinedFlagOrKind)?;
+    require(row[4] <= LAST_KIND, Refusal::UndefinedFlag)?;
     check_tag([row[5], row[6], row[7]])
 }
 
@@ -189,7 +189,7 @@ pub(crate) fn check_tag(tag: [u8; 3]) -> Result<(), Refusal> {
 }
 
 fn check_flags(flags: u8, defined: u8) -> Result<(), Refusal> {
-    require(flags & !defined == 0, Refusal::UndefinedFlagOrKind)
+    require(flags & !defined == 0, Refusal::UndefinedFlag)
 }
 
 pub(crate) fn check_date(date: u32) -> Result<(), Refusal> {
