@@ -38,6 +38,7 @@ laid_out() {
 }
 step python3 tools/check_text.py
 step python3 tools/check_rules.py
+step python3 tools/check_exports.py
 mkdir -p target
 for crate in $(sed -n 's/^\([a-z_]*\)[ :].*/\1/p' crates.txt); do
     if echo "$crates" | grep -qx "$crate" && [ -d "crates/$crate" ]; then

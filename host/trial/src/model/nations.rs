@@ -51,8 +51,8 @@ fn initial(country: &Country) -> Tag {
     switched.or(country.previous_tags.first().copied()).unwrap_or(country.tag)
 }
 
-/// A switch leads to the next one's `from`; the last of n leads to previous tag number n, counted
-/// from 0, else to the country's own tag.
+/// A switch leads to the next one's `from`; the last of n leads to entry n (from 0) of the
+/// previous tags, else to the country's own tag.
 fn switch_entries(country: &Country) -> Vec<Entry> {
     let count = country.switches.len();
     let last = country.previous_tags.get(count).copied().unwrap_or(country.tag);
