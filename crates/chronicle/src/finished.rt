@@ -25,7 +25,6 @@ pub struct FinishedAnswer {
 /// bookings as `war_participants` does. Asks the resolver, set to the day, for the tag on that day. Both are lent the
 /// rows of nations and entries just written, and no others. Refused are, by `BadQuestion`, a bad tag or a bad day, and
 /// by `NoRoom` a slice that is too short; then all are left as they were.
-// The slices are lent one by one: of a struct of them nothing is known after a call (PROVING L6).
 pub fn finish_chronicle_of(
     opened: Record<'_>,
     tag: CountryTag,
@@ -42,6 +41,7 @@ pub fn finish_chronicle_of(
         ≡ call_finish_chronicle opened.entry.bytes.now tag.0 day.0
         (lent_slices nations.old entries.old holders.old held.old changes.old bookings.old) }
 {
+    // The slices are lent one by one: of a struct of them nothing is known after a call (PROVING L6).
     if !(tag.is_valid() & day.is_valid()) {
         return Err(Refusal::BadQuestion);
     }

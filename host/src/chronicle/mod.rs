@@ -134,8 +134,8 @@ impl<'a> Chronicle<'a> {
     /// let chronicle = record.chronicle()?;
     /// let scotland = chronicle.nations().find(|n| n.stored.as_str() == "SCO").unwrap();
     /// let told: Vec<String> =
-    ///     scotland.entries.iter().map(|e| format!("{} {:?}", e.date, e.kind)).collect();
-    /// assert_eq!(told, ["1461-01-01 Annexed", "1475-01-01 Appeared"]);
+    ///     scotland.entries.iter().map(|e| format!("{:?} {}", e.kind, e.date)).collect();
+    /// assert_eq!(told, ["Annexed 1461-01-01", "Appeared 1475-01-01"]);
     /// # Ok::<(), Refusal>(())
     /// ```
     pub fn nations(&self) -> impl ExactSizeIterator<Item = Nation> + '_ {

@@ -22,6 +22,26 @@ use std::process::{Command, Output};
 
 use chronicle_trial::program::Folder;
 
+/// The commands that answer of a file.
+const ANSWERS: [&str; 16] = [
+    "check",
+    "describe",
+    "owners",
+    "on",
+    "holders",
+    "nations",
+    "living",
+    "resolve",
+    "initial",
+    "wars",
+    "ledger",
+    "players",
+    "histories",
+    "start",
+    "page",
+    "timeline",
+];
+
 /// What a run printed, and how it ended.
 #[derive(Debug, PartialEq, Eq)]
 struct Ran {

@@ -2,31 +2,14 @@
 
 use std::process::Command;
 
-use super::{ended, run, told, written};
-
-const COMMANDS: [&str; 18] = [
-    "check",
-    "describe",
-    "owners",
-    "on",
-    "holders",
-    "nations",
-    "living",
-    "resolve",
-    "initial",
-    "wars",
-    "ledger",
-    "players",
-    "histories",
-    "start",
-    "page",
-    "timeline",
-    "completions",
-    "man",
-];
+use super::{ended, run, told, written, ANSWERS};
 
 const OPTIONS: [&str; 11] =
     ["at", "rows", "most", "from", "to", "changed-only", "part", "strict", "json", "csv", "help"];
+
+fn commands() -> impl Iterator<Item = &'static str> {
+    ANSWERS.into_iter().chain(["completions", "man"])
+}
 
 fn completions(shell: &str) -> String {
     told(run(&["completions", shell]))
@@ -49,7 +32,7 @@ fn offered(words: &[&str]) -> Vec<String> {
 #[test]
 fn bash_completes() {
     assert_eq!(offered(&["chronicle", "na"]), ["nations"]);
-    assert_eq!(offered(&["chronicle", ""]).len(), COMMANDS.len() + 2);
+    assert_eq!(offered(&["chronicle", ""]).len(), commands().count() + 2);
     assert_eq!(
         offered(&["chronicle", "resolve", "--"]),
         ["--at", "--csv", "--help", "--json", "--strict"]
@@ -67,7 +50,7 @@ fn bash_completes() {
 fn every_shell_knows_every_command() {
     for shell in ["bash", "zsh", "fish"] {
         let text = completions(shell);
-        assert!(COMMANDS.iter().all(|command| text.contains(command)), "{shell} {text}");
+        assert!(commands().all(|command| text.contains(command)), "{shell} {text}");
         assert!(OPTIONS.iter().all(|option| text.contains(option)), "{shell} {text}");
         let file = written("completions", text.as_bytes());
         if let Ok(output) = Command::new(shell).args(["-n", file.text()]).output() {
@@ -103,7 +86,7 @@ fn the_manual_page() {
     {
         assert!(page.contains(&format!("\n.SH {heading}\n")), "{heading}");
     }
-    for command in COMMANDS {
+    for command in commands() {
         assert!(page.contains(&format!("\n.TP\n.B {command}")), "{command}");
     }
     for option in OPTIONS {

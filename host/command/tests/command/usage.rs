@@ -1,39 +1,20 @@
 //! Help, version and wrong usage.
 
-use super::{about, run, sample, told};
-
-const COMMANDS: [&str; 16] = [
-    "check",
-    "describe",
-    "owners",
-    "on",
-    "holders",
-    "nations",
-    "living",
-    "resolve",
-    "initial",
-    "wars",
-    "ledger",
-    "players",
-    "histories",
-    "start",
-    "page",
-    "timeline",
-];
+use super::{about, run, sample, told, ANSWERS};
 
 #[test]
 fn help_lists_every_command() {
     let help = told(run(&["--help"]));
     assert_eq!(help, told(run(&["-h"])));
     assert_eq!(help, told(run(&["help"])));
-    for command in COMMANDS {
+    for command in ANSWERS {
         assert!(help.contains(&format!("\n  {command} FILE")), "{command}");
     }
 }
 
 #[test]
 fn help_of_each_command() {
-    for command in COMMANDS {
+    for command in ANSWERS {
         let help = told(run(&[command, "--help"]));
         assert!(help.starts_with(&format!("chronicle {command} FILE")), "{help}");
         assert_eq!(help.contains("--json gives an object"), command != "timeline", "{help}");
@@ -121,7 +102,7 @@ fn values_of_options() {
 #[test]
 fn help_is_eighty_columns_wide() {
     let mut helps = vec![told(run(&["--help"]))];
-    helps.extend(COMMANDS.map(|command| told(run(&[command, "--help"]))));
+    helps.extend(ANSWERS.map(|command| told(run(&[command, "--help"]))));
     for help in helps {
         let long = help.lines().find(|line| line.chars().count() > 80);
         assert_eq!(long, None, "{help}");
