@@ -135,6 +135,10 @@ pub record Wrote (xs : List ℕ) (tag day : ℕ) (before : LentSlices) (counts :
   pub called : ◌≡◌ {A = Outcome NationCounts NationCells} (record { answer = gives counts; memory = after }) (call_nation_events xs before.chronicle)
   pub fit : fits (booking_rows (bookings_of (campaign_of xs) (nations_of (campaign_of xs)))) before.bookings ≡ true
 
+-- So many words stand in a slice that was written so.
+words-inside : (n : ℕ) (words old slice : List ℕ) → n ≡ length words → slice ≡ written words old → n ≤ length slice
+words-inside n words old slice e told = omega (arith, e, ap (λ (l : List ℕ). length l) told, length-append words (drop (length words) old))
+
 module _ {xs : List ℕ} {tag day : ℕ} {before : LentSlices} {counts : NationCounts} {after : NationCells} (w : Wrote xs tag day before counts after) where
   abbrev campaign : Campaign
   campaign = campaign_of xs
@@ -163,24 +167,16 @@ module _ {xs : List ℕ} {tag day : ℕ} {before : LentSlices} {counts : NationC
   pub nations-inside : nation_width * counts.nations ≤ length after.nations
   unfolding counts_of cells_of answers_of
   nations-inside =
-      omega (
-        arith,
-        ap (λ (n : NationCounts). n.nations) counts-told,
-        ap (λ (m : NationCells). length m.nations) after-told,
-        length-nation_words ns,
-        length-append (nation_words ns) (drop (length (nation_words ns)) before.chronicle.nations),
-      )
+      words-inside (nation_width * counts.nations) (nation_words ns) before.chronicle.nations after.nations
+      (omega (arith, ap (λ (n : NationCounts). n.nations) counts-told, length-nation_words ns))
+      (ap (λ (m : NationCells). m.nations) after-told)
 
   pub entries-inside : entry_width * counts.entries ≤ length after.entries
   unfolding counts_of cells_of answers_of
   entries-inside =
-      omega (
-        arith,
-        ap (λ (n : NationCounts). n.entries) counts-told,
-        ap (λ (m : NationCells). length m.entries) after-told,
-        length-entry_words ns,
-        length-append (entry_words ns) (drop (length (entry_words ns)) before.chronicle.entries),
-      )
+      words-inside (entry_width * counts.entries) (entry_words ns) before.chronicle.entries after.entries
+      (omega (arith, ap (λ (n : NationCounts). n.entries) counts-told, length-entry_words ns))
+      (ap (λ (m : NationCells). m.entries) after-told)
 
   -- The front of what nations wrote is what the resolver and the bookings are lent.
   abbrev nation_front : List ℕ
