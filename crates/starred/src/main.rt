@@ -8,19 +8,35 @@ ghost use Rattle.starred.specs.FinishedRows.{FinishedRows};
 mod shown;
 
 use chronicle::{FinishedAnswer, at, finish_chronicle, resolve};
-use format::{CountryTag, Entry, Eu4Date, Refusal, TagData};
+use format::{CountryTag, Entry, Eu4Date, Refusal};
 use record::check;
 use rows::{BOOKING_WIDTH, CHANGE_WIDTH, ENTRY_WIDTH, NATION_WIDTH, Row};
 use shown::Shown;
+use std::fs::File;
 use std::io;
-use stored_input::read_file;
+use std::rt::Files;
+use stored_input::read_full;
 
 // How many bytes the records have, at most. Records and rows have room of a fixed size, since nothing is allocated.
 const RECORD_BYTES: usize = 103;
 
-// The record with another start: its four bytes stand at offset 6.
+// How many events of wars so many bytes have at most: eight each, behind a head of 44. Each is one booking at most.
+const MOST_BOOKINGS: usize = (RECORD_BYTES - 44) / 8;
+
+// Reads a record as far as it comes: nothing of one that cannot be opened.
+fn read_record<'a, F: Files>(rt: &F, name: &str, s: &'a mut [u8]) -> &'a [u8] {
+    let Ok(mut file) = File::open(rt, name) else {
+        return &[];
+    };
+    let n = read_full(&mut file, s).unwrap_or_else(|failed| failed.after);
+    &s[..n]
+}
+
+// The worked record with another start, near its own: the two low bytes of a start stand at offset 6, and the two high ones are the same.
 fn with_start(mut s: [u8; RECORD_BYTES], start: u32) -> [u8; RECORD_BYTES] {
-    s[6..10].copy_from_slice(&start.to_le_bytes());
+    let [low, high, ..] = start.to_le_bytes();
+    s[6] = low;
+    s[7] = high;
     s
 }
 
@@ -35,8 +51,7 @@ fn checks(rt: &impl Print, s: [u8; RECORD_BYTES]) -> io::Result<()> {
     Ok(())
 }
 
-// The finished chronicle of a record of two countries and two provinces at most, and without wars, with whose the tag
-// is on the day. The guarantee holds of its rows.
+// The finished chronicle of a record of two countries and two provinces at most, with whose the tag is on the day. The guarantee holds of its rows.
 fn finished(
     s: &[u8],
     tag: CountryTag,
@@ -49,7 +64,7 @@ fn finished(
     let mut holders = [0u32; 3];
     let mut held = [0u32; 2];
     let mut changes = [0u32; CHANGE_WIDTH * 2];
-    let mut bookings = [0u32; BOOKING_WIDTH];
+    let mut bookings = [0u32; BOOKING_WIDTH * MOST_BOOKINGS];
     finish_chronicle(
         s,
         tag,
@@ -63,21 +78,18 @@ fn finished(
     )
 }
 
-// Whose the tag is.
-fn found(answer: Result<FinishedAnswer, Refusal>) -> Shown<Result<Option<TagData>, Refusal>> {
-    Shown(answer.map(|finished| finished.found))
-}
-
-// Prints the entries of a finished chronicle.
+// Writes the rows of a finished chronicle, and prints all entries that there is room for, those that are not written too.
 fn print_entries(
     rt: &impl Print,
-    entries: &[u32],
-    answer: Result<FinishedAnswer, Refusal>,
+    s: &[u8],
+    tag: CountryTag,
+    day: Eu4Date,
+    nations: &mut [u32],
+    entries: &mut [u32],
 ) -> io::Result<()> {
-    match answer {
-        Ok(finished) => {
-            let rows = entries.as_chunks::<ENTRY_WIDTH>().0;
-            for row in rows.iter().take(finished.counts.entries) {
+    match finished(s, tag, day, nations, entries) {
+        Ok(_) => {
+            for row in entries.as_chunks::<ENTRY_WIDTH>().0 {
                 println!(rt; "{}", Shown(Entry::read(*row)))?;
             }
             Ok(())
@@ -86,8 +98,7 @@ fn print_entries(
     }
 }
 
-// The worked record: its rows, and what the resolver makes of them. Whose a tag is on the day to which the resolver is
-// set, the finished chronicle says; the other questions are asked of its rows.
+// The worked record: its rows, and what the resolver makes of them. It is asked where they are refused too: of cells in which nothing stands.
 fn worked(rt: &impl Print, s: &[u8]) -> io::Result<()> {
     let eng = CountryTag::from_bytes_unchecked(b'E', b'N', b'G');
     let gbr = CountryTag::from_bytes_unchecked(b'G', b'B', b'R');
@@ -96,23 +107,17 @@ fn worked(rt: &impl Print, s: &[u8]) -> io::Result<()> {
     let mut nations = [0u32; NATION_WIDTH * 2];
     let mut entries = [0u32; ENTRY_WIDTH * 3];
     println!(rt; "entries of the worked record:")?;
-    let finished_before = finished(s, eng, before, &mut nations, &mut entries);
-    print_entries(rt, &entries, finished_before)?;
+    print_entries(rt, s, eng, before, &mut nations, &mut entries)?;
     let answer = Shown(resolve(&nations, &entries, gbr, before));
     println!(rt; "resolve GBR on 14480531: {answer}")?;
     let answer = Shown(resolve(&nations, &entries, gbr, on));
     println!(rt; "resolve GBR on 14480601: {answer}")?;
-    println!(rt;
-        "set to 14480531, resolve ENG on 14480531: {}",
-        found(finished_before)
-    )?;
+    let answer = Shown(at(before).resolve_at(&nations, &entries, eng, before));
+    println!(rt; "set to 14480531, resolve ENG on 14480531: {answer}")?;
     let answer = Shown(at(before).initial_at(&nations, &entries, eng));
     println!(rt; "set to 14480531, initial ENG: {answer}")?;
-    let finished_on = finished(s, gbr, on, &mut nations, &mut entries);
-    println!(rt;
-        "set to 14480601, resolve GBR on 14480601: {}",
-        found(finished_on)
-    )
+    let answer = Shown(at(on).resolve_at(&nations, &entries, gbr, on));
+    println!(rt; "set to 14480601, resolve GBR on 14480601: {answer}")
 }
 
 // The record in which GBR's only slot goes from ENG to GBR.
@@ -122,15 +127,14 @@ fn one_slot(rt: &impl Print, s: &[u8]) -> io::Result<()> {
     let mut nations = [0u32; NATION_WIDTH];
     let mut entries = [0u32; ENTRY_WIDTH * 3];
     println!(rt; "entries with one slot, from ENG to GBR:")?;
-    let answer = finished(s, gbr, day, &mut nations, &mut entries);
-    print_entries(rt, &entries, answer)
+    print_entries(rt, s, gbr, day, &mut nations, &mut entries)
 }
 
 fn main(rt: HostRuntime) -> io::Result<()> {
     let mut s = [0u8; RECORD_BYTES];
-    let record = read_file(&rt, "worked.atl", &mut s).unwrap_or(&[]);
+    let record = read_record(&rt, "worked.atl", &mut s);
     worked(&rt, record)?;
     checks(&rt, s)?;
-    let record = read_file(&rt, "one_slot.atl", &mut s).unwrap_or(&[]);
+    let record = read_record(&rt, "one_slot.atl", &mut s);
     one_slot(&rt, record)
 }
