@@ -3,17 +3,19 @@
 //! entries, slots and countries follow; then these, of 4, 3, 5, 3, 1 and 1 numbers each. Held to the record are its changes, days and nations.
 #![tactic(auto)]
 
-ghost use Rattle.std.specs.Prelude.{◌≤◌, ℕ, List, IfOk, OnOk};
+ghost use Rattle.std.specs.Prelude.{◌<◌, ◌≤◌, ℕ, List, IsTrue, length};
 ghost use Rattle.std.specs.Io.KnownBytes.{Consumes};
 
 use format::{DateRun, Eu4Date, NationCounts};
 use rows::{CHANGE_WIDTH, ENTRY_WIDTH, NATION_WIDTH};
 use std::io;
 use std::io::Read;
-use stored_input::{BrokenOff, Counts, Replay, read_numbers, read_part, replay_file, take_part};
+use stored_input::{
+    BrokenOff, Counts, Replay, Stop, next_number, read_numbers, read_part, replay_file, take_part,
+};
 
-// How many bytes a record has at most, and how many rows of each kind a chronicle.
-const RECORD_BYTES: usize = 4096;
+// How many bytes a record has at most, and how many days and rows of each kind a campaign.
+const RECORD_BYTES: usize = 1000;
 
 const MOST_ROWS: usize = 1000;
 
@@ -34,23 +36,32 @@ fn same_owners(s: &[u8], stored: &[u32]) -> bool {
     told == Ok(stored.len() / CHANGE_WIDTH) && words.starts_with(stored)
 }
 
-// How many of the next days have another run of changes than stored.
-fn wrong_days<R: Read>(list: &mut R, s: &[u8], days: u32) -> Result<usize, BrokenOff>
-    ensures few { IfOk result (λ n. n ≤ days) }
-    ensures read { OnOk result ((bytes : List ℕ) × Consumes (R.remaining list.old) (R.remaining list.new) bytes) }
+// Whether the next day has another run of changes than stored. One that the list breaks off in is wrong.
+fn is_wrong_day<R: Read>(list: &mut R, s: &[u8]) -> bool
+    ensures { (bytes : List ℕ) × Consumes (R.remaining list.old) (R.remaining list.new) bytes
+        × (length bytes < 12 → IsTrue result) }
+{
+    let Ok(day) = read_numbers(list) else {
+        return true;
+    };
+    let [date, first, count]: [u32; 3] = day;
+    let run = DateRun {
+        first: first as usize,
+        count: count as usize,
+    };
+    chronicle::events_on(s, Eu4Date::from_word_unchecked(date)) != Ok(run)
+}
+
+// How many of the next days are wrong.
+fn wrong_days<R: Read>(list: &mut R, s: &[u8], days: u32) -> usize
+    ensures few { result ≤ days }
+    ensures read { (bytes : List ℕ) × Consumes (R.remaining list.old) (R.remaining list.new) bytes }
 {
     let mut wrong = 0;
     for _ in 0..days {
-        let [date, first, count]: [u32; 3] = read_numbers(list)?;
-        let run = DateRun {
-            first: first as usize,
-            count: count as usize,
-        };
-        wrong += usize::from(
-            chronicle::events_on(s, Eu4Date::from_word_unchecked(date)) != Ok(run),
-        );
+        wrong += usize::from(is_wrong_day(list, s));
     }
-    Ok(wrong)
+    wrong
 }
 
 // What is stored of a campaign's nations: how many rows and slots, and their words.
@@ -86,13 +97,22 @@ fn same_nations(s: &[u8], stored: ExpectedNations<'_>) -> bool {
 }
 
 impl Replay for Campaigns {
-    ghost use Rattle.std.specs.Prelude.{⊤};
+    ghost use Rattle.std.specs.Prelude.{◌≡◌, ◌≤◌, [], length};
 
-    // Of its cases nothing is promised: what they come to is held to the file stdout.
-    ghost comes_to = { λ _ _ _. ⊤ };
+    // Of its cases it is promised that they have a head: what they come to is held to the file stdout.
+    ghost comes_to = { λ bytes _. 28 ≤ length bytes };
 
-    fn replay<R: Read>(&mut self, len: u32, list: &mut R) -> Result<Counts, BrokenOff> {
-        let [changes, days, nations, entries, slots, countries]: [u32; 6] = read_numbers(list)?;
+    ghost leaves = { λ rest. rest ≡ [] };
+
+    fn replay<R: Read>(&mut self, list: &mut R) -> Result<Option<Counts>, Stop> {
+        let Some(len) = next_number(list)? else {
+            return Ok(None);
+        };
+        let rest: [u32; 6] = read_numbers(list)?;
+        if rest.iter().any(|n| *n as usize > MOST_ROWS) {
+            return Err(Stop::BrokenOff);
+        }
+        let [changes, days, nations, entries, slots, countries] = rest;
         let counts = NationCounts {
             nations: nations as usize,
             entries: entries as usize,
@@ -103,7 +123,7 @@ impl Replay for Campaigns {
         let s = read_part(list, len as usize, &mut self.record)?;
         let owners = read_part(list, CHANGE_WIDTH * counts.changes, &mut self.numbers)?;
         let wrong_owners = usize::from(!same_owners(s, owners));
-        let wrong_days = wrong_days(list, s, days)?;
+        let wrong_days = wrong_days(list, s, days);
         let nation_words = NATION_WIDTH * counts.nations;
         let entry_words = ENTRY_WIDTH * counts.entries;
         let n = nation_words + entry_words + counts.slots + counts.countries;
@@ -116,11 +136,11 @@ impl Replay for Campaigns {
             held: take_part(&mut left, counts.countries)?,
         };
         let wrong_nations = usize::from(!same_nations(s, stored));
-        Ok(Counts {
+        Ok(Some(Counts {
             questions: days as usize,
             wrong: wrong_owners + wrong_days + wrong_nations,
             noticed: 0,
-        })
+        }))
     }
 }
 

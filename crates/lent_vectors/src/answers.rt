@@ -5,7 +5,7 @@ use crate::vector::Vector;
 use format::{CountryTag, HistoryCounts, Refusal};
 use rows::{BOOKING_WIDTH, HISTORY_WIDTH, LEDGER_WIDTH, PLAYER_WIDTH, QUESTION_WIDTH};
 use std::iter;
-use stored_input::Counts;
+use stored_input::{Counts, stored_answer};
 
 // How many cells are lent at most.
 const MOST_CELLS: usize = 4096;
@@ -23,7 +23,7 @@ fn cells_hold<T: Copy + PartialEq + From<u32>>(cells: &[T], words: &[u32]) -> bo
 }
 
 impl<'a> Vector<'a> {
-    // Whether a call, lent the cells, gives the stored value or refusal, and leaves the stored words in them.
+    // Whether a call, lent the cells, gives the value or the stored refusal, and leaves the stored words in them, of a refusal too.
     fn answers<A, F>(&self, value: A, call: F) -> bool
     where
         A: PartialEq + Drop,
@@ -33,7 +33,7 @@ impl<'a> Vector<'a> {
         let mut cells = [BEFORE; MOST_CELLS];
         let room = self.room.min(MOST_CELLS);
         let told = call(&mut cells[..room]).map_err(Refusal::number);
-        told == self.answer.map(|_| value) && cells_hold(&cells, self.words())
+        told == stored_answer(self.number, value) && cells_hold(&cells, self.words)
     }
 
     // The same of a call that is lent cells besides.
@@ -55,25 +55,24 @@ impl<'a> Vector<'a> {
         self.answers(value, |out| call(out, lent)) && cells_hold(cells, besides.words)
     }
 
-    // The words of the answer, none of a refusal.
-    fn words(&self) -> &'a [u32] {
-        self.answer.unwrap_or(&[])
+    // Whether what is stored can be the answer of a ledger: a refusal has no row.
+    fn can_be_ledger(&self) -> bool {
+        self.number == 0 || self.words.len() < LEDGER_WIDTH
     }
 
-    // Whether the history words have the stored starting country, or none.
+    // Whether the history words have the stored starting country, or none. A refusal has none.
     fn starts(&self, histories: &[u32]) -> bool {
         let told = chronicle::starting_country(histories, self.nations, self.entries);
-        let words = self.words();
-        let tag = words
-            .first()
-            .map(|word| CountryTag::from_word_unchecked(*word));
-        words.len() <= 1 && told.map_err(Refusal::number) == self.answer.map(|_| tag)
+        let most = usize::from(self.number == 0);
+        let word = self.words.first();
+        let tag = word.map(|word| CountryTag::from_word_unchecked(*word));
+        self.words.len() <= most && told.map_err(Refusal::number) == stored_answer(self.number, tag)
     }
 
     // Whether what the vector asks is answered as stored.
     fn is_answered(&self) -> bool {
         let (record, nations, entries) = (self.record, self.nations, self.entries);
-        let words = self.words().len();
+        let words = self.words.len();
         match self.asked {
             Asked::Questions(many) => self.answers(many.len() / QUESTION_WIDTH, |out| {
                 chronicle::resolve_each(nations, entries, many, out)
@@ -81,20 +80,29 @@ impl<'a> Vector<'a> {
             Asked::Bookings => self.answers(words / BOOKING_WIDTH, |out| {
                 chronicle::war_participants(record, nations, entries, out)
             }),
-            Asked::NationLedger(counted) => self.answers(words / LEDGER_WIDTH, |out| {
-                chronicle::nation_ledger(record, nations, entries, counted.nation, out)
-            }),
-            Asked::AllLedgers(besides) => {
+            Asked::NationLedger(Some(counted)) => {
+                self.can_be_ledger()
+                    && self.answers(words / LEDGER_WIDTH, |out| {
+                        chronicle::nation_ledger(record, nations, entries, counted.nation, out)
+                    })
+            }
+            Asked::AllLedgers(Some(besides)) => {
                 let mut cells = [u64::from(BEFORE); MOST_CELLS];
-                self.answers_besides(words / LEDGER_WIDTH, besides, &mut cells, |out, counts| {
-                    chronicle::nation_ledgers(record, nations, entries, out, counts)
-                })
+                self.can_be_ledger()
+                    && self.answers_besides(
+                        words / LEDGER_WIDTH,
+                        besides,
+                        &mut cells,
+                        |out, counts| {
+                            chronicle::nation_ledgers(record, nations, entries, out, counts)
+                        },
+                    )
             }
             Asked::Players => self.answers(
                 words / PLAYER_WIDTH,
                 |out| chronicle::players(record, out),
             ),
-            Asked::Histories(besides) => {
+            Asked::Histories(Some(besides)) => {
                 let counts = HistoryCounts {
                     histories: words / HISTORY_WIDTH,
                     names: besides.words.len(),
@@ -105,13 +113,16 @@ impl<'a> Vector<'a> {
                 })
             }
             Asked::StartingCountry(histories) => self.starts(histories),
+            Asked::NationLedger(None) | Asked::AllLedgers(None) | Asked::Histories(None) => false,
         }
     }
 
     // Whether a nation's rows are counted as stored. No other answer is counted before it is written.
     fn is_counted(&self) -> bool {
-        let Asked::NationLedger(counted) = self.asked else {
-            return true;
+        let counted = match self.asked {
+            Asked::NationLedger(Some(counted)) => counted,
+            Asked::NationLedger(None) => return false,
+            _ => return true,
         };
         let told = chronicle::nation_ledger_rows(
             self.record,
@@ -120,13 +131,17 @@ impl<'a> Vector<'a> {
             counted.nation,
             counted.most,
         );
-        told.map_err(Refusal::number) == counted.rows
+        match told {
+            Ok(rows) => counted.number == 0 && counted.rows == rows,
+            Err(refusal) => counted.number == refusal.number() && counted.rows == 0,
+        }
     }
 
-    // How many questions the vector asks, and how many answers are other ones than stored.
+    // How many questions the vector has, and how many answers are other ones than stored. Those asked one at a time only a vector of questions asks.
     pub(crate) fn replayed(&self) -> Counts {
+        let asks_singly = matches!(self.asked, Asked::Questions(_));
         let singly = self.questions.iter().filter(|question| {
-            !is_answered_singly(self.nations, self.entries, question)
+            asks_singly && !is_answered_singly(self.nations, self.entries, question)
         });
         let other = singly.count()
             + usize::from(!self.is_answered())

@@ -1,5 +1,5 @@
-//! What a vector asks, by its kind, with the words that it has besides.
-use stored_input::{BrokenOff, stored_answer};
+//! What a vector asks, by its kind, with the words that it has besides: nothing where it lacks those of its kind.
+use stored_input::BrokenOff;
 
 #[derive(Clone, Copy)]
 pub(crate) enum Asked<'a> {
@@ -7,20 +7,22 @@ pub(crate) enum Asked<'a> {
     Questions(&'a [u32]),
     Bookings,
     // The ledger of a nation, and how many rows it is counted to have.
-    NationLedger(LedgerCount),
-    AllLedgers(Besides<'a>),
+    NationLedger(Option<LedgerCount>),
+    AllLedgers(Option<Besides<'a>>),
     Players,
-    Histories(Besides<'a>),
+    Histories(Option<Besides<'a>>),
     // The starting country of these history words.
     StartingCountry(&'a [u32]),
 }
 
-// A nation's number, how many of its rows to count at most, and how many there are, or the number of a refusal.
+// A nation's number, how many of its rows to count at most, and what counting them gives: the number of a refusal or 0, and how many there are, of a
+// refusal 0.
 #[derive(Clone, Copy)]
 pub(crate) struct LedgerCount {
     pub(crate) nation: usize,
     pub(crate) most: usize,
-    pub(crate) rows: Result<usize, u32>,
+    pub(crate) number: u32,
+    pub(crate) rows: usize,
 }
 
 // How many cells are lent besides those of the answer, and what stands in them afterwards.
@@ -31,20 +33,21 @@ pub(crate) struct Besides<'a> {
 }
 
 impl LedgerCount {
-    fn new(words: &[u32]) -> Result<LedgerCount, BrokenOff> {
-        let [nation, most, number, rows] = *words.as_array::<4>().ok_or(BrokenOff)?;
-        Ok(LedgerCount {
+    fn new(words: &[u32]) -> Option<LedgerCount> {
+        let [nation, most, number, rows] = *words.as_array::<4>()?;
+        Some(LedgerCount {
             nation: nation as usize,
             most: most as usize,
-            rows: stored_answer(number, rows as usize),
+            number,
+            rows: rows as usize,
         })
     }
 }
 
 impl<'a> Besides<'a> {
-    fn new(words: &'a [u32]) -> Result<Besides<'a>, BrokenOff> {
-        let (room, words) = words.split_first().ok_or(BrokenOff)?;
-        Ok(Besides {
+    fn new(words: &'a [u32]) -> Option<Besides<'a>> {
+        let (room, words) = words.split_first()?;
+        Some(Besides {
             room: *room as usize,
             words,
         })
@@ -57,10 +60,10 @@ impl<'a> Asked<'a> {
         match kind {
             0 => Ok(Asked::Questions(words)),
             1 => Ok(Asked::Bookings),
-            2 => Ok(Asked::NationLedger(LedgerCount::new(words)?)),
-            3 => Ok(Asked::AllLedgers(Besides::new(words)?)),
+            2 => Ok(Asked::NationLedger(LedgerCount::new(words))),
+            3 => Ok(Asked::AllLedgers(Besides::new(words))),
             4 => Ok(Asked::Players),
-            5 => Ok(Asked::Histories(Besides::new(words)?)),
+            5 => Ok(Asked::Histories(Besides::new(words))),
             6 => Ok(Asked::StartingCountry(words)),
             _ => Err(BrokenOff),
         }

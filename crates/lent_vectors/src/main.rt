@@ -21,13 +21,16 @@ mod vector;
 
 use std::io;
 use std::io::Read;
-use stored_input::{BrokenOff, Counts, Replay, read_numbers, read_part, replay_file};
+use stored_input::{
+    BrokenOff, Counts, Replay, Stop, read_full, read_numbers, read_part, replay_file,
+};
 use vector::{HEAD, Vector};
 
-// How many bytes the record of a vector has at most, and how many numbers the vector behind its head.
-const RECORD_BYTES: usize = 16384;
-
+// How many numbers a vector has at most, its head among them, and how many bytes its record. Where a list tells of more, it is read as if it told of so
+// many.
 const VECTOR_NUMBERS: usize = 4096;
+
+const RECORD_BYTES: usize = 4096;
 
 // Room for the record of a vector, and for its numbers: of a fixed size, since nothing is allocated.
 #[derive(Drop)]
@@ -37,18 +40,29 @@ struct Vectors {
 }
 
 impl Replay for Vectors {
-    ghost use Rattle.std.specs.Prelude.{⊤};
+    ghost use Rattle.std.specs.Prelude.{◌<◌, ◌≤◌, length};
 
-    // Of its cases nothing is promised: each is of one of seven kinds, and what they come to is held to the file stdout.
-    ghost comes_to = { λ _ _ _. ⊤ };
+    // Of its cases it is promised that they have a count and a head: each is of one of seven kinds, and what they come to is held to the file stdout.
+    ghost comes_to = { λ bytes _. 44 ≤ length bytes };
 
-    fn replay<R: Read>(&mut self, count: u32, list: &mut R) -> Result<Counts, BrokenOff> {
+    ghost leaves = { λ rest. length rest < 4 };
+
+    // A list whose next number breaks off, or cannot be read, has no vector more.
+    fn replay<R: Read>(&mut self, list: &mut R) -> Result<Option<Counts>, Stop> {
+        let mut count = [0u8; 4];
+        match read_full(list, &mut count) {
+            Ok(4) => {}
+            Ok(_) => return Ok(None),
+            Err(_) => return Err(Stop::Unread),
+        }
+        let n = (u32::from_le_bytes(count) as usize).min(VECTOR_NUMBERS);
+        let behind = n.checked_sub(HEAD).ok_or(BrokenOff)?;
         let head: [u32; HEAD] = read_numbers(list)?;
-        let n = (count as usize).checked_sub(HEAD).ok_or(BrokenOff)?;
-        let numbers = read_part(list, n, &mut self.numbers)?;
+        let numbers = read_part(list, behind, &mut self.numbers)?;
         let [.., bytes] = head;
-        let record = read_part(list, bytes as usize, &mut self.record)?;
-        Ok(Vector::new(head, numbers, record)?.replayed())
+        let bytes = (bytes as usize).min(RECORD_BYTES);
+        let record = read_part(list, bytes, &mut self.record)?;
+        Ok(Some(Vector::new(head, numbers, record)?.replayed()))
     }
 }
 

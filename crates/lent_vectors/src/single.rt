@@ -1,6 +1,5 @@
 //! Questions about a lent chronicle, asked one at a time.
-use format::{CountryTag, Eu4Date, Refusal, TagData};
-use stored_input::{BrokenOff, stored_answer};
+use format::{CountryTag, Eu4Date};
 
 // How many numbers a question has, with its answer.
 pub(crate) const SINGLE_WIDTH: usize = 7;
@@ -14,22 +13,20 @@ enum Form {
     InitialAt,
 }
 
-impl TryFrom<u32> for Form {
-    type Error = BrokenOff;
-
-    fn try_from(form: u32) -> Result<Form, BrokenOff> {
+impl From<u32> for Form {
+    fn from(form: u32) -> Form {
         match form {
-            0 => Ok(Form::Resolve),
-            1 => Ok(Form::Initial),
-            2 => Ok(Form::ResolveAt),
-            3 => Ok(Form::InitialAt),
-            _ => Err(BrokenOff),
+            0 => Form::Resolve,
+            1 => Form::Initial,
+            2 => Form::ResolveAt,
+            // A greater number is the last form too.
+            _ => Form::InitialAt,
         }
     }
 }
 
 // Whether a question is answered as it is stored: its form, a day, a tag and a date; then a refusal's number or 0, and the two tags of an
-// answer, of which nothing has zeros. Tag and dates are not tested here: some are bad, and the call is to refuse them.
+// answer, of which nothing and a refusal have zeros. Tag and dates are not tested here: some are bad, and the call is to refuse them.
 pub(crate) fn is_answered_singly(
     nations: &[u32],
     entries: &[u32],
@@ -39,16 +36,16 @@ pub(crate) fn is_answered_singly(
     let dated = chronicle::at(Eu4Date::from_word_unchecked(day));
     let tag = CountryTag::from_word_unchecked(tag);
     let date = Eu4Date::from_word_unchecked(date);
-    let answer = match Form::try_from(form) {
-        Ok(Form::Resolve) => chronicle::resolve(nations, entries, tag, date),
-        Ok(Form::Initial) => chronicle::initial(nations, entries, tag),
-        Ok(Form::ResolveAt) => dated.resolve_at(nations, entries, tag, date),
-        Ok(Form::InitialAt) => dated.initial_at(nations, entries, tag),
-        Err(BrokenOff) => return false,
+    let answer = match Form::from(form) {
+        Form::Resolve => chronicle::resolve(nations, entries, tag, date),
+        Form::Initial => chronicle::initial(nations, entries, tag),
+        Form::ResolveAt => dated.resolve_at(nations, entries, tag, date),
+        Form::InitialAt => dated.initial_at(nations, entries, tag),
     };
-    let found = (current != 0).then_some(TagData {
-        current: CountryTag::from_word_unchecked(current),
-        stored: CountryTag::from_word_unchecked(stored),
-    });
-    answer.map_err(Refusal::number) == stored_answer(number, found)
+    let told = match answer {
+        Ok(Some(found)) => [0, u32::from(found.current), u32::from(found.stored)],
+        Ok(None) => [0, 0, 0],
+        Err(refusal) => [refusal.number(), 0, 0],
+    };
+    told == [number, current, stored]
 }

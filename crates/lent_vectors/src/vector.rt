@@ -1,7 +1,7 @@
 //! A stored vector: a record, a chronicle that is lent, what is asked about them, and the answer.
 use crate::asked::Asked;
 use crate::single::SINGLE_WIDTH;
-use stored_input::{BrokenOff, stored_answer, take_part};
+use stored_input::{BrokenOff, take_part};
 
 // How many numbers a head has.
 pub(crate) const HEAD: usize = 10;
@@ -16,9 +16,10 @@ pub(crate) struct Vector<'a> {
     pub(crate) questions: &'a [[u32; SINGLE_WIDTH]],
     pub(crate) asked: Asked<'a>,
 
-    // How many cells are lent for the answer, and the answer: what stands in them afterwards, or the number of a refusal.
+    // How many cells are lent for the answer, the number of its refusal or 0, and what stands in the cells afterwards.
     pub(crate) room: usize,
-    pub(crate) answer: Result<&'a [u32], u32>,
+    pub(crate) number: u32,
+    pub(crate) words: &'a [u32],
     pub(crate) is_falsified: bool,
 }
 
@@ -38,7 +39,7 @@ impl<'a> Vector<'a> {
             besides,
             room,
             number,
-            answer,
+            words,
             _,
         ] = head;
         let mut left = numbers;
@@ -46,7 +47,7 @@ impl<'a> Vector<'a> {
         let entries = take_part(&mut left, entries as usize)?;
         let questions = take_part(&mut left, SINGLE_WIDTH * questions as usize)?;
         let besides = take_part(&mut left, besides as usize)?;
-        let answer = take_part(&mut left, answer as usize)?;
+        let words = take_part(&mut left, words as usize)?;
         if !left.is_empty() {
             return Err(BrokenOff);
         }
@@ -57,7 +58,8 @@ impl<'a> Vector<'a> {
             questions: questions.as_chunks().0,
             asked: Asked::new(kind, besides)?,
             room: room as usize,
-            answer: stored_answer(number, answer),
+            number,
+            words,
             is_falsified: falsified != 0,
         })
     }

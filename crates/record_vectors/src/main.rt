@@ -1,13 +1,17 @@
 //! Replays the stored records of vectors.bin, each a length in 32 bits, its expected number and its bytes, and counts the wrong answers.
 #![tactic(auto)]
 
-ghost use Rattle.std.specs.Prelude.{◌≡◌, not, eqb};
+ghost use Rattle.std.specs.Prelude.{◌≡◌, ◌≤◌, not, eqb};
 ghost use Rattle.format.specs.RecordNumber.{refusal};
+ghost use Rattle.record_vectors.specs.Vectors.{told_length, told_wrong};
 
 use format::Refusal;
 use std::io;
 use std::io::Read;
-use stored_input::{BrokenOff, Counts, Replay, read_part, replay_file, stored_answer};
+use stored_input::{Counts, ReadFailed, Replay, Stop, read_full, replay_file, stored_answer};
+
+// How many bytes the head of a record has: its length, and the number that the list has for it.
+const HEAD: usize = 5;
 
 // How many bytes a stored record has at most.
 const RECORD_BYTES: usize = 65536;
@@ -25,19 +29,52 @@ fn is_wrong(s: &[u8], number: u32) -> bool
     record::check(s).map_err(Refusal::number) != stored_answer(number, ())
 }
 
+// How long a record is, by its head: the third byte tells of more than 16 bits, which no stored one takes.
+fn length_of(head: [u8; HEAD]) -> usize
+    ensures told { result ≡ told_length head }
+    ensures fits { result ≤ RECORD_BYTES }
+{
+    let [low, high, more, ..] = head;
+    if more == 0 {
+        usize::from(low) + 256 * usize::from(high)
+    } else {
+        RECORD_BYTES
+    }
+}
+
+// What a record comes to.
+fn counted(is_wrong: bool) -> Counts
+    ensures { result ≡ told_wrong is_wrong }
+{
+    Counts {
+        wrong: usize::from(is_wrong),
+        ..Counts::default()
+    }
+}
+
 impl Replay for Records {
+    ghost use Rattle.std.specs.Prelude.{◌≡◌, []};
     ghost use Rattle.record_vectors.specs.Vectors.{RecordCase};
 
     ghost comes_to = { RecordCase };
 
-    fn replay<R: Read>(&mut self, len: u32, list: &mut R) -> Result<Counts, BrokenOff> {
-        let mut number = [0u8];
-        let number = read_part(list, 1, &mut number)?[0];
-        let s = read_part(list, len as usize, &mut self.bytes)?;
-        Ok(Counts {
-            wrong: usize::from(is_wrong(s, u32::from(number))),
-            ..Counts::default()
-        })
+    ghost leaves = { λ rest. rest ≡ [] };
+
+    // A record that the list breaks off in is a wrong one, in its head too, and so is one whose reading fails.
+    fn replay<R: Read>(&mut self, list: &mut R) -> Result<Option<Counts>, Stop> {
+        let mut head = [0u8; HEAD];
+        match read_full(list, &mut head) {
+            Ok(HEAD) => {}
+            Ok(0) => return Ok(None),
+            Err(ReadFailed { after: 0 }) => return Err(Stop::Unread),
+            _ => return Ok(Some(counted(true))),
+        }
+        let s = &mut self.bytes[..length_of(head)];
+        if read_full(list, s) != Ok(s.len()) {
+            return Ok(Some(counted(true)));
+        }
+        let [.., number] = head;
+        Ok(Some(counted(is_wrong(s, u32::from(number)))))
     }
 }
 

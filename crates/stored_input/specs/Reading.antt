@@ -11,6 +11,10 @@ BeginsRead old new buf n = (n ≤ length buf) × Consumes old new (take n buf)
 abbrev pub ReadsAll : Option (List ℕ) → Option (List ℕ) → ℕ → List ℕ → Type 0
 ReadsAll old new room bytes = Consumes old new bytes × (length bytes < room → IsAtEnd new)
 
+-- Fewer bytes than these came, and were read.
+abbrev pub BreaksOff : Option (List ℕ) → Option (List ℕ) → ℕ → Type 0
+BreaksOff old new n = (bytes : List ℕ) × (length bytes < n) × Consumes old new bytes
+
 -- The bytes of numbers: four each, low byte first.
 abbrev pub number_bytes : List ℕ → List ℕ
 number_bytes ns = flat_map (to_le_bytes w32) ns

@@ -9,7 +9,7 @@ ghost use Rattle.std.specs.Io.KnownBytes.{IsAtEnd};
 ghost use Rattle.stored_input.specs.Reading.{BeginsRead, ReadsAll};
 
 pub use numbers::{
-    BrokenOff, Stored, next_number, read_numbers, read_part, stored_answer, take_part,
+    BrokenOff, Stop, Stored, next_number, read_numbers, read_part, stored_answer, take_part,
 };
 pub use replay::{Counts, Replay, Tally, replay_file, replay_list};
 use std::fs::File;
@@ -27,7 +27,8 @@ pub struct ReadFailed {
 pub fn read_full<R: Read>(input: &mut R, buf: &mut [u8]) -> Result<usize, ReadFailed>
     ensures read { IfOk result (λ n. BeginsRead (R.remaining input.old) (R.remaining input.new) buf.new n) }
     ensures end { IfOk result (λ n. n < length buf.new → IsAtEnd (R.remaining input.new)) }
-    ensures failed { IfErr result (λ e. BeginsRead (R.remaining input.old) (R.remaining input.new) buf.new e.after) }
+    ensures failed { IfErr result (λ e. (e.after < length buf.new)
+        × BeginsRead (R.remaining input.old) (R.remaining input.new) buf.new e.after) }
 {
     let mut done = 0;
     while done < buf.len() {

@@ -1,8 +1,8 @@
 //! What a stored list has: bytes, and numbers of 32 bits, low byte first.
-ghost use Rattle.std.specs.Prelude.{◌≡◌, ◌≢◌, ◌++◌, [], ℕ, List, length, Ok, Err, IfOk, OnOk, MatchOption};
+ghost use Rattle.std.specs.Prelude.{◌≡◌, ◌≢◌, ◌*◌, ◌++◌, [], ℕ, List, length, Ok, Err, IfOk, OnOk, OnErr, MatchOption};
 ghost use Rattle.std.specs.Int.{to_le_bytes, w32};
 ghost use Rattle.std.specs.Io.KnownBytes.{Consumes, IsAtEnd};
-ghost use Rattle.stored_input.specs.Reading.{number_bytes};
+ghost use Rattle.stored_input.specs.Reading.{BreaksOff, number_bytes};
 
 use crate::{ReadFailed, read_full};
 use std::io::Read;
@@ -17,13 +17,40 @@ impl From<ReadFailed> for BrokenOff {
     }
 }
 
+/// Why a replay stops in front of a list's end.
+#[derive(Clone, Copy, Debug, PartialEq, Eq)]
+pub enum Stop {
+    /// The list ends within a case, or has one that none can be.
+    BrokenOff,
+
+    /// A read failed where a case would begin.
+    Unread,
+}
+
+impl From<BrokenOff> for Stop {
+    fn from(_broken: BrokenOff) -> Stop {
+        Stop::BrokenOff
+    }
+}
+
+impl From<ReadFailed> for Stop {
+    fn from(failed: ReadFailed) -> Stop {
+        // Behind the first bytes of a case the list breaks off in it.
+        match failed.after {
+            0 => Stop::Unread,
+            _ => Stop::BrokenOff,
+        }
+    }
+}
+
 /// What stands in a list, each in as many bytes.
 pub trait Stored: Sized {
     ghost bytes_of: { List Self → List ℕ };
 
-    // Fills the buffer with the next ones.
+    // Fills the buffer with the next ones. Where the list breaks off in them, what came is read.
     fn fill<R: Read>(list: &mut R, buf: &mut [Self]) -> Result<(), BrokenOff>
-        ensures { OnOk result (Consumes (R.remaining list.old) (R.remaining list.new) (bytes_of buf.new)) };
+        ensures read { OnOk result (Consumes (R.remaining list.old) (R.remaining list.new) (bytes_of buf.new)) }
+        ensures broken { OnErr result (BreaksOff (R.remaining list.old) (R.remaining list.new) (length (bytes_of buf.new))) };
 }
 
 impl Stored for u8 {
@@ -59,7 +86,7 @@ fn number_from_bytes(bytes: [u8; 4]) -> u32
 }
 
 /// The next number, nothing at the list's end.
-pub fn next_number<R: Read>(list: &mut R) -> Result<Option<u32>, BrokenOff>
+pub fn next_number<R: Read>(list: &mut R) -> Result<Option<u32>, Stop>
     ensures { IfOk result (λ r. MatchOption r
         (Consumes (R.remaining list.old) (R.remaining list.new) [] × IsAtEnd (R.remaining list.new))
         (λ n. Consumes (R.remaining list.old) (R.remaining list.new) (to_le_bytes w32 n))) }
@@ -68,7 +95,7 @@ pub fn next_number<R: Read>(list: &mut R) -> Result<Option<u32>, BrokenOff>
     match read_full(list, &mut bytes)? {
         0 => Ok(None),
         4 => Ok(Some(number_from_bytes(bytes))),
-        _ => Err(BrokenOff),
+        _ => Err(Stop::BrokenOff),
     }
 }
 
@@ -85,9 +112,10 @@ pub fn read_part<'a, T: Stored, R: Read>(
     Ok(part)
 }
 
-/// The next N numbers.
+/// The next N numbers. Where the list breaks off in them, what came is read.
 pub fn read_numbers<const N: usize, R: Read>(list: &mut R) -> Result<[u32; N], BrokenOff>
-    ensures { IfOk result (λ ns. Consumes (R.remaining list.old) (R.remaining list.new) (number_bytes ns)) }
+    ensures read { IfOk result (λ ns. Consumes (R.remaining list.old) (R.remaining list.new) (number_bytes ns)) }
+    ensures broken { OnErr result (BreaksOff (R.remaining list.old) (R.remaining list.new) (4 * N)) }
 {
     let mut numbers = [0u32; N];
     u32::fill(list, &mut numbers)?;

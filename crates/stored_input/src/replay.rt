@@ -1,10 +1,9 @@
 //! Replaying a stored list, case by case.
-ghost use Rattle.std.specs.Prelude.{◌≡◌, ◌≤◌, ◌++◌, [], ℕ, List, IfOk, IfSome, MatchOption};
-ghost use Rattle.std.specs.Int.{to_le_bytes, w32};
-ghost use Rattle.std.specs.Io.KnownBytes.{Consumes, IsAtEnd};
-ghost use Rattle.stored_input.specs.Replaying.{plus, ListReplayed};
+ghost use Rattle.std.specs.Prelude.{◌≡◌, ◌≤◌, ℕ, List, IfOk, IfSome, MatchOption};
+ghost use Rattle.std.specs.Io.KnownBytes.{Consumes};
+ghost use Rattle.stored_input.specs.Replaying.{plus, Ends, ListReplayed};
 
-use crate::{BrokenOff, next_number};
+use crate::Stop;
 use std::fs::File;
 use std::io::Read;
 use std::rt::Files;
@@ -33,20 +32,28 @@ const BROKEN_OFF: Counts = Counts {
 pub struct Tally {
     pub cases: u64,
     pub counts: Counts,
+
+    /// Whether a read failed behind these cases, so that there may be more.
+    pub is_unread: bool,
 }
 
 /// Cases of one kind, with what they need to be read and answered.
 pub trait Replay {
     ghost use Rattle.stored_input.specs.declared.replay.Counts.{Counts};
 
-    // What a case comes to, by the number that it begins with and the bytes behind it.
-    ghost comes_to: { ℕ → List ℕ → Counts → Type 0 };
+    // What a case comes to, by its bytes.
+    ghost comes_to: { List ℕ → Counts → Type 0 };
 
-    // Reads the rest of a case that begins with a number, and holds it against what the code answers. Of an error nothing is promised: a read
-    // may fail at any time.
-    fn replay<R: Read>(&mut self, first: u32, list: &mut R) -> Result<Counts, BrokenOff>
-        ensures { IfOk result (λ counts. (bytes : List ℕ)
-            × Consumes (R.remaining list.old) (R.remaining list.new) bytes × comes_to first bytes counts) };
+    // What may be left at the end of a list behind its last case.
+    ghost leaves: { List ℕ → Type 0 };
+
+    // Reads the next case, nothing at the list's end, and holds it against what the code answers. Of an error nothing is promised: a read may fail
+    // at any time.
+    fn replay<R: Read>(&mut self, list: &mut R) -> Result<Option<Counts>, Stop>
+        ensures { IfOk result (λ r. MatchOption r
+            (Ends leaves (R.remaining list.old) (R.remaining list.new))
+            (λ counts. (bytes : List ℕ)
+            × Consumes (R.remaining list.old) (R.remaining list.new) bytes × comes_to bytes counts)) };
 }
 
 impl Counts {
@@ -62,34 +69,26 @@ impl Counts {
     }
 }
 
-// Replays the next case, if there is one.
-fn replay_next<C: Replay, R: Read>(cases: &mut C, list: &mut R) -> Result<Option<Counts>, BrokenOff>
-    ensures { IfOk result (λ r. MatchOption r
-        (Consumes (R.remaining list.old) (R.remaining list.new) [] × IsAtEnd (R.remaining list.new))
-        (λ counts. (first : ℕ) × (bytes : List ℕ)
-        × Consumes (R.remaining list.old) (R.remaining list.new) (to_le_bytes w32 first ++ bytes) × C.comes_to first bytes counts)) }
-{
-    match next_number(list)? {
-        Some(first) => Ok(Some(cases.replay(first, list)?)),
-        None => Ok(None),
-    }
-}
-
-/// Replays the cases of a list, 100,000 at most. A list that breaks off ends there, with one wrong answer more.
+/// Replays the cases of a list, 100,000 at most. A list that breaks off ends there, with one wrong answer more; one that cannot be read on in front of
+/// a case ends there with none.
 pub fn replay_list<C: Replay, R: Read>(list: &mut R, cases: &mut C) -> Tally
     ensures most { result.cases ≤ MOST_CASES }
-    ensures counted { ListReplayed C.comes_to MOST_CASES (R.remaining list.old) (R.remaining list.new) result }
+    ensures counted { ListReplayed C.comes_to C.leaves MOST_CASES (R.remaining list.old) (R.remaining list.new) result }
 {
     let mut all = Tally::default();
     for _ in 0..MOST_CASES {
-        match replay_next(cases, list) {
+        match cases.replay(list) {
             Ok(Some(case)) => {
                 all.cases += 1;
                 all.counts = all.counts.plus(case);
             }
             Ok(None) => break,
-            Err(BrokenOff) => {
+            Err(Stop::BrokenOff) => {
                 all.counts = all.counts.plus(BROKEN_OFF);
+                break;
+            }
+            Err(Stop::Unread) => {
+                all.is_unread = true;
                 break;
             }
         }
@@ -101,7 +100,7 @@ pub fn replay_list<C: Replay, R: Read>(list: &mut R, cases: &mut C) -> Tally
 /// `Files` tells: so the promise is of some file that was opened.
 pub fn replay_file<C: Replay, F: Files>(rt: &F, name: &str, cases: &mut C) -> Option<Tally>
     ensures { IfSome result (λ all. (all.cases ≤ MOST_CASES) × (file : F.File) × (after : F.File)
-        × ListReplayed C.comes_to MOST_CASES (F.File.remaining file) (F.File.remaining after) all) }
+        × ListReplayed C.comes_to C.leaves MOST_CASES (F.File.remaining file) (F.File.remaining after) all) }
 {
     let mut list = File::open(rt, name).ok()?;
     Some(replay_list(&mut list, cases))

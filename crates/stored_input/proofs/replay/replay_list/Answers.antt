@@ -7,5 +7,5 @@ pub loop-preserved : goal.loop-preserved
 loop-preserved g c =
     let told = rw c.in-Ok-Some.field-0-is at c.in-Ok-Some.ensures in
     let all = c.loop.invariant in
-    let more = replayed_more _ _ _ _ _ _ told.0 told.1 _ _ all.3 told.2 told.3 c.plus-all.ensures in
+    let more = replayed_more _ _ _ _ _ _ told.0 _ _ all.3 told.1 told.2 c.plus-all.ensures in
     (omega arith, omega arith, more.0, more.1)
