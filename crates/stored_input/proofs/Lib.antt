@@ -1,3 +1,4 @@
+pub mod BlockLaws
 pub mod NumberLaws
 pub mod ReadLaws
 pub mod ReplayLaws

@@ -1,11 +1,14 @@
 //! What a stored list has: bytes, and numbers of 32 bits, low byte first.
-ghost use Rattle.std.specs.Prelude.{◌≡◌, ◌≢◌, ◌*◌, ◌++◌, [], ℕ, List, length, Ok, Err, IfOk, OnOk, OnErr, MatchOption};
+ghost use Rattle.std.specs.Prelude.{◌≡◌, ◌≢◌, ◌*◌, ◌≤◌, ◌++◌, [], ℕ, List, length, map, Ok, Err, IfOk, OnOk, OnErr, MatchOption};
 ghost use Rattle.std.specs.Int.{to_le_bytes, w32};
 ghost use Rattle.std.specs.Io.KnownBytes.{Consumes, IsAtEnd};
 ghost use Rattle.stored_input.specs.Reading.{BreaksOff, number_bytes};
 
 use crate::{ReadFailed, read_full};
 use std::io::Read;
+
+// How many numbers are read at a time. A read for each takes longer than all that is done with it.
+const BLOCK_NUMBERS: usize = 256;
 
 /// A list that ends within a case, or a case that none can be.
 #[derive(Clone, Copy, Debug, PartialEq, Eq)]
@@ -68,12 +71,36 @@ impl Stored for u32 {
     ghost bytes_of = { number_bytes };
 
     fn fill<R: Read>(list: &mut R, buf: &mut [u32]) -> Result<(), BrokenOff> {
-        for number in buf.iter_mut() {
-            let mut bytes = [0u8; 4];
-            u8::fill(list, &mut bytes)?;
-            *number = number_from_bytes(bytes);
+        let mut at = 0;
+        while at < buf.len() {
+            let n = (buf.len() - at).min(BLOCK_NUMBERS);
+            fill_block(list, &mut buf[at..at + n])?;
+            at += n;
         }
         Ok(())
+    }
+}
+
+// Fills a block with the next numbers, all by one read where the list gives as much.
+fn fill_block<R: Read>(list: &mut R, numbers: &mut [u32]) -> Result<(), BrokenOff>
+    requires { length numbers.old ≤ BLOCK_NUMBERS }
+    ensures read { OnOk result (Consumes (R.remaining list.old) (R.remaining list.new) (number_bytes numbers.new)) }
+    ensures broken { OnErr result (BreaksOff (R.remaining list.old) (R.remaining list.new) (length (number_bytes numbers.new))) }
+{
+    let mut bytes = [0u8; 4 * BLOCK_NUMBERS];
+    let part = &mut bytes[..4 * numbers.len()];
+    u8::fill(list, part)?;
+    put_numbers(part.as_chunks().0, numbers);
+    Ok(())
+}
+
+// Writes the numbers of four bytes each.
+fn put_numbers(chunks: &[[u8; 4]], numbers: &mut [u32])
+    requires { length chunks.now ≡ length numbers.old }
+    ensures { map (to_le_bytes w32) numbers.new ≡ chunks.now }
+{
+    for i in 0..numbers.len() {
+        numbers[i] = number_from_bytes(chunks[i]);
     }
 }
 
