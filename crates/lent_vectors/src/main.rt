@@ -22,7 +22,7 @@ mod vector;
 use std::io;
 use std::io::Read;
 use stored_input::{
-    BrokenOff, Counts, Replay, Stop, read_full, read_numbers, read_part, replay_file,
+    BrokenOff, Counts, Replay, Stop, read_numbers, read_part, replay_file, try_read_full,
 };
 use vector::{HEAD, Vector};
 
@@ -50,7 +50,7 @@ impl Replay for Vectors {
     // A list whose next number breaks off, or cannot be read, has no vector more.
     fn replay<R: Read>(&mut self, list: &mut R) -> Result<Option<Counts>, Stop> {
         let mut count = [0u8; 4];
-        match read_full(list, &mut count) {
+        match try_read_full(list, &mut count) {
             Ok(4) => {}
             Ok(_) => return Ok(None),
             Err(_) => return Err(Stop::Unread),

@@ -2,7 +2,7 @@
 #![tactic(auto)]
 
 use pages::{MOST_BYTES, PRINTED_BYTES, print_page};
-use stored_input::{read_file, read_full};
+use stored_input::{read_file, try_read_full};
 
 // Room for one byte more than a page takes: so what is too long is found to be. Of a fixed size, since nothing is allocated.
 const MOST_READ: usize = MOST_BYTES + 1;
@@ -10,7 +10,7 @@ const MOST_READ: usize = MOST_BYTES + 1;
 // Reads the selection. An input that fails is told of on standard error: its tags up to there are read, and the reader should know that more
 // may be missing.
 fn read_input<'a>(rt: &HostRuntime, buf: &'a mut [u8]) -> &'a [u8] {
-    let read = read_full(&mut rt.stdin(), buf);
+    let read = try_read_full(&mut rt.stdin(), buf);
     if read.is_err() {
         let _ = rt.eprintln("page: the input cannot be read");
     }

@@ -8,7 +8,7 @@ ghost use Rattle.record_vectors.specs.Vectors.{told_length, told_wrong};
 use format::Refusal;
 use std::io;
 use std::io::Read;
-use stored_input::{Counts, ReadFailed, Replay, Stop, read_full, replay_file, stored_answer};
+use stored_input::{Counts, ReadFailed, Replay, Stop, replay_file, stored_answer, try_read_full};
 
 // How many bytes the head of a record has: its length, and the number that the list has for it.
 const HEAD: usize = 5;
@@ -63,14 +63,14 @@ impl Replay for Records {
     // A record that the list breaks off in is a wrong one, in its head too, and so is one whose reading fails.
     fn replay<R: Read>(&mut self, list: &mut R) -> Result<Option<Counts>, Stop> {
         let mut head = [0u8; HEAD];
-        match read_full(list, &mut head) {
+        match try_read_full(list, &mut head) {
             Ok(HEAD) => {}
             Ok(0) => return Ok(None),
             Err(ReadFailed { after: 0 }) => return Err(Stop::Unread),
             _ => return Ok(Some(counted(true))),
         }
         let s = &mut self.bytes[..length_of(head)];
-        if read_full(list, s) != Ok(s.len()) {
+        if try_read_full(list, s) != Ok(s.len()) {
             return Ok(Some(counted(true)));
         }
         let [.., number] = head;

@@ -28,7 +28,7 @@ fn read_record<'a, F: Files>(rt: &F, name: &str, s: &'a mut [u8]) -> &'a [u8] {
     let Ok(mut file) = File::open(rt, name) else {
         return &[];
     };
-    let n = read_full(&mut file, s).unwrap_or_else(|failed| failed.after);
+    let n = read_full(&mut file, s);
     &s[..n]
 }
 

@@ -24,7 +24,7 @@ pub struct ReadFailed {
 
 /// Reads until buf is full, the input ends or a read fails, and returns how many bytes it put at the start of buf. A loop of its own: `read_exact`
 /// does not tell how far it came.
-pub fn read_full<R: Read>(input: &mut R, buf: &mut [u8]) -> Result<usize, ReadFailed>
+pub fn try_read_full<R: Read>(input: &mut R, buf: &mut [u8]) -> Result<usize, ReadFailed>
     ensures read { IfOk result (λ n. BeginsRead (R.remaining input.old) (R.remaining input.new) buf.new n) }
     ensures end { IfOk result (λ n. n < length buf.new → IsAtEnd (R.remaining input.new)) }
     ensures failed { IfErr result (λ e. (e.after < length buf.new)
@@ -44,6 +44,13 @@ pub fn read_full<R: Read>(input: &mut R, buf: &mut [u8]) -> Result<usize, ReadFa
     Ok(done)
 }
 
+/// Reads until buf is full, the input ends or a read fails, which counts as its end; returns how many bytes it put at the start of buf.
+pub fn read_full<R: Read>(input: &mut R, buf: &mut [u8]) -> usize
+    ensures { BeginsRead (R.remaining input.old) (R.remaining input.new) buf.new result }
+{
+    try_read_full(input, buf).unwrap_or_else(|failed| failed.after)
+}
+
 /// Reads a file into a buffer, as far as it has room: nothing of one that cannot be opened or read. Which file a name opens, and what it holds,
 /// no clause of `Files` tells: so the promise is of some file that was opened.
 pub fn read_file<'a, F: Files>(rt: &F, name: &str, buf: &'a mut [u8]) -> Option<&'a [u8]>
@@ -52,6 +59,6 @@ pub fn read_file<'a, F: Files>(rt: &F, name: &str, buf: &'a mut [u8]) -> Option<
         × ReadsAll (F.File.remaining file) (F.File.remaining after) (length buf.old) s.now) }
 {
     let mut file = File::open(rt, name).ok()?;
-    let n = read_full(&mut file, buf).ok()?;
+    let n = try_read_full(&mut file, buf).ok()?;
     Some(&buf[..n])
 }

@@ -4,7 +4,7 @@ ghost use Rattle.std.specs.Int.{to_le_bytes, w32};
 ghost use Rattle.std.specs.Io.KnownBytes.{Consumes, IsAtEnd};
 ghost use Rattle.stored_input.specs.Reading.{BreaksOff, number_bytes};
 
-use crate::{ReadFailed, read_full};
+use crate::{ReadFailed, try_read_full};
 use std::io::Read;
 
 // How many numbers are read at a time. A read for each takes longer than all that is done with it.
@@ -60,7 +60,7 @@ impl Stored for u8 {
     ghost bytes_of = { λ bytes. bytes };
 
     fn fill<R: Read>(list: &mut R, buf: &mut [u8]) -> Result<(), BrokenOff> {
-        if read_full(list, buf)? < buf.len() {
+        if try_read_full(list, buf)? < buf.len() {
             return Err(BrokenOff);
         }
         Ok(())
@@ -119,7 +119,7 @@ pub fn next_number<R: Read>(list: &mut R) -> Result<Option<u32>, Stop>
         (λ n. Consumes (R.remaining list.old) (R.remaining list.new) (to_le_bytes w32 n))) }
 {
     let mut bytes = [0u8; 4];
-    match read_full(list, &mut bytes)? {
+    match try_read_full(list, &mut bytes)? {
         0 => Ok(None),
         4 => Ok(Some(number_from_bytes(bytes))),
         _ => Err(Stop::BrokenOff),

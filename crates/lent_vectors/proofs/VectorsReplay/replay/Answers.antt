@@ -19,4 +19,4 @@ pub returns : goal.returns
 returns g c =
     let head = Consumes-trans _ _ _ _ _ c.in-Ok-eq4.ensures.read.1 c.in_ok-head.ensures.read in
     let numbers = Consumes-trans _ _ _ _ _ head c.in_ok-numbers.ensures.1 in
-    (_, Consumes-trans _ _ _ _ _ numbers c.in_ok-record.ensures.1, has_head c.read_full.new.buf c.in-Ok-eq4.field-0 c.in_ok-head.head _ _ (search rules) (search rules) (search rules))
+    (_, Consumes-trans _ _ _ _ _ numbers c.in_ok-record.ensures.1, has_head c.try_read_full.new.buf c.in-Ok-eq4.field-0 c.in_ok-head.head _ _ (search rules) (search rules) (search rules))

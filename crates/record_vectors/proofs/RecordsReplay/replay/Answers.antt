@@ -53,12 +53,12 @@ module _ (old mid new : Option (List ℕ)) (head : List ℕ) (n : ℕ) (five : l
 pub returns-then-ne : goal.returns-then-ne
 returns-then-ne g c =
     let head = c.in-Ok-eq5.ensures.read in
-    let read = c.read_full-2.ensures in
+    let read = c.try_read_full-2.ensures in
     let part = short _ _ _ _ _ read.read read.failed c.if-ne.ensures in
     broken _ _ _ _ _ (search rules) (search rules) head _ _ _ (search rules) part.1 part.2 c.counted-then-ne.ensures
 
 pub returns : goal.returns
 returns g c =
     let head = c.in-Ok-eq5.ensures.read in
-    let xs = whole _ _ _ _ _ c.read_full-2.ensures.read c.if-ne.ensures in
+    let xs = whole _ _ _ _ _ c.try_read_full-2.ensures.read c.if-ne.ensures in
     counted _ _ _ _ _ (search rules) (search rules) head _ _ (search rules) xs (search rules)
