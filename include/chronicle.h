@@ -5,7 +5,7 @@
  *
  *     cc -Iinclude main.c -Ltarget/staticlib -lpage
  *
- * with gcc or clang, -lpage behind what calls it; c++ likewise. Of others the archive needs memset, memcpy and memmove of the C library alone.
+ * with gcc or clang, -lpage behind what calls it; c++ likewise. Of others the archive needs memset and memcpy of the C library alone.
  * After `make install`, which takes PREFIX and DESTDIR: cc main.c $(pkg-config --cflags --libs chronicle).
  *
  * A slice is a pointer and then a length in elements; with length 0 the pointer is not followed and may be NULL. Any bytes and words may
