@@ -71,6 +71,12 @@ point-put p before after row b r w e a k = go (leb ledger_width (length before))
     go true t q n = rw n (point-fills p before after (leb-true ledger_width (length before) t) (q ∙ ap (λ (l : List ℕ). l ++ drop ledger_width before) w))
     go false t q n = rw (n, q) (point-none p before (leb-false ledger_width (length before) t))
 
+-- No zero stands before it.
+pub year-alone : (tag : CountryTag) (running : ℕ) (p : Point) (r : ℕ) (before after : List ℕ) → p.year ≤ running
+    → FillsSpan (point_of tag p.year p.value ∷ []) r before after → FillsSpan (year_filled tag running p) r before after
+unfolding zeros
+year-alone tag running p r before after h f = let e : p.year - running ≡ 0 = omega arith in rw e f
+
 -- ## Some of all
 
 -- n points are written, those left begin with the next one.

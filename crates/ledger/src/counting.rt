@@ -36,7 +36,7 @@ impl LedgerIndex<'_, '_> {
         n
     }
 
-    // How many points all nations have, at most so many.
+    // How many points all nations have, at most so many: once these are reached, no further nation is looked at.
     pub(crate) fn count_all(&self, chronicle: Chronicle<'_>, most: usize) -> usize
         ensures { result
             ≡ min (length (row_ledgers self.now.opened chronicle.entry.nations.now chronicle.entry.entries.now)) most }
@@ -44,6 +44,9 @@ impl LedgerIndex<'_, '_> {
         let mut n = 0;
         for nation in Nations::new(chronicle.nations) {
             n += self.count(chronicle.entries, nation, most - n);
+            if n == most {
+                return n;
+            }
         }
         n
     }

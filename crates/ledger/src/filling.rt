@@ -32,17 +32,21 @@ fn write_zeros(tag: CountryTag, running: usize, until: u32, out: &mut [u32]) -> 
     n
 }
 
-// Writes a point behind the zeros of the years before it, as many as find room, and gives their number.
+// Writes a point behind the zeros of the years before it, as many as find room, and gives their number. Most points follow the year before: no zero is
+// asked for then.
 fn write_year(tag: CountryTag, running: usize, point: Point, out: &mut [u32]) -> usize
     ensures { FillsSpan (year_filled tag running point) result out.old out.new }
 {
-    let n = write_zeros(tag, running, point.year, out);
-    let point = LedgerPoint {
+    let row = LedgerPoint {
         tag,
         year: point.year,
         value: point.value,
     };
-    n + write_point(point, &mut out[LEDGER_WIDTH * n..])
+    if point.year as usize <= running {
+        return write_point(row, out);
+    }
+    let n = write_zeros(tag, running, point.year, out);
+    n + write_point(row, &mut out[LEDGER_WIDTH * n..])
 }
 
 // Writes the points of a span with those of its ledger row, three words each, as many as find room, and gives their number.
