@@ -2,6 +2,7 @@
 use mathlib.Core.Path.{◌≡◌, refl, sym, ◌∙◌}
 use mathlib.Core.Bool.{Bool, true, false, not, ◌&&◌}
 use mathlib.Core.List.{List, [], ◌∷◌, map}
+use mathlib.Core.Option.{some, none, none-ne-some}
 use Prim.Native.Nat.{ℕ, zero, suc, ◌+◌, ◌-◌, ◌/◌, ◌%◌, ◌<◌, ◌≤◌}
 use native.Mathlib.Numerals.{add-one}
 use native.Mathlib.Omega.{arith}
@@ -9,11 +10,15 @@ use borrow.Author.Tests.{leb-true, leb-false, ne_eqb, not-true, not-false}
 use lib.Dec.{leb, eqb}
 use lib.ListN.{length, get_or, drop, length-map}
 use lib.Seq.{drop-length, drop-cons}
+use Rattle.std.specs.Prelude.{Ok, Err, Result, cond, is_ok}
 use Rattle.std.specs.Simd.{first_chunks}
 use Rattle.lists.specs.Lists.{all_of, is_whole, whole_rows}
+use Rattle.lists.specs.Options.{ok_of}
 use Rattle.lists.proofs.BoolLaws.{cases, and_left, and_right, and-false}
 use Rattle.format.specs.declared.tag.CountryTag.{CountryTag}
-use Rattle.format.specs.Tags.{is_tag}
+use Rattle.format.specs.declared.date.Eu4Date.{Eu4Date}
+use Rattle.format.specs.Dates.{good_date, date_of_word}
+use Rattle.format.specs.Tags.{is_tag, tag_of_word, tested}
 use Rattle.format.specs.declared.values.NationRow.{NationRow}
 use Rattle.rules.specs.NationRows.{nation_row_of, entry_row_of, nation_width, entry_width, nation_rows_in, entry_rows_in, tags_shaped, kind_shaped, entry_shaped, without_gap, well_shaped}
 use Rattle.rows.proofs.RowAtLaws.{chunks-rows}
@@ -24,6 +29,24 @@ pub switch_shaped : (kind target : ℕ) (t : CountryTag) → kind ≡ 0 → t.0 
 unfolding kind_shaped
 switch_shaped zero target t h e = rw (← e)
 switch_shaped (suc k) target t h e = absurd (omega arith)
+
+-- What is made of a value where it passes a test tells of the test.
+ok_if : {A E : Type 0} (r : Result A E) (b : Bool) (x : A) → ok_of r ≡ cond b (some x) none → is_ok r ≡ b
+ok_if (Ok y) true x h = refl
+ok_if (Ok y) false x h = absurd (none-ne-some y (sym h))
+ok_if (Err e) true x h = absurd (none-ne-some x h)
+ok_if (Err e) false x h = refl
+
+-- A switch is shaped if a tag can be made of its target, and a date is good if one can be made of its word.
+pub switch_made : {E : Type 0} (kind target : ℕ) (r : Result CountryTag E) → kind ≡ 0 → ok_of r ≡ tag_of_word target → is_ok r ≡ kind_shaped kind target
+unfolding tested
+switch_made kind target r h e =
+    let t : CountryTag = record { 0 = target } in
+    ok_if r (is_tag t) t e ∙ switch_shaped kind target t h refl
+
+pub date_made : {E : Type 0} (word : ℕ) (r : Result Eu4Date E) → ok_of r ≡ date_of_word word → is_ok r ≡ good_date (record { 0 = word })
+unfolding date_of_word
+date_made word r e = ok_if r (good_date (record { 0 = word })) (record { 0 = word }) e
 
 pub life_shaped : (kind target : ℕ) → (kind ≡ 0 → ⊥) → leb kind 2 && eqb target 0 ≡ kind_shaped kind target
 unfolding kind_shaped

@@ -8,23 +8,24 @@ use crate::nation_rows::{ENTRY_WIDTH, NATION_WIDTH};
 use format::{CountryTag, Eu4Date, NationRow};
 
 // Whether a kind is one of three, with a tag as target for a switch and 0 for the others. It is asked of the row's numbers, for `EntryKind` has no case for
-// a bad one; and words are tested as they are kept, for the tag or date that `try_from` would make is not wanted.
-#[tactic(auto, using(crate::proofs::LentShapeLaws::switch_shaped, crate::proofs::LentShapeLaws::life_shaped))]
+// a bad one.
+#[tactic(auto, using(crate::proofs::LentShapeLaws::switch_made, crate::proofs::LentShapeLaws::life_shaped))]
 fn kind_shaped(kind: u32, target: u32) -> bool
     ensures { result ≡ kind_shaped kind target }
 {
     match kind {
-        0 => CountryTag::from_word_unchecked(target).is_valid(),
+        0 => CountryTag::try_from(target).is_ok(),
         _ => (kind <= 2) & (target == 0),
     }
 }
 
 // Whether an entry's date is good, and its kind and target.
+#[tactic(auto, using(crate::proofs::LentShapeLaws::date_made))]
 fn entry_shaped(row: &[u32; ENTRY_WIDTH]) -> bool
     ensures { result ≡ entry_shaped (entry_row_of row.now) }
 {
     let [date, kind, target] = *row;
-    Eu4Date::from_word_unchecked(date).is_valid() & kind_shaped(kind, target)
+    Eu4Date::try_from(date).is_ok() & kind_shaped(kind, target)
 }
 
 // Whether every entry row is shaped.
