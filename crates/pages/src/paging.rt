@@ -30,7 +30,9 @@ fn recorded_page(
     // No heap: arrays for the most nations, of which the fronts are used. Each country has one at most.
     let mut nations = [0u32; NATION_WIDTH * MOST_COUNTRIES];
     let mut living = [false; MOST_COUNTRIES];
-    let n = list_nations(opened, &mut nations, &mut living).ok_or(Refusal::NoRoom)?;
+    let Some(n) = list_nations(opened, &mut nations, &mut living) else {
+        return Err(Refusal::NoRoom);
+    };
     Ok(write_text(&nations[..n], &living, tags, out))
 }
 
