@@ -1,7 +1,7 @@
 -- What is looked up among the sorted keys of a block is the best of its claims.
 use mathlib.Core.Path.{◌≡◌, refl, sym, ap, subst, ◌∙◌}
 use mathlib.Core.Bool.{Bool, true, false}
-use mathlib.Core.List.{List, [], ◌∷◌, ◌++◌, map, append_assoc}
+use mathlib.Core.List.{List, [], ◌∷◌, ◌++◌, map, append_assoc, append-nil}
 use mathlib.Core.Option
 use mathlib.Core.Option.{Option, none, some}
 use Prim.Native.Nat.{ℕ, ◌+◌, ◌<◌, ◌≤◌}
@@ -116,16 +116,22 @@ record KeyedClaim (owners : List ℕ) (z : Numbered) : Type 0 where
   small : z.number < claim_numbers
   owner : get_or owners z.number 0 ≡ z.claim.nation
 
-keyed-from : (front : List ℕ) (k : ℕ) (cs : List Claim) → length front ≡ k → k + length cs ≤ claim_numbers → All GoodClaim cs
-    → All (KeyedClaim (front ++ map (λ c. c.nation) cs)) (numbered_from k cs)
-keyed-from front k [] h l q = tt
-keyed-from front k (c ∷ cs) h l q =
-    let rest : List ℕ = map (λ x. x.nation) cs in
+-- Claims in their order, with their nation numbers behind some owners and before others.
+keyed-from : (front : List ℕ) (k : ℕ) (cs : List Claim) (back : List ℕ) → length front ≡ k → k + length cs ≤ claim_numbers → All GoodClaim cs
+    → All (KeyedClaim (front ++ (map (λ c. c.nation) cs ++ back))) (numbered_from k cs)
+keyed-from front k [] back h l q = tt
+keyed-from front k (c ∷ cs) back h l q =
+    let rest : List ℕ = map (λ x. x.nation) cs ++ back in
     let e : front ++ (c.nation ∷ rest) ≡ (front ++ (c.nation ∷ [])) ++ rest = sym (append_assoc front (c.nation ∷ []) rest) in (
       record { good = q.0; small = omega arith; owner = get_or_at front c.nation rest 0 k h },
       subst (λ (l : List ℕ). All (KeyedClaim l) (numbered_from (k + 1) cs)) (sym e)
-          (keyed-from (front ++ (c.nation ∷ [])) (k + 1) cs (simp length-append (omega arith)) (omega arith) q.1),
+          (keyed-from (front ++ (c.nation ∷ [])) (k + 1) cs back (simp length-append (omega arith)) (omega arith) q.1),
     )
+
+-- All owners are theirs.
+keyed-all : (cs : List Claim) → length cs ≤ claim_numbers → All GoodClaim cs → All (KeyedClaim (map (λ c. c.nation) cs)) (numbered_from 0 cs)
+keyed-all cs l q =
+    subst (λ (owners : List ℕ). All (KeyedClaim owners) (numbered_from 0 cs)) (append-nil (map (λ c. c.nation) cs)) (keyed-from [] 0 cs [] refl (omega arith) q)
 
 -- Numbers grow along the list.
 numbers-grow : (k : ℕ) (cs : List Claim) → All (λ z. k ≤ z.number) (numbered_from k cs)
@@ -191,4 +197,4 @@ module _ (owners : List ℕ) (tag : CountryTag) (date : Eu4Date) (t : is_tag tag
 -- In a block whose claims are good, by their nation numbers.
 pub block_words : (tag : CountryTag) (date : Eu4Date) → is_tag tag ≡ true → date.0 < claim_dates → (cs : List Claim) → All GoodClaim cs → length cs ≤ claim_numbers
     → claim_words (best_of tag date cs) ≡ key_words (map (λ c. c.nation) cs) (last_asked tag date (sort_by leb (keys_from 0 cs)))
-block_words tag date t d cs q l = looked-words (map (λ c. c.nation) cs) tag date t d cs (keyed-from [] 0 cs refl (omega arith) q)
+block_words tag date t d cs q l = looked-words (map (λ c. c.nation) cs) tag date t d cs (keyed-all cs l q)
