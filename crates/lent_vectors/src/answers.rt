@@ -4,7 +4,6 @@ use crate::single::is_answered_singly;
 use crate::vector::Vector;
 use format::{CountryTag, HistoryCounts, Refusal};
 use rows::{BOOKING_WIDTH, HISTORY_WIDTH, LEDGER_WIDTH, PLAYER_WIDTH, QUESTION_WIDTH};
-use std::iter;
 use stored_input::{Counts, stored_answer};
 
 // How many cells are lent at most.
@@ -15,11 +14,13 @@ const BEFORE: u32 = 7;
 
 // Whether cells begin with the words, and are behind them as they were.
 fn cells_hold<T: Copy + PartialEq + From<u32>>(cells: &[T], words: &[u32]) -> bool {
-    let expected = words.iter().copied().chain(iter::repeat(BEFORE));
-    cells
+    let (front, behind) = cells.split_at(words.len().min(cells.len()));
+    let before = T::from(BEFORE);
+    front
         .iter()
-        .zip(expected)
-        .all(|(cell, word)| *cell == T::from(word))
+        .zip(words)
+        .all(|(cell, word)| *cell == T::from(*word))
+        && behind.iter().all(|cell| *cell == before)
 }
 
 impl<'a> Vector<'a> {
@@ -69,6 +70,30 @@ impl<'a> Vector<'a> {
         self.words.len() <= most && told.map_err(Refusal::number) == stored_answer(self.number, tag)
     }
 
+    // Whether the ledgers of all nations are answered as stored. These two are functions, for cells besides are cleared where a function begins.
+    fn answers_all_ledgers(&self, besides: Besides<'_>) -> bool {
+        let (record, nations, entries) = (self.record, self.nations, self.entries);
+        let rows = self.words.len() / LEDGER_WIDTH;
+        let mut cells = [u64::from(BEFORE); MOST_CELLS];
+        self.can_be_ledger()
+            && self.answers_besides(rows, besides, &mut cells, |out, counts| {
+                chronicle::nation_ledgers(record, nations, entries, out, counts)
+            })
+    }
+
+    // Whether the histories of players are answered as stored.
+    fn answers_histories(&self, besides: Besides<'_>) -> bool {
+        let (record, nations, entries) = (self.record, self.nations, self.entries);
+        let counts = HistoryCounts {
+            histories: self.words.len() / HISTORY_WIDTH,
+            names: besides.words.len(),
+        };
+        let mut cells = [BEFORE; MOST_CELLS];
+        self.answers_besides(counts, besides, &mut cells, |out, names| {
+            chronicle::player_histories(record, nations, entries, out, names)
+        })
+    }
+
     // Whether what the vector asks is answered as stored.
     fn is_answered(&self) -> bool {
         let (record, nations, entries) = (self.record, self.nations, self.entries);
@@ -86,32 +111,12 @@ impl<'a> Vector<'a> {
                         chronicle::nation_ledger(record, nations, entries, counted.nation, out)
                     })
             }
-            Asked::AllLedgers(Some(besides)) => {
-                let mut cells = [u64::from(BEFORE); MOST_CELLS];
-                self.can_be_ledger()
-                    && self.answers_besides(
-                        words / LEDGER_WIDTH,
-                        besides,
-                        &mut cells,
-                        |out, counts| {
-                            chronicle::nation_ledgers(record, nations, entries, out, counts)
-                        },
-                    )
-            }
+            Asked::AllLedgers(Some(besides)) => self.answers_all_ledgers(besides),
             Asked::Players => self.answers(
                 words / PLAYER_WIDTH,
                 |out| chronicle::players(record, out),
             ),
-            Asked::Histories(Some(besides)) => {
-                let counts = HistoryCounts {
-                    histories: words / HISTORY_WIDTH,
-                    names: besides.words.len(),
-                };
-                let mut cells = [BEFORE; MOST_CELLS];
-                self.answers_besides(counts, besides, &mut cells, |out, names| {
-                    chronicle::player_histories(record, nations, entries, out, names)
-                })
-            }
+            Asked::Histories(Some(besides)) => self.answers_histories(besides),
             Asked::StartingCountry(histories) => self.starts(histories),
             Asked::NationLedger(None) | Asked::AllLedgers(None) | Asked::Histories(None) => false,
         }

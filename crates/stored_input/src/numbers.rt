@@ -7,8 +7,11 @@ ghost use Rattle.stored_input.specs.Reading.{BreaksOff, number_bytes};
 use crate::{ReadFailed, try_read_full};
 use std::io::Read;
 
-// How many numbers are read at a time. A read for each takes longer than all that is done with it.
-const BLOCK_NUMBERS: usize = 256;
+// So many numbers are read at a time: a read for each takes longer than all that is done with it.
+const BLOCK_NUMBERS: usize = 4096;
+
+// Where no more are wanted, room for so many is cleared first.
+const FEW_NUMBERS: usize = 512;
 
 /// A list that ends within a case, or a case that none can be.
 #[derive(Clone, Copy, Debug, PartialEq, Eq)]
@@ -81,13 +84,26 @@ impl Stored for u32 {
     }
 }
 
-// Fills a block with the next numbers, all by one read where the list gives as much.
+// Fills a block with the next numbers.
 fn fill_block<R: Read>(list: &mut R, numbers: &mut [u32]) -> Result<(), BrokenOff>
     requires { length numbers.old ≤ BLOCK_NUMBERS }
     ensures read { OnOk result (Consumes (R.remaining list.old) (R.remaining list.new) (number_bytes numbers.new)) }
     ensures broken { OnErr result (BreaksOff (R.remaining list.old) (R.remaining list.new) (length (number_bytes numbers.new))) }
 {
-    let mut bytes = [0u8; 4 * BLOCK_NUMBERS];
+    if numbers.len() <= FEW_NUMBERS {
+        return fill_by::<2048, R>(list, numbers);
+    }
+    fill_by::<16384, R>(list, numbers)
+}
+
+// Fills it all by one read where the list gives as much, by way of so many bytes.
+fn fill_by<const BYTES: usize, R: Read>(list: &mut R, numbers: &mut [u32]) -> Result<(), BrokenOff>
+    requires enough { 4 * length numbers.old ≤ BYTES }
+    requires possible { BYTES ≤ 16384 }
+    ensures read { OnOk result (Consumes (R.remaining list.old) (R.remaining list.new) (number_bytes numbers.new)) }
+    ensures broken { OnErr result (BreaksOff (R.remaining list.old) (R.remaining list.new) (length (number_bytes numbers.new))) }
+{
+    let mut bytes = [0u8; BYTES];
     let part = &mut bytes[..4 * numbers.len()];
     u8::fill(list, part)?;
     put_numbers(part.as_chunks().0, numbers);

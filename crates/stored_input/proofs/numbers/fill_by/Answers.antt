@@ -3,7 +3,7 @@ use Rattle.std.proofs.Common.{◌≡◌, ◌*◌, rules, arith, length, sym, sub
 use Rattle.std.specs.Io.KnownBytes.{Consumes}
 use Rattle.stored_input.proofs.NumberLaws.{length-number_bytes, on_err}
 use Rattle.stored_input.proofs.BlockLaws.{numbers-told}
-use Rattle.stored_input.proofs.numbers.fill_block.Goals as goal
+use Rattle.stored_input.proofs.numbers.fill_by.Goals as goal
 
 pub returns-in_err-fill-clause-broken : goal.returns-in_err-fill-clause-broken
 returns-in_err-fill-clause-broken g c =
