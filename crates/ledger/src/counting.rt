@@ -28,10 +28,10 @@ impl LedgerIndex<'_, '_> {
     {
         let mut n = 0;
         for span in Spans::new(entries, nation, self.opened.start, self.opened.current) {
-            n += self.count_points(span, most - n);
             if n == most {
                 return n;
             }
+            n += self.count_points(span, most - n);
         }
         n
     }
