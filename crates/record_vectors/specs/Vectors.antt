@@ -23,5 +23,6 @@ WholeRecord bytes counts =
 abbrev pub BrokenRecord : List ℕ → Counts → Type 0
 BrokenRecord bytes counts = (0 < length bytes) × (length bytes < 5 + told_length bytes) × (counts ≡ told_wrong true)
 
+-- A case is whole, or the list breaks off in it.
 abbrev pub RecordCase : List ℕ → Counts → Type 0
 RecordCase bytes counts = WholeRecord bytes counts ⊎ BrokenRecord bytes counts
