@@ -11,7 +11,8 @@ use rows::{CHANGE_WIDTH, ENTRY_WIDTH, NATION_WIDTH};
 use std::io;
 use std::io::Read;
 use stored_input::{
-    BrokenOff, Counts, Replay, Stop, next_number, read_numbers, read_part, replay_file, take_part,
+    BrokenOff, Counts, ReplayNext, Stop, next_number, read_numbers, read_part, take_part,
+    tally_file,
 };
 
 // How many bytes a record has at most, and how many days and rows of each kind a campaign.
@@ -96,7 +97,7 @@ fn same_nations(s: &[u8], stored: ExpectedNations<'_>) -> bool {
         && held.starts_with(stored.held)
 }
 
-impl Replay for Campaigns {
+impl ReplayNext for Campaigns {
     ghost use Rattle.std.specs.Prelude.{◌≡◌, ◌≤◌, [], length};
 
     // Of its cases it is promised that they have a head: what they come to is held to the file stdout.
@@ -104,7 +105,7 @@ impl Replay for Campaigns {
 
     ghost leaves = { λ rest. rest ≡ [] };
 
-    fn replay<R: Read>(&mut self, list: &mut R) -> Result<Option<Counts>, Stop> {
+    fn replay_next<R: Read>(&mut self, list: &mut R) -> Result<Option<Counts>, Stop> {
         let Some(len) = next_number(list)? else {
             return Ok(None);
         };
@@ -150,7 +151,7 @@ fn main(rt: HostRuntime) -> io::Result<()> {
         record: [0; RECORD_BYTES],
         numbers: [0; PART_NUMBERS],
     };
-    let all = replay_file(&rt, "answers.bin", &mut campaigns).unwrap_or_default();
+    let all = tally_file(&rt, "answers.bin", &mut campaigns).unwrap_or_default();
     println!(rt;
         "{} campaigns, {} days, {} wrong",
         all.cases, all.counts.questions, all.counts.wrong

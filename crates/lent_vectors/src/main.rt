@@ -22,7 +22,7 @@ mod vector;
 use std::io;
 use std::io::Read;
 use stored_input::{
-    BrokenOff, Counts, Replay, Stop, read_numbers, read_part, replay_file, try_read_full,
+    BrokenOff, Counts, ReplayNext, Stop, read_numbers, read_part, tally_file, try_read_full,
 };
 use vector::{HEAD, Vector};
 
@@ -39,7 +39,7 @@ struct Vectors {
     numbers: [u32; VECTOR_NUMBERS],
 }
 
-impl Replay for Vectors {
+impl ReplayNext for Vectors {
     ghost use Rattle.std.specs.Prelude.{◌<◌, ◌≤◌, length};
 
     // Of its cases it is promised that they have a count and a head: each is of one of seven kinds, and what they come to is held to the file stdout.
@@ -48,7 +48,7 @@ impl Replay for Vectors {
     ghost leaves = { λ rest. length rest < 4 };
 
     // A list whose next number breaks off, or cannot be read, has no vector more.
-    fn replay<R: Read>(&mut self, list: &mut R) -> Result<Option<Counts>, Stop> {
+    fn replay_next<R: Read>(&mut self, list: &mut R) -> Result<Option<Counts>, Stop> {
         let mut count = [0u8; 4];
         match try_read_full(list, &mut count) {
             Ok(4) => {}
@@ -72,7 +72,7 @@ fn main(rt: HostRuntime) -> io::Result<()> {
         record: [0; RECORD_BYTES],
         numbers: [0; VECTOR_NUMBERS],
     };
-    let all = replay_file(&rt, "lent.bin", &mut vectors).unwrap_or_default();
+    let all = tally_file(&rt, "lent.bin", &mut vectors).unwrap_or_default();
     let counts = all.counts;
     print!(rt;
         "{} vectors, {} questions one at a time, ",

@@ -8,7 +8,9 @@ ghost use Rattle.record_vectors.specs.Vectors.{told_length, told_wrong};
 use format::Refusal;
 use std::io;
 use std::io::Read;
-use stored_input::{Counts, ReadFailed, Replay, Stop, replay_file, stored_answer, try_read_full};
+use stored_input::{
+    Counts, ReadFailed, ReplayNext, Stop, stored_answer, tally_file, try_read_full,
+};
 
 // How many bytes the head of a record has: its length, and the number that the list has for it.
 const HEAD: usize = 5;
@@ -52,16 +54,16 @@ fn counted(is_wrong: bool) -> Counts
     }
 }
 
-impl Replay for Records {
+impl ReplayNext for Records {
     ghost use Rattle.std.specs.Prelude.{◌≡◌, []};
-    ghost use Rattle.record_vectors.specs.Vectors.{RecordCase};
+    ghost use Rattle.record_vectors.specs.Vectors.{ReadRecord};
 
-    ghost comes_to = { RecordCase };
+    ghost comes_to = { ReadRecord };
 
     ghost leaves = { λ rest. rest ≡ [] };
 
     // A record that the list breaks off in is a wrong one, in its head too, and so is one whose reading fails.
-    fn replay<R: Read>(&mut self, list: &mut R) -> Result<Option<Counts>, Stop> {
+    fn replay_next<R: Read>(&mut self, list: &mut R) -> Result<Option<Counts>, Stop> {
         let mut head = [0u8; HEAD];
         match try_read_full(list, &mut head) {
             Ok(HEAD) => {}
@@ -83,6 +85,6 @@ fn main(rt: HostRuntime) -> io::Result<()> {
     let mut records = Records {
         bytes: [0; RECORD_BYTES],
     };
-    let all = replay_file(&rt, "vectors.bin", &mut records).unwrap_or_default();
+    let all = tally_file(&rt, "vectors.bin", &mut records).unwrap_or_default();
     println!(rt; "{} records, {} wrong", all.cases, all.counts.wrong)
 }

@@ -1,4 +1,6 @@
 pub mod BlockLaws
+mod NumberedLaws
 pub mod NumberLaws
 pub mod ReadLaws
 pub mod ReplayLaws
+pub mod TallyLaws

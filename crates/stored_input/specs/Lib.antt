@@ -1,2 +1,3 @@
 pub mod Reading
 pub mod Replaying
+pub mod Tallying

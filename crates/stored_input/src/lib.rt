@@ -1,17 +1,22 @@
 //! Reading inputs into buffers, and replaying the lists of cases that stand in stored files.
 #![tactic(auto)]
 
+mod numbered;
 mod numbers;
 mod replay;
+#[cfg(test)]
+mod tests;
 
 ghost use Rattle.std.specs.Prelude.{◌<◌, ◌≤◌, length, IfOk, IfErr, IfSome};
 ghost use Rattle.std.specs.Io.KnownBytes.{IsAtEnd};
 ghost use Rattle.stored_input.specs.Reading.{BeginsRead, ReadsAll};
 
+pub use numbered::{Replay, replay_file, replay_list};
 pub use numbers::{
-    BrokenOff, Stop, Stored, next_number, read_numbers, read_part, stored_answer, take_part,
+    BrokenOff, Stop, Stored, StoredToEnd, next_number, read_numbers, read_part, stored_answer,
+    take_part,
 };
-pub use replay::{Counts, Replay, Tally, replay_file, replay_list};
+pub use replay::{Counts, ReplayNext, Tally, tally_file, tally_list};
 use std::fs::File;
 use std::io::Read;
 use std::rt::Files;

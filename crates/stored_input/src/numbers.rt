@@ -53,16 +53,33 @@ impl From<ReadFailed> for Stop {
 pub trait Stored: Sized {
     ghost bytes_of: { List Self → List ℕ };
 
-    // Fills the buffer with the next ones. Where the list breaks off in them, what came is read.
+    // Fills the buffer with the next ones. Of an error nothing is promised.
     fn fill<R: Read>(list: &mut R, buf: &mut [Self]) -> Result<(), BrokenOff>
+        ensures { OnOk result (Consumes (R.remaining list.old) (R.remaining list.new) (bytes_of buf.new)) };
+}
+
+/// What stands in a list, and is read as far as the list goes.
+pub trait StoredToEnd: Sized {
+    ghost bytes_of: { List Self → List ℕ };
+
+    // Fills the buffer with the next ones. Where the list breaks off in them, what came is read.
+    fn fill_to_end<R: Read>(list: &mut R, buf: &mut [Self]) -> Result<(), BrokenOff>
         ensures read { OnOk result (Consumes (R.remaining list.old) (R.remaining list.new) (bytes_of buf.new)) }
         ensures broken { OnErr result (BreaksOff (R.remaining list.old) (R.remaining list.new) (length (bytes_of buf.new))) };
 }
 
-impl Stored for u8 {
+impl<T: StoredToEnd> Stored for T {
+    ghost bytes_of = { T.bytes_of };
+
+    fn fill<R: Read>(list: &mut R, buf: &mut [T]) -> Result<(), BrokenOff> {
+        T::fill_to_end(list, buf)
+    }
+}
+
+impl StoredToEnd for u8 {
     ghost bytes_of = { λ bytes. bytes };
 
-    fn fill<R: Read>(list: &mut R, buf: &mut [u8]) -> Result<(), BrokenOff> {
+    fn fill_to_end<R: Read>(list: &mut R, buf: &mut [u8]) -> Result<(), BrokenOff> {
         if try_read_full(list, buf)? < buf.len() {
             return Err(BrokenOff);
         }
@@ -70,10 +87,10 @@ impl Stored for u8 {
     }
 }
 
-impl Stored for u32 {
+impl StoredToEnd for u32 {
     ghost bytes_of = { number_bytes };
 
-    fn fill<R: Read>(list: &mut R, buf: &mut [u32]) -> Result<(), BrokenOff> {
+    fn fill_to_end<R: Read>(list: &mut R, buf: &mut [u32]) -> Result<(), BrokenOff> {
         let mut at = 0;
         while at < buf.len() {
             let n = (buf.len() - at).min(BLOCK_NUMBERS);
@@ -105,7 +122,7 @@ fn fill_by<const BYTES: usize, R: Read>(list: &mut R, numbers: &mut [u32]) -> Re
 {
     let mut bytes = [0u8; BYTES];
     let part = &mut bytes[..4 * numbers.len()];
-    u8::fill(list, part)?;
+    u8::fill_to_end(list, part)?;
     put_numbers(part.as_chunks().0, numbers);
     Ok(())
 }
@@ -161,7 +178,7 @@ pub fn read_numbers<const N: usize, R: Read>(list: &mut R) -> Result<[u32; N], B
     ensures broken { OnErr result (BreaksOff (R.remaining list.old) (R.remaining list.new) (4 * N)) }
 {
     let mut numbers = [0u32; N];
-    u32::fill(list, &mut numbers)?;
+    u32::fill_to_end(list, &mut numbers)?;
     Ok(numbers)
 }
 

@@ -1,7 +1,8 @@
 //! Replaying a stored list, case by case.
 ghost use Rattle.std.specs.Prelude.{◌≡◌, ◌≤◌, ℕ, List, IfOk, IfSome, MatchOption};
 ghost use Rattle.std.specs.Io.KnownBytes.{Consumes};
-ghost use Rattle.stored_input.specs.Replaying.{plus, Ends, ListReplayed};
+ghost use Rattle.stored_input.specs.Replaying.{plus};
+ghost use Rattle.stored_input.specs.Tallying.{told_as_broken, Ends, ListTallied};
 
 use crate::Stop;
 use std::fs::File;
@@ -9,7 +10,7 @@ use std::io::Read;
 use std::rt::Files;
 
 // The most cases that are replayed.
-const MOST_CASES: u64 = 100000;
+pub(crate) const MOST_CASES: u64 = 100000;
 
 /// What a case comes to, or several: how many questions it asks one at a time, and how many answers are other ones than stored, wrong, or
 /// noticed where they were falsified in the list.
@@ -33,12 +34,13 @@ pub struct Tally {
     pub cases: u64,
     pub counts: Counts,
 
-    /// Whether a read failed behind these cases, so that there may be more.
+    /// Whether a read failed behind these cases, so that there may be more. Where cases begin with a number it is not told: `replay_list` counts such
+    /// a list as one that breaks off.
     pub is_unread: bool,
 }
 
 /// Cases of one kind, with what they need to be read and answered.
-pub trait Replay {
+pub trait ReplayNext {
     ghost use Rattle.stored_input.specs.declared.replay.Counts.{Counts};
 
     // What a case comes to, by its bytes.
@@ -49,7 +51,7 @@ pub trait Replay {
 
     // Reads the next case, nothing at the list's end, and holds it against what the code answers. Of an error nothing is promised: a read may fail
     // at any time.
-    fn replay<R: Read>(&mut self, list: &mut R) -> Result<Option<Counts>, Stop>
+    fn replay_next<R: Read>(&mut self, list: &mut R) -> Result<Option<Counts>, Stop>
         ensures { IfOk result (λ r. MatchOption r
             (Ends leaves (R.remaining list.old) (R.remaining list.new))
             (λ counts. (bytes : List ℕ)
@@ -69,15 +71,31 @@ impl Counts {
     }
 }
 
+impl Tally {
+    // A list that cannot be read on, told as one that breaks off.
+    pub(crate) fn unread_as_broken(self) -> Tally
+        ensures { result ≡ told_as_broken self }
+    {
+        if self.is_unread {
+            return Tally {
+                counts: self.counts.plus(BROKEN_OFF),
+                is_unread: false,
+                ..self
+            };
+        }
+        self
+    }
+}
+
 /// Replays the cases of a list, 100,000 at most. A list that breaks off ends there, with one wrong answer more; one that cannot be read on in front of
 /// a case ends there with none.
-pub fn replay_list<C: Replay, R: Read>(list: &mut R, cases: &mut C) -> Tally
+pub fn tally_list<C: ReplayNext, R: Read>(list: &mut R, cases: &mut C) -> Tally
     ensures most { result.cases ≤ MOST_CASES }
-    ensures counted { ListReplayed C.comes_to C.leaves MOST_CASES (R.remaining list.old) (R.remaining list.new) result }
+    ensures counted { ListTallied C.comes_to C.leaves MOST_CASES (R.remaining list.old) (R.remaining list.new) result }
 {
     let mut all = Tally::default();
     for _ in 0..MOST_CASES {
-        match cases.replay(list) {
+        match cases.replay_next(list) {
             Ok(Some(case)) => {
                 all.cases += 1;
                 all.counts = all.counts.plus(case);
@@ -98,10 +116,10 @@ pub fn replay_list<C: Replay, R: Read>(list: &mut R, cases: &mut C) -> Tally
 
 /// Replays the cases of a stored file, nothing of one that cannot be opened. Of which file a name opens, and of what it holds, no clause of
 /// `Files` tells: so the promise is of some file that was opened.
-pub fn replay_file<C: Replay, F: Files>(rt: &F, name: &str, cases: &mut C) -> Option<Tally>
+pub fn tally_file<C: ReplayNext, F: Files>(rt: &F, name: &str, cases: &mut C) -> Option<Tally>
     ensures { IfSome result (λ all. (all.cases ≤ MOST_CASES) × (file : F.File) × (after : F.File)
-        × ListReplayed C.comes_to C.leaves MOST_CASES (F.File.remaining file) (F.File.remaining after) all) }
+        × ListTallied C.comes_to C.leaves MOST_CASES (F.File.remaining file) (F.File.remaining after) all) }
 {
     let mut list = File::open(rt, name).ok()?;
-    Some(replay_list(&mut list, cases))
+    Some(tally_list(&mut list, cases))
 }

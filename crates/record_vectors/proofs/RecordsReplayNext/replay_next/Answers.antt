@@ -9,14 +9,25 @@ use Rattle.stored_input.specs.Reading.{BeginsRead}
 use Rattle.stored_input.specs.declared.ReadFailed.{ReadFailed}
 use Rattle.stored_input.specs.declared.replay.Counts.{Counts}
 use Rattle.format.specs.RecordNumber.{refusal}
-use Rattle.record_vectors.specs.Vectors.{told_length, told_wrong, RecordCase}
-use Rattle.record_vectors.proofs.RecordsReplay.replay.Goals as goal
+use Rattle.record_vectors.specs.Vectors.{told_length, told_wrong, ReadRecord}
+use Rattle.record_vectors.proofs.RecordsReplayNext.replay_next.Goals as goal
 
 told-behind : (head rest : List ℕ) → length head ≡ 5 → told_length (head ++ rest) ≡ told_length head
 told-behind (a ∷ b ∷ c ∷ head) rest h = refl
 told-behind (a ∷ b ∷ []) rest h = absurd (omega arith)
 told-behind (a ∷ []) rest h = absurd (omega arith)
 told-behind [] rest h = absurd (omega arith)
+
+-- A head is four bytes that tell a length as it does, and a number.
+in-head : (head xs : List ℕ) → length head ≡ 5
+    → (head ++ xs ≡ take 4 head ++ (get_or head 4 0 ∷ xs)) × (length (take 4 head) ≡ 4) × (told_length head ≡ told_length (take 4 head))
+in-head (a ∷ b ∷ c ∷ d ∷ e ∷ []) xs h = (refl, refl, refl)
+in-head (a ∷ b ∷ c ∷ d ∷ e ∷ f ∷ head) xs h = absurd (omega arith)
+in-head (a ∷ b ∷ c ∷ d ∷ []) xs h = absurd (omega arith)
+in-head (a ∷ b ∷ c ∷ []) xs h = absurd (omega arith)
+in-head (a ∷ b ∷ []) xs h = absurd (omega arith)
+in-head (a ∷ []) xs h = absurd (omega arith)
+in-head [] xs h = absurd (omega arith)
 
 module _ (old new : Option (List ℕ)) (buf : List ℕ) (eq : ReadFailed → ReadFailed → Bool) where
   -- Fewer bytes came than there is room for.
@@ -38,7 +49,7 @@ module _ (old mid new : Option (List ℕ)) (head : List ℕ) (n : ℕ) (five : l
   begun = subst (Consumes old mid) (ap (λ n. take n head) same ∙ take-length head) read.1
 
   broken : (buf : List ℕ) (m : ℕ) (counts : Counts) → length buf ≡ told_length head → m < length buf → Consumes mid new (take m buf)
-      → counts ≡ told_wrong true → (bytes : List ℕ) × Consumes old new bytes × RecordCase bytes counts
+      → counts ≡ told_wrong true → (bytes : List ℕ) × Consumes old new bytes × ReadRecord bytes counts
   broken buf m counts room fewer came e =
       let taken = length-take-le m buf (omega arith) in
       let both = length-append head (take m buf) in
@@ -46,9 +57,10 @@ module _ (old mid new : Option (List ℕ)) (head : List ℕ) (n : ℕ) (five : l
       (head ++ take m buf, Consumes-trans old mid new head (take m buf) begun came, inr (omega arith, omega arith, e))
 
   counted : (xs : List ℕ) (counts : Counts) → length xs ≡ told_length head → Consumes mid new xs
-      → counts ≡ told_wrong (not (eqb (refusal xs) (get_or head 4 0))) → (bytes : List ℕ) × Consumes old new bytes × RecordCase bytes counts
+      → counts ≡ told_wrong (not (eqb (refusal xs) (get_or head 4 0))) → (bytes : List ℕ) × Consumes old new bytes × ReadRecord bytes counts
   counted xs counts room came e =
-      (head ++ xs, Consumes-trans old mid new head xs begun came, inl (head, xs, refl, five, room, e))
+      let parts = in-head head xs five in
+      (head ++ xs, Consumes-trans old mid new head xs begun came, inl (take 4 head, get_or head 4 0 ∷ xs, parts.0, parts.1, (get_or head 4 0, xs, refl, room ∙ parts.2, e)))
 
 pub returns-then-ne : goal.returns-then-ne
 returns-then-ne g c =

@@ -4,7 +4,7 @@ use Rattle.std.specs.Int.{to_le_bytes, w32}
 use Rattle.std.proofs.KnownBytes.{Consumes-trans}
 use Rattle.stored_input.specs.Reading.{number_bytes}
 use Rattle.stored_input.proofs.NumberLaws.{length-number_bytes}
-use Rattle.answer_vectors.proofs.CampaignsReplay.replay.Goals as goal
+use Rattle.answer_vectors.proofs.CampaignsReplayNext.replay_next.Goals as goal
 
 has_head : (first : ℕ) (rest xs ys zs ws : List ℕ) → length rest ≡ 6
     → 28 ≤ length (((((to_le_bytes w32 first ++ number_bytes rest) ++ xs) ++ ys) ++ zs) ++ ws)

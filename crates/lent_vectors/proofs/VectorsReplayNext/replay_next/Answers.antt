@@ -3,7 +3,7 @@ use Rattle.std.proofs.Common.{rules, ◌≡◌, ◌≤◌, List, ◌++◌, ℕ, 
 use Rattle.std.proofs.KnownBytes.{Consumes-trans}
 use Rattle.stored_input.specs.Reading.{number_bytes}
 use Rattle.stored_input.proofs.NumberLaws.{length-number_bytes}
-use Rattle.lent_vectors.proofs.VectorsReplay.replay.Goals as goal
+use Rattle.lent_vectors.proofs.VectorsReplayNext.replay_next.Goals as goal
 
 has_head : (count : List ℕ) (n : ℕ) (head xs ys : List ℕ) → n ≡ 4 → length count ≡ 4 → length head ≡ 10
     → 44 ≤ length (((take n count ++ number_bytes head) ++ xs) ++ ys)

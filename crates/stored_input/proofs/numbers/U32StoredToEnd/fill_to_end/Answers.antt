@@ -4,7 +4,7 @@ use Rattle.std.specs.Io.KnownBytes.{Consumes}
 use Rattle.std.proofs.KnownBytes.{Consumes-trans}
 use Rattle.stored_input.proofs.NumberLaws.{on_err}
 use Rattle.stored_input.proofs.BlockLaws.{block-more, fewer-bytes}
-use Rattle.stored_input.proofs.numbers.U32Stored.fill.Goals as goal
+use Rattle.stored_input.proofs.numbers.U32StoredToEnd.fill_to_end.Goals as goal
 
 pub returns-in_err-fill_block-clause-broken : goal.returns-in_err-fill_block-clause-broken
 returns-in_err-fill_block-clause-broken g c =
