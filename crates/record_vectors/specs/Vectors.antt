@@ -4,7 +4,7 @@ use Rattle.lists.specs.Lists.{one}
 use Rattle.format.specs.RecordNumber.{refusal}
 use Rattle.stored_input.specs.declared.replay.Counts.{Counts}
 
--- How long a record is, by the bytes that its case begins with: the third one tells of more than 16 bits, which no stored record takes.
+-- How long a record is, by the bytes that stand in front of it: the third one tells of more than 16 bits, which no stored record takes.
 abbrev pub told_length : List ℕ → ℕ
 told_length bytes = if eqb (get_or bytes 2 0) 0 then get_or bytes 0 0 + 256 * get_or bytes 1 0 else 65536
 
@@ -12,7 +12,8 @@ told_length bytes = if eqb (get_or bytes 2 0) 0 then get_or bytes 0 0 + 256 * ge
 abbrev pub told_wrong : Bool → Counts
 told_wrong is_wrong = record { questions = 0; wrong = one is_wrong; noticed = 0 }
 
--- A case of a length is the number that the list has for its record, and the record, as long. It is wrong if the record is refused by another number.
+-- Behind a length a case is the number that the list has for the record, and the record, of that length. It is wrong if the record is refused by
+-- another number.
 abbrev pub RecordCase : ℕ → List ℕ → Counts → Type 0
 RecordCase len bytes counts =
     (number : ℕ) × (xs : List ℕ) × (bytes ≡ number ∷ xs) × (length xs ≡ len)

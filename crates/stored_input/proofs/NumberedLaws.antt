@@ -6,8 +6,8 @@ use Rattle.std.specs.Io.KnownBytes.{Consumes, IsAtEnd}
 use Rattle.std.proofs.KnownBytes.{Consumes-nil, Consumes-trans}
 use Rattle.stored_input.specs.declared.replay.Counts.{Counts}
 use Rattle.stored_input.specs.declared.replay.Tally.{Tally}
-use Rattle.stored_input.specs.Replaying.{plus, no_counts, told_broken, ReplayedCase, Replayed, ListReplayed}
-use Rattle.stored_input.specs.Tallying.{TalliedCase, tallied_bytes, sum_of_tallied, Tallied, told_unread, Ends, ListTallied, NumberedCase, told_as_broken}
+use Rattle.stored_input.specs.Replaying.{plus, no_counts, told_broken, told_unread, Ends, ReplayedCase, Replayed, ListReplayed}
+use Rattle.stored_input.specs.Tallying.{TalliedCase, tallied_bytes, sum_of_tallied, Tallied, ListTallied, NumberedCase, told_as_broken}
 use Rattle.stored_input.proofs.ReplayLaws.{replayed_more}
 
 -- What is read of some bytes and of others behind them is read of the first, and then of the others.

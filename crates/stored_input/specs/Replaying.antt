@@ -1,5 +1,5 @@
--- What replaying a stored list counts, whose cases begin with a number each. What a case comes to, each program says of its own cases.
-use Rattle.std.specs.Prelude.{◌≡◌, ℕ, ◌+◌, ◌-◌, ◌^◌, min, List, ◌++◌, ◌⊎◌, Option, IsFalse, false, length, flat_map, All, fold}
+-- What replaying a stored list counts. A case is a number, and bytes behind it; what a case comes to, each program says of its own cases.
+use Rattle.std.specs.Prelude.{◌≡◌, ℕ, ◌+◌, ◌-◌, ◌^◌, min, List, ◌++◌, ◌⊎◌, Option, IsFalse, true, false, length, flat_map, All, fold}
 use Rattle.std.specs.Int.{to_le_bytes, w32}
 use Rattle.std.specs.Io.KnownBytes.{Consumes, IsAtEnd}
 use Rattle.stored_input.specs.declared.replay.Counts.{Counts}
@@ -24,6 +24,14 @@ broken_off = record { questions = 0; wrong = 1; noticed = 0 }
 -- what is told of a list that breaks off behind some cases
 abbrev pub told_broken : Tally → Tally
 told_broken all = record { cases = all.cases; counts = plus all.counts broken_off; is_unread = false }
+
+-- what is told of a list that cannot be read on behind some cases
+abbrev pub told_unread : Tally → Tally
+told_unread all = record { cases = all.cases; counts = all.counts; is_unread = true }
+
+-- A list ends, with no more left than may be.
+abbrev pub Ends : (List ℕ → Type 0) → Option (List ℕ) → Option (List ℕ) → Type 0
+Ends Leaves old new = (rest : List ℕ) × Consumes old new rest × Leaves rest × IsAtEnd new
 
 -- a case of a list: the number that it begins with, the bytes behind it, and what it came to
 pub record ReplayedCase : Type 0 where

@@ -1,10 +1,10 @@
--- What replaying a stored list counts, whatever its cases begin with: a case is some bytes. What a case comes to, each program says of its own cases.
-use Rattle.std.specs.Prelude.{◌≡◌, ℕ, List, ◌++◌, ◌⊎◌, Option, IsFalse, true, length, flat_map, All, fold, if◌then◌else◌}
+-- What replaying a stored list counts, whatever its cases begin with. A case is some bytes; what a case comes to, each program says of its own cases.
+use Rattle.std.specs.Prelude.{◌≡◌, ℕ, List, ◌++◌, ◌⊎◌, Option, IsFalse, length, flat_map, All, fold, if◌then◌else◌}
 use Rattle.std.specs.Int.{to_le_bytes, w32}
-use Rattle.std.specs.Io.KnownBytes.{Consumes, IsAtEnd}
+use Rattle.std.specs.Io.KnownBytes.{Consumes}
 use Rattle.stored_input.specs.declared.replay.Counts.{Counts}
 use Rattle.stored_input.specs.declared.replay.Tally.{Tally}
-use Rattle.stored_input.specs.Replaying.{plus, no_counts, told_broken}
+use Rattle.stored_input.specs.Replaying.{plus, no_counts, told_broken, told_unread, Ends}
 
 -- a case of a list: its bytes, and what it came to
 pub record TalliedCase : Type 0 where
@@ -27,14 +27,6 @@ pub record Tallied (ComesTo : List ℕ → Counts → Type 0) (old new : Option 
   pub counts : all.counts ≡ sum_of_tallied cases
   pub readable : IsFalse all.is_unread
 
--- what is told of a list that cannot be read on behind some cases
-abbrev pub told_unread : Tally → Tally
-told_unread all = record { cases = all.cases; counts = all.counts; is_unread = true }
-
--- A list ends, with no more left than may be.
-abbrev pub Ends : (List ℕ → Type 0) → Option (List ℕ) → Option (List ℕ) → Type 0
-Ends Leaves old new = (rest : List ℕ) × Consumes old new rest × Leaves rest × IsAtEnd new
-
 -- A list was replayed to its end, or up to the most cases; or to where it breaks off; or to where it cannot be read on in front of a case.
 abbrev pub ListTallied : (List ℕ → Counts → Type 0) → (List ℕ → Type 0) → ℕ → Option (List ℕ) → Option (List ℕ) → Tally → Type 0
 ListTallied ComesTo Leaves most old new all =
@@ -46,6 +38,6 @@ abbrev pub NumberedCase : (ℕ → List ℕ → Counts → Type 0) → List ℕ 
 NumberedCase ComesTo bytes counts =
     (first : ℕ) × (behind : List ℕ) × (bytes ≡ to_le_bytes w32 first ++ behind) × ComesTo first behind counts
 
--- a list that cannot be read on, told as one that breaks off
+-- the tally of a list, where one that cannot be read on is told as one that breaks off
 abbrev pub told_as_broken : Tally → Tally
 told_as_broken all = if all.is_unread then told_broken all else all

@@ -1,4 +1,4 @@
-//! Replaying a stored list whose cases begin with a number each.
+//! Replaying a stored list, each case of which begins with a number.
 ghost use Rattle.std.specs.Prelude.{◌≡◌, ◌≤◌, ℕ, List, IfOk, IfSome};
 ghost use Rattle.std.specs.Io.KnownBytes.{Consumes};
 ghost use Rattle.stored_input.specs.Replaying.{ListReplayed};
@@ -9,7 +9,7 @@ use crate::{BrokenOff, Stop, next_number};
 use std::io::Read;
 use std::rt::Files;
 
-/// Cases of one kind that begin with a number, with what they need to be read and answered.
+/// Cases of one kind, each of which begins with a number, with what they need to be read and answered.
 pub trait Replay {
     ghost use Rattle.stored_input.specs.declared.replay.Counts.{Counts};
 
@@ -45,8 +45,8 @@ impl<C: Replay> ReplayNext for Numbered<'_, C> {
     }
 }
 
-/// Replays the cases of a list that begin with a number each, 100,000 at most. A list that breaks off ends there, with one wrong answer more, and so does
-/// one that cannot be read on.
+/// Replays the cases of a list, each of which begins with a number, 100,000 at most. A list that breaks off, or cannot be read on, ends there, with one
+/// wrong answer more.
 pub fn replay_list<C: Replay, R: Read>(list: &mut R, cases: &mut C) -> Tally
     ensures most { result.cases ≤ MOST_CASES }
     ensures counted { ListReplayed C.comes_to MOST_CASES (R.remaining list.old) (R.remaining list.new) result }

@@ -58,7 +58,7 @@ pub trait Stored: Sized {
         ensures { OnOk result (Consumes (R.remaining list.old) (R.remaining list.new) (bytes_of buf.new)) };
 }
 
-/// What stands in a list, and is read as far as the list goes.
+/// What stands in a list, each in as many bytes, and is read up to where the list breaks off.
 pub trait StoredToEnd: Sized {
     ghost bytes_of: { List Self → List ℕ };
 

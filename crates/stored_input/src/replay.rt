@@ -1,8 +1,8 @@
 //! Replaying a stored list, case by case.
 ghost use Rattle.std.specs.Prelude.{◌≡◌, ◌≤◌, ℕ, List, IfOk, IfSome, MatchOption};
 ghost use Rattle.std.specs.Io.KnownBytes.{Consumes};
-ghost use Rattle.stored_input.specs.Replaying.{plus};
-ghost use Rattle.stored_input.specs.Tallying.{told_as_broken, Ends, ListTallied};
+ghost use Rattle.stored_input.specs.Replaying.{plus, Ends};
+ghost use Rattle.stored_input.specs.Tallying.{told_as_broken, ListTallied};
 
 use crate::Stop;
 use std::fs::File;
@@ -34,8 +34,8 @@ pub struct Tally {
     pub cases: u64,
     pub counts: Counts,
 
-    /// Whether a read failed behind these cases, so that there may be more. Where cases begin with a number it is not told: `replay_list` counts such
-    /// a list as one that breaks off.
+    /// Whether a read failed behind these cases, so that there may be more. `replay_list` and `replay_file` never say so: they count such a list as
+    /// one that breaks off.
     pub is_unread: bool,
 }
 
@@ -72,7 +72,7 @@ impl Counts {
 }
 
 impl Tally {
-    // A list that cannot be read on, told as one that breaks off.
+    // The tally of a list, where one that cannot be read on is told as one that breaks off.
     pub(crate) fn unread_as_broken(self) -> Tally
         ensures { result ≡ told_as_broken self }
     {

@@ -1,4 +1,4 @@
-//! What no program calls: lists whose cases begin with a number, and elements that say nothing of a list that breaks off in them.
+//! `replay_list`, `replay_file`, and elements of a caller's own, none of which a program has.
 ghost use Rattle.std.specs.Prelude.{List, ℕ, ⊤};
 
 use crate::{
@@ -69,7 +69,8 @@ const LIST: [u8; 24] = [
 
 #[test]
 fn numbered_cases_are_counted_to_where_the_list_breaks_off(rt: HostRuntime) {
-    // How many bytes the list has; the cases and wrong answers where it ends behind them; the wrong ones and whether it is unread where reads fail there.
+    // How many bytes the list has; where it ends behind them, the cases and the wrong answers; where every read behind them fails, the wrong answers
+    // and whether it is unread.
     for (n, cases, wrong, failing, is_unread) in [
         (0, 0, 0, 0, true),
         (8, 1, 0, 0, true),

@@ -67,7 +67,7 @@ returns-then-ne g c =
     let head = c.in-Ok-eq5.ensures.read in
     let read = c.try_read_full-2.ensures in
     let part = short _ _ _ _ _ read.read read.failed c.if-ne.ensures in
-    broken _ _ _ _ _ (search rules) (search rules) head _ _ _ (search rules) part.1 part.2 c.counted-then-ne.ensures
+    broken _ _ _ _ _ (search rules) (search rules) head _ _ _ (search rules) part.1 part.2 (search rules)
 
 pub returns : goal.returns
 returns g c =
