@@ -4,7 +4,7 @@ use Rattle.lists.specs.Lists.{one}
 use Rattle.format.specs.RecordNumber.{refusal}
 use Rattle.stored_input.specs.declared.replay.Counts.{Counts}
 
--- How long a record is, by the bytes that stand in front of it: the third one tells of more than 16 bits, which no stored record takes.
+-- How long a record is, by the first bytes of what the list has for it: the third one tells of more than 16 bits, which no stored record takes.
 abbrev pub told_length : List ℕ → ℕ
 told_length bytes = if eqb (get_or bytes 2 0) 0 then get_or bytes 0 0 + 256 * get_or bytes 1 0 else 65536
 

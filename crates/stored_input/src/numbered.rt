@@ -25,11 +25,11 @@ pub trait Replay {
 
 // Cases that begin with a number, as cases that are told by all their bytes.
 #[derive(Drop)]
-struct Numbered<'a, C> {
+struct NumberedCases<'a, C> {
     cases: &'a mut C,
 }
 
-impl<C: Replay> ReplayNext for Numbered<'_, C> {
+impl<C: Replay> ReplayNext for NumberedCases<'_, C> {
     ghost use Rattle.std.specs.Prelude.{◌≡◌, []};
     ghost use Rattle.stored_input.specs.Tallying.{NumberedCase};
 
@@ -51,16 +51,16 @@ pub fn replay_list<C: Replay, R: Read>(list: &mut R, cases: &mut C) -> Tally
     ensures most { result.cases ≤ MOST_CASES }
     ensures counted { ListReplayed C.comes_to MOST_CASES (R.remaining list.old) (R.remaining list.new) result }
 {
-    let all = tally_list(list, &mut Numbered { cases });
+    let all = tally_list(list, &mut NumberedCases { cases });
     all.unread_as_broken()
 }
 
-/// Replays the cases of a stored file as `replay_list` those of a list, nothing of one that cannot be opened. Of which file a name opens, and of what it
+/// Replays the cases of a stored file as `replay_list` does those of a list, nothing of one that cannot be opened. Of which file a name opens, and of what it
 /// holds, no clause of `Files` tells: so the promise is of some file that was opened.
 pub fn replay_file<C: Replay, F: Files>(rt: &F, name: &str, cases: &mut C) -> Option<Tally>
     ensures { IfSome result (λ all. (all.cases ≤ MOST_CASES) × (file : F.File) × (after : F.File)
         × ListReplayed C.comes_to MOST_CASES (F.File.remaining file) (F.File.remaining after) all) }
 {
-    let all = tally_file(rt, name, &mut Numbered { cases })?;
+    let all = tally_file(rt, name, &mut NumberedCases { cases })?;
     Some(all.unread_as_broken())
 }

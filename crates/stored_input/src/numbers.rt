@@ -68,6 +68,7 @@ pub trait StoredToEnd: Sized {
         ensures broken { OnErr result (BreaksOff (R.remaining list.old) (R.remaining list.new) (length (bytes_of buf.new))) };
 }
 
+// What is read up to where a list breaks off is read as any element is.
 impl<T: StoredToEnd> Stored for T {
     ghost bytes_of = { T.bytes_of };
 

@@ -1,4 +1,4 @@
-//! `replay_list`, `replay_file`, and elements of a caller's own, none of which a program has.
+//! `replay_list`, `replay_file` and elements of a caller's own, which no program here uses.
 ghost use Rattle.std.specs.Prelude.{List, ℕ, ⊤};
 
 use crate::{
@@ -71,7 +71,7 @@ const LIST: [u8; 24] = [
 fn numbered_cases_are_counted_to_where_the_list_breaks_off(rt: HostRuntime) {
     // How many bytes the list has; where it ends behind them, the cases and the wrong answers; where every read behind them fails, the wrong answers
     // and whether it is unread.
-    for (n, cases, wrong, failing, is_unread) in [
+    for (n, cases, wrong, wrong_tallied, is_unread) in [
         (0, 0, 0, 0, true),
         (8, 1, 0, 0, true),
         (11, 1, 1, 1, false),
@@ -91,12 +91,12 @@ fn numbered_cases_are_counted_to_where_the_list_breaks_off(rt: HostRuntime) {
         let all = tally_list(&mut list, &mut Doubles);
         assert_eq!(rt;
             (all.cases, all.counts.wrong, all.is_unread),
-            (cases, failing, is_unread),
+            (cases, wrong_tallied, is_unread),
             "{n} bytes, tallied"
         );
         let mut list = Failing { bytes };
         let all = replay_list(&mut list, &mut Doubles);
-        let broken = failing + usize::from(is_unread);
+        let broken = wrong_tallied + usize::from(is_unread);
         assert_eq!(rt;
             (all.cases, all.counts.wrong, all.is_unread),
             (cases, broken, false),
@@ -145,7 +145,7 @@ impl Stored for Pair {
 }
 
 #[test]
-fn elements_of_a_caller_s_own_are_read(rt: HostRuntime) {
+fn elements_that_a_caller_defines_are_read(rt: HostRuntime) {
     let mut pairs = [Pair {
         first: 0,
         second: 0,

@@ -1,7 +1,7 @@
 -- The bytes of a number, and those of the case behind it.
 use Rattle.std.proofs.Common.{refl}
 use Rattle.std.proofs.KnownBytes.{Consumes-trans}
-use Rattle.stored_input.proofs.numbered.NumberedReplayNext.replay_next.Goals as goal
+use Rattle.stored_input.proofs.numbered.NumberedCasesReplayNext.replay_next.Goals as goal
 
 pub returns-in_ok-replay-in-Some : goal.returns-in_ok-replay-in-Some
 returns-in_ok-replay-in-Some g c =
