@@ -1,4 +1,5 @@
 pub mod BlockLaws
+mod CaseLaws
 mod NumberedLaws
 pub mod NumberLaws
 pub mod ReadLaws
